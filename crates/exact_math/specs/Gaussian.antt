@@ -1,0 +1,24 @@
+-- Complex numbers with whole parts.
+use Rattle.std.specs.Prelude.{ℤ, neg_ℤ, ◌+ℤ◌, ◌-ℤ◌, ◌*ℤ◌}
+
+-- re + i im
+pub record Gaussian : Type 0 where
+  pub re : ℤ
+  pub im : ℤ
+
+abbrev pub gaussian : ℤ → ℤ → Gaussian
+gaussian x y = record { re = x; im = y }
+
+abbrev pub mul_gaussian : Gaussian → Gaussian → Gaussian
+mul_gaussian g h = record { re = g.re *ℤ h.re -ℤ g.im *ℤ h.im; im = g.re *ℤ h.im +ℤ g.im *ℤ h.re }
+
+-- g - h
+abbrev pub sub_gaussian : Gaussian → Gaussian → Gaussian
+sub_gaussian g h = record { re = g.re -ℤ h.re; im = g.im -ℤ h.im }
+
+abbrev pub conj : Gaussian → Gaussian
+conj g = record { re = g.re; im = neg_ℤ g.im }
+
+-- re^2 + im^2
+abbrev pub norm_gaussian : Gaussian → ℤ
+norm_gaussian g = g.re *ℤ g.re +ℤ g.im *ℤ g.im

@@ -1,0 +1,7 @@
+-- What contracts rest on: fractions, containment, rounding, sizes, Gaussian integers.
+pub mod Contains
+pub mod Gaussian
+pub mod Ratio
+pub mod Rounding
+pub mod Terms
+pub mod Within

@@ -1,0 +1,75 @@
+-- Fractions of whole numbers, as a reader compares them: by cross multiplication.
+use Rattle.std.specs.Prelude.{ℤ, pos, neg_ℤ, ◌+ℤ◌, ◌-ℤ◌, ◌*ℤ◌}
+
+-- numerator/denominator; the denominator is meant to be above 0
+pub record Ratio : Type 0 where
+  pub numerator : ℤ
+  pub denominator : ℤ
+
+-- n/1
+abbrev pub whole_ratio : ℤ → Ratio
+whole_ratio n = record { numerator = n; denominator = pos 1 }
+
+-- x + y
+abbrev pub add_ratio : Ratio → Ratio → Ratio
+add_ratio x y = record {
+  numerator = x.numerator *ℤ y.denominator +ℤ y.numerator *ℤ x.denominator;
+  denominator = x.denominator *ℤ y.denominator;
+}
+
+-- -x
+abbrev pub neg_ratio : Ratio → Ratio
+neg_ratio x = record { numerator = neg_ℤ x.numerator; denominator = x.denominator }
+
+-- x - y
+abbrev pub sub_ratio : Ratio → Ratio → Ratio
+sub_ratio x y = add_ratio x (neg_ratio y)
+
+-- x y
+abbrev pub mul_ratio : Ratio → Ratio → Ratio
+mul_ratio x y = record { numerator = x.numerator *ℤ y.numerator; denominator = x.denominator *ℤ y.denominator }
+
+-- x/n, for n above 0
+abbrev pub over_ratio : Ratio → ℤ → Ratio
+over_ratio x n = record { numerator = x.numerator; denominator = x.denominator *ℤ n }
+
+-- (re + i im)/denominator; the denominator is meant to be above 0
+pub record ComplexRatio : Type 0 where
+  pub re : ℤ
+  pub im : ℤ
+  pub denominator : ℤ
+
+-- 0
+abbrev pub zero_complex : ComplexRatio
+zero_complex = record { re = pos 0; im = pos 0; denominator = pos 1 }
+
+-- (R, I, D) + (r, i, d) = (R d + r D, I d + i D, D d)
+abbrev pub add_complex : ComplexRatio → ComplexRatio → ComplexRatio
+add_complex x y = record {
+  re = x.re *ℤ y.denominator +ℤ y.re *ℤ x.denominator;
+  im = x.im *ℤ y.denominator +ℤ y.im *ℤ x.denominator;
+  denominator = x.denominator *ℤ y.denominator;
+}
+
+-- -x
+abbrev pub neg_complex : ComplexRatio → ComplexRatio
+neg_complex x = record { re = neg_ℤ x.re; im = neg_ℤ x.im; denominator = x.denominator }
+
+-- x y
+abbrev pub mul_complex : ComplexRatio → ComplexRatio → ComplexRatio
+mul_complex x y = record {
+  re = x.re *ℤ y.re -ℤ x.im *ℤ y.im;
+  im = x.re *ℤ y.im +ℤ x.im *ℤ y.re;
+  denominator = x.denominator *ℤ y.denominator;
+}
+
+-- x/n, for n above 0
+abbrev pub over_complex : ComplexRatio → ℤ → ComplexRatio
+over_complex x n = record { re = x.re; im = x.im; denominator = x.denominator *ℤ n }
+
+-- the two parts
+abbrev pub re_part : ComplexRatio → Ratio
+re_part x = record { numerator = x.re; denominator = x.denominator }
+
+abbrev pub im_part : ComplexRatio → Ratio
+im_part x = record { numerator = x.im; denominator = x.denominator }
