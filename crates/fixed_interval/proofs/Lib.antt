@@ -1,0 +1,3 @@
+pub mod Containment
+pub mod Division
+pub mod Order
