@@ -3,5 +3,7 @@ pub mod Contains
 pub mod Gaussian
 pub mod Ratio
 pub mod Rounding
+pub mod Sizes
+pub mod Sums
 pub mod Terms
 pub mod Within
