@@ -1,5 +1,6 @@
 -- What contracts rest on: fractions, containment, rounding, sizes, Gaussian integers.
 pub mod Contains
+pub mod Ends
 pub mod Gaussian
 pub mod Ratio
 pub mod Rounding
