@@ -1,7 +1,10 @@
 -- What contracts rest on: fractions, containment, rounding, sizes, Gaussian integers.
 pub mod Contains
+pub mod Ends
 pub mod Gaussian
 pub mod Ratio
 pub mod Rounding
+pub mod Sizes
+pub mod Sums
 pub mod Terms
 pub mod Within

@@ -1,0 +1,1 @@
+-- What the contracts cite: the spelling of whole numbers.

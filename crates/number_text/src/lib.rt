@@ -1,0 +1,2 @@
+//! Whole numbers as text: one spelling for each number.
+#![tactic(auto)]
