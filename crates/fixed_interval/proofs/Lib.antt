@@ -1,3 +1,2 @@
-pub mod Containment
 pub mod Division
 pub mod Order

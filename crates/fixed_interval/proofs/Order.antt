@@ -1,11 +1,15 @@
 -- How products of whole numbers are ordered.
-use Rattle.std.proofs.Common.{◌≡◌, ℕ, zero, suc, ◌+◌, ◌-◌, ◌*◌, ◌≤◌, ◌<◌, ◌^◌, ◌⊎◌, inl, inr, arith, ℤ, pos, negsuc, neg_ℤ, ◌*ℤ◌, ◌≤ℤ◌, ◌<ℤ◌, ◌+ℤ◌}
+use Rattle.std.proofs.Common.{◌≡◌, ◌∙◌, refl, ℕ, zero, suc, ◌+◌, ◌-◌, ◌*◌, ◌≤◌, ◌<◌, ◌^◌, ◌⊎◌, inl, inr, arith, ℤ, pos, negsuc, neg_ℤ, ◌*ℤ◌, ◌≤ℤ◌, ◌<ℤ◌, ◌+ℤ◌}
 use Rattle.std.proofs.Math.Nat.{mul-le-mul_left}
 use Rattle.std.proofs.lemmas.Int.{ints, clamps}
-use Rattle.std.proofs.Common.{SFits}
+use Rattle.std.proofs.Common.{SFits, to_z, of_z, to_z-of_z}
 use Rattle.std.specs.Int.{w128, int_min, int_max}
+use Rattle.exact_math.specs.Contains.{Contains}
+use Rattle.exact_math.specs.Ratio.{Ratio}
 use Rattle.exact_math.specs.Within.{Within}
-use Rattle.fixed_interval.specs.Products.{least_product, greatest_product}
+use Rattle.exact_math.proofs.Bridges.{contains-wider}
+use Rattle.fixed_interval.specs.declared.Interval.{Interval}
+use Rattle.exact_math.proofs.Enclosures.{least_product, greatest_product}
 use Rattle.std.proofs.Math.IntN.{*ℤ_comm}
 use borrow.Author.Differences.{up, down}
 
@@ -43,6 +47,10 @@ pub record FourWithin (m : ℕ) (p q r s : ℤ) : Type 0 where
   pub second : Within m q
   pub third : Within m r
   pub fourth : Within m s
+
+-- a product of numbers that were passed or computed, without the casts
+pub within_product : (m : ℕ) (x y : ℤ) → SFits w128 x → SFits w128 y → Within m (x *ℤ y) → Within m (to_z w128 (of_z w128 x) *ℤ to_z w128 (of_z w128 y))
+within_product m x y f g w = rw (to_z-of_z f, to_z-of_z g) w
 
 pub four_within : (m : ℕ) (p q r s : ℤ) → Within m (int_min (int_min p q) (int_min r s)) → Within m (int_max (int_max p q) (int_max r s)) → FourWithin m p q r s
 four_within m p q r s v w =
@@ -84,24 +92,68 @@ mul_left_down (pos zero) lo hi h p = omega (arith, ints)
 mul_left_down (pos (suc n)) lo hi h p = absurd (omega (arith, ints))
 
 -- where a <= b and c <= d, two of the four products are the least and the greatest, by the sign of a factor
-pub record Ends (a b c d low high : ℤ) : Type 0 where
+pub record Pair (a b c d low high : ℤ) : Type 0 where
   pub least : least_product a b c d ≡ low
   pub greatest : greatest_product a b c d ≡ high
 
-pub ends_up : (a b c d : ℤ) → pos 0 ≤ℤ a → a ≤ℤ b → c ≤ℤ d → Ends a b c d (int_min (a *ℤ c) (b *ℤ c)) (int_max (a *ℤ d) (b *ℤ d))
+pub ends_up : (a b c d : ℤ) → pos 0 ≤ℤ a → a ≤ℤ b → c ≤ℤ d → Pair a b c d (int_min (a *ℤ c) (b *ℤ c)) (int_max (a *ℤ d) (b *ℤ d))
 ends_up a b c d p q r =
     let h = mul_left_up a c d r p in
     let k = mul_left_up b c d r (omega (arith, ints)) in
     record { least = omega (arith, ints, clamps, h, k); greatest = omega (arith, ints, clamps, h, k) }
 
-pub ends_down : (a b c d : ℤ) → b ≤ℤ pos 0 → a ≤ℤ b → c ≤ℤ d → Ends a b c d (int_min (a *ℤ d) (b *ℤ d)) (int_max (a *ℤ c) (b *ℤ c))
+pub ends_down : (a b c d : ℤ) → b ≤ℤ pos 0 → a ≤ℤ b → c ≤ℤ d → Pair a b c d (int_min (a *ℤ d) (b *ℤ d)) (int_max (a *ℤ c) (b *ℤ c))
 ends_down a b c d p q r =
     let h = mul_left_down a c d r (omega (arith, ints)) in
     let k = mul_left_down b c d r p in
     record { least = omega (arith, ints, clamps, h, k); greatest = omega (arith, ints, clamps, h, k) }
 
-pub ends_across : (a b c d : ℤ) → a ≤ℤ pos 0 → pos 0 ≤ℤ b → c ≤ℤ d → Ends a b c d (int_min (a *ℤ d) (b *ℤ c)) (int_max (a *ℤ c) (b *ℤ d))
+pub ends_across : (a b c d : ℤ) → a ≤ℤ pos 0 → pos 0 ≤ℤ b → c ≤ℤ d → Pair a b c d (int_min (a *ℤ d) (b *ℤ c)) (int_max (a *ℤ c) (b *ℤ d))
 ends_across a b c d p q r =
     let h = mul_left_down a c d r p in
     let k = mul_left_up b c d r q in
     record { least = omega (arith, ints, clamps, h, k); greatest = omega (arith, ints, clamps, h, k) }
+
+-- the four products of an end of one interval with an end of another
+pub corners : (s o : Interval) → Within (2 ^ 126) (least_product s.lo s.hi o.lo o.hi) → Within (2 ^ 126) (greatest_product s.lo s.hi o.lo o.hi)
+    → FourWithin (2 ^ 126) (s.lo *ℤ o.lo) (s.lo *ℤ o.hi) (s.hi *ℤ o.lo) (s.hi *ℤ o.hi)
+corners s o v w = four_within _ _ _ _ _ v w
+
+pub low_fits : (i : Interval) → SFits w128 i.lo
+low_fits i = fits_wide i.lo i.low_end
+
+pub high_fits : (i : Interval) → SFits w128 i.hi
+high_fits i = fits_wide i.hi i.high_end
+
+pub min_le_max : (x y : ℤ) → int_min x y ≤ℤ int_max x y
+min_le_max x y = omega (arith, ints, clamps)
+
+-- the same products with the factors the other way round
+pub left_min : (x y k : ℤ) → int_min (k *ℤ x) (k *ℤ y) ≡ int_min (x *ℤ k) (y *ℤ k)
+left_min x y k = rw (*ℤ_comm k x, *ℤ_comm k y) refl
+
+pub left_max : (x y k : ℤ) → int_max (k *ℤ x) (k *ℤ y) ≡ int_max (x *ℤ k) (y *ℤ k)
+left_max x y k = rw (*ℤ_comm k x, *ℤ_comm k y) refl
+
+-- what a helper returned, without the casts
+pub within_cast : (x : ℤ) → Within (2 ^ 126) x → Within (2 ^ 126) (to_z w128 (of_z w128 x))
+within_cast x w = let f = fits_wide x w in rw (to_z-of_z f) w
+
+pub settled : (r v : ℤ) → Within (2 ^ 126) r → r ≡ v → to_z w128 (of_z w128 r) ≡ v
+settled r v w e = let f = fits_wide r w in to_z-of_z f ∙ e
+
+pub cast_min : (a b k r : ℤ) → SFits w128 a → SFits w128 b → SFits w128 k → r ≡ int_min (to_z w128 (of_z w128 a) *ℤ to_z w128 (of_z w128 k)) (to_z w128 (of_z w128 b) *ℤ to_z w128 (of_z w128 k)) → r ≡ int_min (a *ℤ k) (b *ℤ k)
+cast_min a b k r f g h e = simp to_z-of_z at e
+
+pub cast_max : (a b k r : ℤ) → SFits w128 a → SFits w128 b → SFits w128 k → r ≡ int_max (to_z w128 (of_z w128 a) *ℤ to_z w128 (of_z w128 k)) (to_z w128 (of_z w128 b) *ℤ to_z w128 (of_z w128 k)) → r ≡ int_max (a *ℤ k) (b *ℤ k)
+cast_max a b k r f g h e = simp to_z-of_z at e
+
+-- equal ends contain the same
+pub same_ends : {u l h l' h' : ℤ} {x : Ratio} → l' ≡ l → h' ≡ h → Contains u l h x → Contains u l' h' x
+same_ends e f p = contains-wider p (omega (arith, ints)) (omega (arith, ints))
+
+pub ordered_cast : {v w : ℤ} (r s : ℤ) → Within (2 ^ 126) r → Within (2 ^ 126) s → r ≡ v → s ≡ w → v ≤ℤ w → to_z w128 (of_z w128 r) ≤ℤ to_z w128 (of_z w128 s)
+ordered_cast r s p q e f h = omega (arith, ints)
+
+pub product_ends_ordered : (a b c d : ℤ) → least_product a b c d ≤ℤ greatest_product a b c d
+product_ends_ordered a b c d = least_le_greatest (a *ℤ c) (a *ℤ d) (b *ℤ c) (b *ℤ d)

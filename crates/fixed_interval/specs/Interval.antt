@@ -1,9 +1,13 @@
--- What an interval of whole ends contains, and how large it is.
+-- The ends of an interval, what it contains, and how large it is.
 use Rattle.std.specs.Prelude.{ℕ, ℤ, pos}
 use Rattle.exact_math.specs.Contains.{Contains}
+use Rattle.exact_math.specs.Ends.{Ends}
 use Rattle.exact_math.specs.Ratio.{Ratio}
 use Rattle.exact_math.specs.Within.{Within}
 use Rattle.fixed_interval.specs.declared.Interval.{Interval}
+
+abbrev pub ends_of : Interval → Ends
+ends_of i = record { lo = i.lo; hi = i.hi }
 
 -- the interval, in its own units, contains the fraction
 abbrev pub IntervalContains : Interval → Ratio → Type 0

@@ -1,3 +1,2 @@
--- What the contracts rest on: what an interval contains, the ends of products, sizes.
+-- What the contracts rest on: the ends of an interval, what it contains, how large it is.
 pub mod Interval
-pub mod Products

@@ -26,12 +26,13 @@ pub struct Interval {
 }
 
 impl Interval {
-    ghost use Rattle.std.specs.Prelude.{◌≡◌, ◌<◌, pos, neg_ℤ, ◌+ℤ◌, ◌-ℤ◌, ◌*ℤ◌, ◌<ℤ◌, IsTrue, ◌↔◌};
+    ghost use Rattle.std.specs.Prelude.{◌≡◌, ◌<◌, pos, neg_ℤ, ◌+ℤ◌, ◌-ℤ◌, ◌*ℤ◌, IsTrue, ◌↔◌};
+    ghost use Rattle.std.specs.Int.{int_min, int_max};
     ghost use Rattle.exact_math.specs.Contains.{Contains};
+    ghost use Rattle.exact_math.specs.Ends.{least, greatest};
     ghost use Rattle.exact_math.specs.Ratio.{Ratio, whole_ratio, add_ratio, neg_ratio, sub_ratio, mul_ratio, over_ratio};
     ghost use Rattle.exact_math.specs.Rounding.{floor_div, ceil_div};
     ghost use Rattle.fixed_interval.specs.Interval.{IntervalContains};
-    ghost use Rattle.fixed_interval.specs.Products.{least_product, greatest_product};
     ghost use Rattle.fixed_interval.specs.declared.Interval.{Interval};
 
     /// `[n, n]`. Condition: `n` is at most 2^126 in size.
@@ -121,9 +122,9 @@ impl Interval {
     pub fn scale(self, k: i128) -> Interval
         requires first { Within (2 ^ 126) (self.lo *ℤ k) }
         requires second { Within (2 ^ 126) (self.hi *ℤ k) }
-        ensures up { pos 0 ≤ℤ k → (result.lo ≡ self.lo *ℤ k) × (result.hi ≡ self.hi *ℤ k) }
-        ensures down { k <ℤ pos 0 → (result.lo ≡ self.hi *ℤ k) × (result.hi ≡ self.lo *ℤ k) }
-        ensures contains { (x : Ratio) → IntervalContains self x → IntervalContains result (mul_ratio x (whole_ratio k)) }
+        ensures lo { result.lo ≡ int_min (self.lo *ℤ k) (self.hi *ℤ k) }
+        ensures hi { result.hi ≡ int_max (self.lo *ℤ k) (self.hi *ℤ k) }
+        ensures contains { (x : Ratio) → IntervalContains self x → IntervalContains result (mul_ratio (whole_ratio k) x) }
     {
         Interval {
             lo: low_product(self.lo, self.hi, k),
@@ -137,10 +138,10 @@ impl Interval {
     /// Where this interval doesn't straddle zero, two of the four products are enough.
     #[inline]
     pub fn times(self, o: Interval) -> Interval
-        requires low_end { Within (2 ^ 126) (least_product self.lo self.hi o.lo o.hi) }
-        requires high_end { Within (2 ^ 126) (greatest_product self.lo self.hi o.lo o.hi) }
-        ensures lo { result.lo ≡ least_product self.lo self.hi o.lo o.hi }
-        ensures hi { result.hi ≡ greatest_product self.lo self.hi o.lo o.hi }
+        requires low_end { Within (2 ^ 126) (least (self.lo *ℤ o.lo) (self.lo *ℤ o.hi) (self.hi *ℤ o.lo) (self.hi *ℤ o.hi)) }
+        requires high_end { Within (2 ^ 126) (greatest (self.lo *ℤ o.lo) (self.lo *ℤ o.hi) (self.hi *ℤ o.lo) (self.hi *ℤ o.hi)) }
+        ensures lo { result.lo ≡ least (self.lo *ℤ o.lo) (self.lo *ℤ o.hi) (self.hi *ℤ o.lo) (self.hi *ℤ o.hi) }
+        ensures hi { result.hi ≡ greatest (self.lo *ℤ o.lo) (self.lo *ℤ o.hi) (self.hi *ℤ o.lo) (self.hi *ℤ o.hi) }
         ensures contains { (x y : Ratio) → IntervalContains self x → IntervalContains o y → IntervalContains result (mul_ratio x y) }
     {
         if self.lo >= 0 {

@@ -3,10 +3,13 @@ ghost use Rattle.std.specs.Prelude.{◌≡◌, ℕ, ◌^◌, ◌<◌, ℤ, pos, 
 ghost use Rattle.exact_math.specs.Rounding.{floor_div, ceil_div};
 ghost use Rattle.exact_math.specs.Within.{Within};
 
-/// The greatest divisor that still fits an `i128` where an end of an interval is added to it.
-const WIDEST: i128 = 1 << 126;
+/// Up to this divisor a multiple near an end of an interval, and one divisor more or less, fit an `i128`.
+const LARGEST: i128 = 1 << 126;
 
-/// The greatest whole number that is at most `z / n`.
+/// The greatest number that the processor divides in one step.
+const NARROW: i128 = 1 << 62;
+
+/// The greatest whole number that is at most `z / n`, by one division, of 64 bits where both numbers are small.
 #[inline(always)]
 pub fn floor_quot(z: i128, n: i128) -> i128
     requires divisor { pos 1 ≤ℤ n }
@@ -14,12 +17,30 @@ pub fn floor_quot(z: i128, n: i128) -> i128
     ensures value { result ≡ floor_div z n }
     ensures size { Within (2 ^ 126) result }
 {
-    z.div_euclid(n)
+    if -NARROW <= z && z <= NARROW && n <= NARROW {
+        return i128::from((z as i64).div_euclid(n as i64));
+    }
+    wide_floor(z, n)
+}
+
+/// The same where a number may be large: the quotient toward zero, and one less where that is too much.
+#[inline]
+fn wide_floor(z: i128, n: i128) -> i128
+    requires divisor { pos 1 ≤ℤ n }
+    requires size { Within (2 ^ 126) z }
+    ensures value { result ≡ floor_div z n }
+    ensures size { Within (2 ^ 126) result }
+{
+    let toward = z / n;
+    if toward * n > z {
+        return toward - 1;
+    }
+    toward
 }
 
 /// The least whole number that is at least `z / n`.
 #[inline(always)]
-pub fn ceil_quot(z: i128, n: i128) -> i128
+fn ceil_quot(z: i128, n: i128) -> i128
     requires divisor { pos 1 ≤ℤ n }
     requires size { Within (2 ^ 126) z }
     ensures value { result ≡ ceil_div z n }
@@ -28,7 +49,8 @@ pub fn ceil_quot(z: i128, n: i128) -> i128
     -floor_quot(-z, n)
 }
 
-/// The least whole number that is at least `z / n`, where `floor` is that of a number `below` which is at most `z`.
+/// The least whole number that is at least `z / n`, where `floor` is the quotient of a number `below`, at most `z`,
+/// that was rounded down. No division is needed where `z` is at most one multiple of `n` above it.
 #[inline(always)]
 pub fn ceil_near(z: i128, n: i128, below: i128, floor: i128) -> i128
     requires divisor { pos 1 ≤ℤ n }
@@ -39,6 +61,15 @@ pub fn ceil_near(z: i128, n: i128, below: i128, floor: i128) -> i128
     ensures value { result ≡ ceil_div z n }
     ensures size { Within (2 ^ 126) result }
 {
+    if n <= LARGEST {
+        let reached = floor * n;
+        if z <= reached {
+            return floor;
+        }
+        if z - n <= reached {
+            return floor + 1;
+        }
+    }
     ceil_quot(z, n)
 }
 
