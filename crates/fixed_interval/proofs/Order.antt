@@ -1,13 +1,15 @@
 -- How products of whole numbers are ordered.
-use Rattle.std.proofs.Common.{◌≡◌, ◌∙◌, refl, ℕ, zero, suc, ◌+◌, ◌-◌, ◌*◌, ◌≤◌, ◌<◌, ◌^◌, ◌⊎◌, inl, inr, arith, ℤ, pos, negsuc, neg_ℤ, ◌*ℤ◌, ◌≤ℤ◌, ◌<ℤ◌, ◌+ℤ◌}
+use Rattle.std.proofs.Common.{◌≡◌, ◌∙◌, refl, ℕ, zero, suc, ◌+◌, ◌*◌, ◌≤◌, ◌^◌, arith, ℤ, pos, negsuc, ◌*ℤ◌, ◌≤ℤ◌, ◌<ℤ◌}
 use Rattle.std.proofs.Math.Nat.{mul-le-mul_left}
 use Rattle.std.proofs.lemmas.Int.{ints, clamps}
 use Rattle.std.proofs.Common.{SFits, to_z, of_z, to_z-of_z}
 use Rattle.std.specs.Int.{w128, int_min, int_max}
 use Rattle.exact_math.specs.Contains.{Contains}
+use Rattle.exact_math.specs.Ends.{EndsWithin, times_ends, scale_ends}
 use Rattle.exact_math.specs.Ratio.{Ratio}
 use Rattle.exact_math.specs.Within.{Within}
 use Rattle.exact_math.proofs.Bridges.{contains-wider}
+use Rattle.fixed_interval.specs.Interval.{ends_of}
 use Rattle.fixed_interval.specs.declared.Interval.{Interval}
 use Rattle.exact_math.proofs.Enclosures.{least_product, greatest_product}
 use Rattle.std.proofs.Math.IntN.{*ℤ_comm}
@@ -51,6 +53,14 @@ pub record FourWithin (m : ℕ) (p q r s : ℤ) : Type 0 where
 -- a product of numbers that were passed or computed, without the casts
 pub within_product : (m : ℕ) (x y : ℤ) → SFits w128 x → SFits w128 y → Within m (x *ℤ y) → Within m (to_z w128 (of_z w128 x) *ℤ to_z w128 (of_z w128 y))
 within_product m x y f g w = rw (to_z-of_z f, to_z-of_z g) w
+
+both_within : (m : ℕ) (p q : ℤ) → Within m (int_min p q) → Within m (int_max p q) → Within m p × Within m q
+both_within m p q v w =
+    let a = min_le_left p q in
+    let b = min_le_right p q in
+    let c = le_max_left p q in
+    let d = le_max_right p q in
+    (record { above = omega (arith, ints, a, v.above); below = omega (arith, ints, c, w.below) }, record { above = omega (arith, ints, b, v.above); below = omega (arith, ints, d, w.below) })
 
 pub four_within : (m : ℕ) (p q r s : ℤ) → Within m (int_min (int_min p q) (int_min r s)) → Within m (int_max (int_max p q) (int_max r s)) → FourWithin m p q r s
 four_within m p q r s v w =
@@ -115,9 +125,13 @@ ends_across a b c d p q r =
     record { least = omega (arith, ints, clamps, h, k); greatest = omega (arith, ints, clamps, h, k) }
 
 -- the four products of an end of one interval with an end of another
-pub corners : (s o : Interval) → Within (2 ^ 126) (least_product s.lo s.hi o.lo o.hi) → Within (2 ^ 126) (greatest_product s.lo s.hi o.lo o.hi)
+pub corners : (s o : Interval) → EndsWithin (2 ^ 126) (times_ends (ends_of s) (ends_of o))
     → FourWithin (2 ^ 126) (s.lo *ℤ o.lo) (s.lo *ℤ o.hi) (s.hi *ℤ o.lo) (s.hi *ℤ o.hi)
-corners s o v w = four_within _ _ _ _ _ v w
+corners s o w = four_within (2 ^ 126) (s.lo *ℤ o.lo) (s.lo *ℤ o.hi) (s.hi *ℤ o.lo) (s.hi *ℤ o.hi) w.lo w.hi
+
+-- both products of ends with one number
+pub multiples : (s : Interval) (k : ℤ) → EndsWithin (2 ^ 126) (scale_ends k (ends_of s)) → Within (2 ^ 126) (s.lo *ℤ k) × Within (2 ^ 126) (s.hi *ℤ k)
+multiples s k w = both_within (2 ^ 126) (s.lo *ℤ k) (s.hi *ℤ k) w.lo w.hi
 
 pub low_fits : (i : Interval) → SFits w128 i.lo
 low_fits i = fits_wide i.lo i.low_end

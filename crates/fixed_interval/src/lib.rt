@@ -10,6 +10,8 @@ ghost use Rattle.exact_math.specs.Within.{Within};
 
 mod products;
 mod rounding;
+#[cfg(test)]
+mod tests;
 
 use products::{high_product, low_product};
 pub use rounding::{ceil_shift, floor_shift};
@@ -29,10 +31,10 @@ impl Interval {
     ghost use Rattle.std.specs.Prelude.{◌≡◌, ◌<◌, pos, neg_ℤ, ◌+ℤ◌, ◌-ℤ◌, ◌*ℤ◌, IsTrue, ◌↔◌};
     ghost use Rattle.std.specs.Int.{int_min, int_max};
     ghost use Rattle.exact_math.specs.Contains.{Contains};
-    ghost use Rattle.exact_math.specs.Ends.{least, greatest};
+    ghost use Rattle.exact_math.specs.Ends.{EndsWithin, add_ends, sub_ends, scale_ends, times_ends, widen_ends, least, greatest};
     ghost use Rattle.exact_math.specs.Ratio.{Ratio, whole_ratio, add_ratio, neg_ratio, sub_ratio, mul_ratio, over_ratio};
     ghost use Rattle.exact_math.specs.Rounding.{floor_div, ceil_div};
-    ghost use Rattle.fixed_interval.specs.Interval.{IntervalContains};
+    ghost use Rattle.fixed_interval.specs.Interval.{ends_of, IntervalContains};
     ghost use Rattle.fixed_interval.specs.declared.Interval.{Interval};
 
     /// `[n, n]`. Condition: `n` is at most 2^126 in size.
@@ -60,8 +62,7 @@ impl Interval {
     /// The sum: lower end plus lower end, upper end plus upper end. Condition: both sums are at most 2^126 in size.
     #[inline]
     pub fn add(self, o: Interval) -> Interval
-        requires low_end { Within (2 ^ 126) (self.lo +ℤ o.lo) }
-        requires high_end { Within (2 ^ 126) (self.hi +ℤ o.hi) }
+        requires { EndsWithin (2 ^ 126) (add_ends (ends_of self) (ends_of o)) }
         ensures lo { result.lo ≡ self.lo +ℤ o.lo }
         ensures hi { result.hi ≡ self.hi +ℤ o.hi }
         ensures contains { (x y : Ratio) → IntervalContains self x → IntervalContains o y → IntervalContains result (add_ratio x y) }
@@ -92,8 +93,7 @@ impl Interval {
     /// The difference `[lo - o.hi, hi - o.lo]`. Condition: both ends are at most 2^126 in size.
     #[inline]
     pub fn sub(self, o: Interval) -> Interval
-        requires low_end { Within (2 ^ 126) (self.lo -ℤ o.hi) }
-        requires high_end { Within (2 ^ 126) (self.hi -ℤ o.lo) }
+        requires { EndsWithin (2 ^ 126) (sub_ends (ends_of self) (ends_of o)) }
         ensures lo { result.lo ≡ self.lo -ℤ o.hi }
         ensures hi { result.hi ≡ self.hi -ℤ o.lo }
         ensures contains { (x y : Ratio) → IntervalContains self x → IntervalContains o y → IntervalContains result (sub_ratio x y) }
@@ -120,8 +120,7 @@ impl Interval {
     /// The products of both ends with `k`, in order. Condition: both are at most 2^126 in size.
     #[inline]
     pub fn scale(self, k: i128) -> Interval
-        requires first { Within (2 ^ 126) (self.lo *ℤ k) }
-        requires second { Within (2 ^ 126) (self.hi *ℤ k) }
+        requires { EndsWithin (2 ^ 126) (scale_ends k (ends_of self)) }
         ensures lo { result.lo ≡ int_min (self.lo *ℤ k) (self.hi *ℤ k) }
         ensures hi { result.hi ≡ int_max (self.lo *ℤ k) (self.hi *ℤ k) }
         ensures contains { (x : Ratio) → IntervalContains self x → IntervalContains result (mul_ratio (whole_ratio k) x) }
@@ -138,8 +137,7 @@ impl Interval {
     /// Where this interval doesn't straddle zero, two of the four products are enough.
     #[inline]
     pub fn times(self, o: Interval) -> Interval
-        requires low_end { Within (2 ^ 126) (least (self.lo *ℤ o.lo) (self.lo *ℤ o.hi) (self.hi *ℤ o.lo) (self.hi *ℤ o.hi)) }
-        requires high_end { Within (2 ^ 126) (greatest (self.lo *ℤ o.lo) (self.lo *ℤ o.hi) (self.hi *ℤ o.lo) (self.hi *ℤ o.hi)) }
+        requires { EndsWithin (2 ^ 126) (times_ends (ends_of self) (ends_of o)) }
         ensures lo { result.lo ≡ least (self.lo *ℤ o.lo) (self.lo *ℤ o.hi) (self.hi *ℤ o.lo) (self.hi *ℤ o.hi) }
         ensures hi { result.hi ≡ greatest (self.lo *ℤ o.lo) (self.lo *ℤ o.hi) (self.hi *ℤ o.lo) (self.hi *ℤ o.hi) }
         ensures contains { (x y : Ratio) → IntervalContains self x → IntervalContains o y → IntervalContains result (mul_ratio x y) }
@@ -196,8 +194,7 @@ impl Interval {
     #[inline]
     pub fn widen(self, r: i128) -> Interval
         requires radius { pos 0 ≤ℤ r }
-        requires low_end { Within (2 ^ 126) (self.lo -ℤ r) }
-        requires high_end { Within (2 ^ 126) (self.hi +ℤ r) }
+        requires fits { EndsWithin (2 ^ 126) (widen_ends (ends_of self) r) }
         ensures lo { result.lo ≡ self.lo -ℤ r }
         ensures hi { result.hi ≡ self.hi +ℤ r }
         ensures contains { (x d : Ratio) → IntervalContains self x → Contains (pos 1) (neg_ℤ r) r d → IntervalContains result (add_ratio x d) }

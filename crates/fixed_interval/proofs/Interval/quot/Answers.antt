@@ -1,5 +1,4 @@
-use Rattle.std.proofs.Common.{◌≡◌, arith, to_z-of_z}
-use Rattle.std.proofs.lemmas.Int.{ints}
+use Rattle.std.proofs.Common.{◌≡◌, to_z-of_z}
 use Rattle.exact_math.specs.Rounding.{floor_div, ceil_div}
 use Rattle.exact_math.proofs.Bridges.{contains-quot}
 use Rattle.fixed_interval.proofs.Division.{floor_le_ceil}

@@ -2,7 +2,7 @@ use Rattle.std.proofs.Common.{◌≡◌, ◌∙◌, sym, ◌*ℤ◌, arith}
 use Rattle.std.proofs.lemmas.Int.{ints}
 use Rattle.std.specs.Int.{int_min, int_max}
 use Rattle.exact_math.proofs.Bridges.{contains-scale}
-use Rattle.fixed_interval.proofs.Order.{low_fits, high_fits, min_le_max, left_min, left_max, cast_min, cast_max, within_cast, settled, same_ends}
+use Rattle.fixed_interval.proofs.Order.{low_fits, high_fits, within_product, multiples, min_le_max, left_min, left_max, cast_min, cast_max, within_cast, settled, same_ends}
 use Rattle.fixed_interval.proofs.Interval.scale.Goals as goal
 use Rattle.fixed_interval.proofs.Interval.scale.Goals.{After-high_product}
 
@@ -16,6 +16,18 @@ products c = record {
   lo = cast_min _ _ _ _ (low_fits c.args.self) (high_fits c.args.self) c.ranges.k c.low_product.ensures.value;
   hi = cast_max _ _ _ _ (low_fits c.args.self) (high_fits c.args.self) c.ranges.k c.high_product.ensures.value;
 }
+
+pub low_product-requires-clause-first : goal.low_product-requires-clause-first
+low_product-requires-clause-first c = within_product _ _ _ (low_fits c.args.self) c.ranges.k (multiples c.args.self c.args.k c.requires).0
+
+pub low_product-requires-clause-second : goal.low_product-requires-clause-second
+low_product-requires-clause-second c = within_product _ _ _ (high_fits c.args.self) c.ranges.k (multiples c.args.self c.args.k c.requires).1
+
+pub high_product-requires-clause-first : goal.high_product-requires-clause-first
+high_product-requires-clause-first c = within_product _ _ _ (low_fits c.args.self) c.ranges.k (multiples c.args.self c.args.k c.requires).0
+
+pub high_product-requires-clause-second : goal.high_product-requires-clause-second
+high_product-requires-clause-second c = within_product _ _ _ (high_fits c.args.self) c.ranges.k (multiples c.args.self c.args.k c.requires).1
 
 pub invariant_of-result-clause-ordered : goal.invariant_of-result-clause-ordered
 invariant_of-result-clause-ordered c =

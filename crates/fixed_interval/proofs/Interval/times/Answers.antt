@@ -4,34 +4,33 @@ use Rattle.std.specs.Int.{int_min, int_max}
 use Rattle.exact_math.specs.Within.{Within}
 use Rattle.exact_math.proofs.Bridges.{contains-mul}
 use Rattle.exact_math.proofs.Enclosures.{least_product, greatest_product}
-use Rattle.fixed_interval.specs.declared.Interval.{Interval}
-use Rattle.fixed_interval.proofs.Order.{FourWithin, corners, within_product, low_fits, high_fits, product_ends_ordered, cast_min, cast_max, within_cast, settled, same_ends, ordered_cast, fits_wide, ends_up, ends_down, ends_across}
+use Rattle.fixed_interval.proofs.Order.{corners, within_product, low_fits, high_fits, product_ends_ordered, cast_min, cast_max, within_cast, settled, same_ends, ordered_cast, fits_wide, ends_up, ends_down, ends_across}
 use Rattle.fixed_interval.proofs.Interval.times.Goals as goal
 use Rattle.fixed_interval.proofs.Interval.times.Goals.{After-high_product, After-high_product-then-self-le0, After-max}
 
 pub low_product-requires-clause-first : goal.low_product-requires-clause-first
-low_product-requires-clause-first c = within_product _ _ _ (low_fits c.args.self) (low_fits c.args.o) (corners c.args.self c.args.o c.requires.low_end c.requires.high_end).first
+low_product-requires-clause-first c = within_product _ _ _ (low_fits c.args.self) (low_fits c.args.o) (corners c.args.self c.args.o c.requires).first
 
 pub low_product-requires-clause-second : goal.low_product-requires-clause-second
-low_product-requires-clause-second c = within_product _ _ _ (high_fits c.args.self) (low_fits c.args.o) (corners c.args.self c.args.o c.requires.low_end c.requires.high_end).third
+low_product-requires-clause-second c = within_product _ _ _ (high_fits c.args.self) (low_fits c.args.o) (corners c.args.self c.args.o c.requires).third
 
 pub high_product-requires-clause-first : goal.high_product-requires-clause-first
-high_product-requires-clause-first c = within_product _ _ _ (low_fits c.args.self) (high_fits c.args.o) (corners c.args.self c.args.o c.requires.low_end c.requires.high_end).second
+high_product-requires-clause-first c = within_product _ _ _ (low_fits c.args.self) (high_fits c.args.o) (corners c.args.self c.args.o c.requires).second
 
 pub high_product-requires-clause-second : goal.high_product-requires-clause-second
-high_product-requires-clause-second c = within_product _ _ _ (high_fits c.args.self) (high_fits c.args.o) (corners c.args.self c.args.o c.requires.low_end c.requires.high_end).fourth
+high_product-requires-clause-second c = within_product _ _ _ (high_fits c.args.self) (high_fits c.args.o) (corners c.args.self c.args.o c.requires).fourth
 
 pub low_product-requires-then-self-le0-clause-first : goal.low_product-requires-then-self-le0-clause-first
-low_product-requires-then-self-le0-clause-first c = within_product _ _ _ (low_fits c.args.self) (high_fits c.args.o) (corners c.args.self c.args.o c.requires.low_end c.requires.high_end).second
+low_product-requires-then-self-le0-clause-first c = within_product _ _ _ (low_fits c.args.self) (high_fits c.args.o) (corners c.args.self c.args.o c.requires).second
 
 pub low_product-requires-then-self-le0-clause-second : goal.low_product-requires-then-self-le0-clause-second
-low_product-requires-then-self-le0-clause-second c = within_product _ _ _ (high_fits c.args.self) (high_fits c.args.o) (corners c.args.self c.args.o c.requires.low_end c.requires.high_end).fourth
+low_product-requires-then-self-le0-clause-second c = within_product _ _ _ (high_fits c.args.self) (high_fits c.args.o) (corners c.args.self c.args.o c.requires).fourth
 
 pub high_product-requires-then-self-le0-clause-first : goal.high_product-requires-then-self-le0-clause-first
-high_product-requires-then-self-le0-clause-first c = within_product _ _ _ (low_fits c.args.self) (low_fits c.args.o) (corners c.args.self c.args.o c.requires.low_end c.requires.high_end).first
+high_product-requires-then-self-le0-clause-first c = within_product _ _ _ (low_fits c.args.self) (low_fits c.args.o) (corners c.args.self c.args.o c.requires).first
 
 pub high_product-requires-then-self-le0-clause-second : goal.high_product-requires-then-self-le0-clause-second
-high_product-requires-then-self-le0-clause-second c = within_product _ _ _ (high_fits c.args.self) (low_fits c.args.o) (corners c.args.self c.args.o c.requires.low_end c.requires.high_end).third
+high_product-requires-then-self-le0-clause-second c = within_product _ _ _ (high_fits c.args.self) (low_fits c.args.o) (corners c.args.self c.args.o c.requires).third
 
 -- what the two helpers gave where no number of the left interval is below 0, with no cast left
 record Upward (c : After-high_product) : Type 0 where
@@ -108,16 +107,16 @@ returns-then-self-le0-clause-contains c x y p q =
     same_ends (settled _ _ c.low_product-then-self-le0.ensures.size e.lo) (settled _ _ c.high_product-then-self-le0.ensures.size e.hi) (contains-mul p q)
 
 pub overflow_mul-straight : goal.overflow_mul-straight
-overflow_mul-straight c = fits_wide _ (within_product _ _ _ (low_fits c.args.self) (low_fits c.args.o) (corners c.args.self c.args.o c.requires.low_end c.requires.high_end).first)
+overflow_mul-straight c = fits_wide _ (within_product _ _ _ (low_fits c.args.self) (low_fits c.args.o) (corners c.args.self c.args.o c.requires).first)
 
 pub overflow_mul-crossed : goal.overflow_mul-crossed
-overflow_mul-crossed c = fits_wide _ (within_product _ _ _ (low_fits c.args.self) (high_fits c.args.o) (corners c.args.self c.args.o c.requires.low_end c.requires.high_end).second)
+overflow_mul-crossed c = fits_wide _ (within_product _ _ _ (low_fits c.args.self) (high_fits c.args.o) (corners c.args.self c.args.o c.requires).second)
 
 pub overflow_mul-self : goal.overflow_mul-self
-overflow_mul-self c = fits_wide _ (within_product _ _ _ (high_fits c.args.self) (low_fits c.args.o) (corners c.args.self c.args.o c.requires.low_end c.requires.high_end).third)
+overflow_mul-self c = fits_wide _ (within_product _ _ _ (high_fits c.args.self) (low_fits c.args.o) (corners c.args.self c.args.o c.requires).third)
 
 pub overflow_mul-self-2 : goal.overflow_mul-self-2
-overflow_mul-self-2 c = fits_wide _ (within_product _ _ _ (high_fits c.args.self) (high_fits c.args.o) (corners c.args.self c.args.o c.requires.low_end c.requires.high_end).fourth)
+overflow_mul-self-2 c = fits_wide _ (within_product _ _ _ (high_fits c.args.self) (high_fits c.args.o) (corners c.args.self c.args.o c.requires).fourth)
 
 -- the four products where the left interval has numbers of both signs
 record Across (c : After-max) : Type 0 where
@@ -128,7 +127,7 @@ across : (c : After-max) → Across c
 across c =
     let s = c.args.self in
     let o = c.args.o in
-    let four = corners s o c.requires.low_end c.requires.high_end in
+    let four = corners s o c.requires in
     let e = low_fits s in
     let f = high_fits s in
     let g = low_fits o in
@@ -143,10 +142,10 @@ across c =
     record { lo = lo ∙ sym pair.least; hi = hi ∙ sym pair.greatest }
 
 low_size : (c : After-max) → Within (2 ^ 126) c.min.result
-low_size c = rw (across c).lo c.requires.low_end
+low_size c = rw (across c).lo c.requires.lo
 
 high_size : (c : After-max) → Within (2 ^ 126) c.max.result
-high_size c = rw (across c).hi c.requires.high_end
+high_size c = rw (across c).hi c.requires.hi
 
 pub invariant_of-result-2-clause-ordered : goal.invariant_of-result-2-clause-ordered
 invariant_of-result-2-clause-ordered c = ordered_cast _ _ (low_size c) (high_size c) (across c).lo (across c).hi (product_ends_ordered c.args.self.lo c.args.self.hi c.args.o.lo c.args.o.hi)
