@@ -1,16 +1,15 @@
 -- What the cut terms and the doubled distances stand for.
-use Rattle.exact_math.proofs.Common.{◌≡◌, refl, sym, ap, ap₂, subst, subst₂, ◌∙◌, ℕ, zero, suc, arith, ints, ℤ, pos, negsuc, ◌+ℤ◌, ◌-ℤ◌, ◌*ℤ◌, ◌<ℤ◌, quotes, combine, ring1, ring2, ring3, pow, ℚ, rational_ring, of_int, of_int-add, of_int-mul, of_int-≤, ◌+ℚ◌, ◌*ℚ◌, neg_ℚ, inverse, ◌≤ℚ◌, ◌<ℚ◌, int-<, nonneg_int, inverse_right, positive_mul, absolute, sum_below, ℂ, complex_rationals, of_int_ℂ, ◌+ℂ◌, ◌*ℂ◌, ◌-ℂ◌, neg_ℂ, inverse_ℂ, *ℂ-inverse, norm, norm-mul, real, parts-add, parts-neg, parts-int, parts-inverse, size}
+use Rattle.exact_math.proofs.Common.{◌≡◌, refl, sym, ap, ap₂, subst, subst₂, ◌∙◌, ℕ, zero, suc, arith, ints, ℤ, pos, negsuc, ◌+ℤ◌, ◌-ℤ◌, ◌*ℤ◌, ◌<ℤ◌, quotes, combine, ring1, ring2, ring3, pow, ℚ, rational_ring, of_int, of_int-add, of_int-mul, of_int-≤, ◌+ℚ◌, ◌*ℚ◌, neg_ℚ, inverse, ◌≤ℚ◌, ◌<ℚ◌, int-<, inverse_right, positive_mul, sum_below, ℂ, complex_rationals, of_int_ℂ, ◌+ℂ◌, ◌*ℂ◌, ◌-ℂ◌, neg_ℂ, inverse_ℂ, *ℂ-inverse, norm, norm-mul, real, parts-add, parts-neg, parts-int, parts-inverse}
 use Rattle.exact_math.specs.Binomials.{choose}
 use Rattle.exact_math.specs.Gaussian.{Gaussian, gaussian, sub_gaussian, norm_gaussian}
 use Rattle.exact_math.specs.Ratio.{ComplexRatio, neg_complex, mul_complex}
-use Rattle.exact_math.specs.Sizes.{abs_gaussian}
 use Rattle.exact_math.specs.Within.{Within}
-use Rattle.exact_math.proofs.RationalOrder.{absolute_is, absolute_neg}
 use Rattle.exact_math.proofs.ComplexRationals.{real-mul, inverse_unique}
 use Rattle.exact_math.proofs.QuadraticExtension.{same_pair, pow_slope}
 use Rattle.exact_math.proofs.TruncatedKernel.{kernel_sum}
 use Rattle.exact_math.proofs.KernelSlope.{slope_sum}
 use Rattle.exact_math.proofs.Enclosures.{of_int-neg}
+use Rattle.exact_math.proofs.GaussianSizes.{absolute_int}
 use Rattle.exact_math.proofs.Gaussians.{value, value-norm, value-sub}
 use Rattle.exact_math.proofs.Fractions.{complex_value, complex_value-split, Stands, Stands-whole, Stands-count, Stands-mul, Stands-neg, Stands-pow, Stands-sum}
 use Rattle.exact_math.proofs.DirectTerms.{norm_positive, Stands-pole, Stands-dipole}
@@ -25,13 +24,6 @@ use native.Mathlib.Nat.{mul-le-mul_left}
 use Prim.Native.Nat.{◌+◌, ◌*◌, ◌≤◌}
 
 -- ---- sizes
-pub absolute_int : (a : ℤ) → absolute (of_int a) ≡ of_int (pos (unsigned_abs a))
-absolute_int (pos n) = absolute_is _ (nonneg_int n)
-absolute_int (negsuc n) = ap absolute (of_int-neg (pos (suc n))) ∙ absolute_neg _ ∙ absolute_is _ (nonneg_int (suc n))
-
-pub size_value : (g : Gaussian) → size (value g) ≡ of_int (pos (abs_gaussian g))
-size_value g = ap₂ ◌+ℚ◌ (absolute_int g.re) (absolute_int g.im) ∙ sym (of_int-add (pos (unsigned_abs g.re)) (pos (unsigned_abs g.im)))
-
 size_le : (m : ℕ) (z : ℤ) → Within m z → unsigned_abs z ≤ m
 size_le m (pos n) h = let l = h.below in omega (arith, ints)
 size_le m (negsuc n) h = let l = h.above in omega (arith, ints)

@@ -1,5 +1,5 @@
 -- What is left of 1/delta - T/d and of 1/delta^2 - T'/d^2 where delta = w d, 1 - w T = N and T - w T' = N'. Both expansions use it.
-use Rattle.exact_math.proofs.Common.{◌≡◌, pos, quotes, combine, ring5, ring7, ring9, ℚ, of_int, ◌*ℚ◌, ◌≤ℚ◌, ≤ℚ-trans, mul_mono, absolute, ℂ, complex_rationals, of_int_ℂ, ◌+ℂ◌, ◌*ℂ◌, ◌-ℂ◌, neg_ℂ}
+use Rattle.exact_math.proofs.Common.{◌≡◌, pos, quotes, combine, ring5, ring7, ℚ, of_int, ◌*ℚ◌, ◌≤ℚ◌, ≤ℚ-trans, mul_mono, absolute, ℂ, complex_rationals, of_int_ℂ, ◌+ℂ◌, ◌*ℂ◌, ◌-ℂ◌, neg_ℂ}
 use Rattle.truncation.proofs.Discs.{InDisc, InDisc-re, InDisc-im}
 
 module _ (i j w d delta : ℂ) (ei : delta *ℂ i ≡ of_int_ℂ (pos 1)) (ej : d *ℂ j ≡ of_int_ℂ (pos 1)) (e : delta ≡ w *ℂ d) where
@@ -17,16 +17,6 @@ module _ (i j w d delta : ℂ) (ei : delta *ℂ i ≡ of_int_ℂ (pos 1)) (ej : 
       combine complex_rationals i (pole_is T N h)
       (combine complex_rationals (i *ℂ j) k
       (combine complex_rationals (j *ℂ T') quotient_is (ring7 complex_rationals i j w T N T' N' (λ i j w t n s m. search quotes depth 12) tt)))
-
-  -- the third power, from 2 T - w S = M and S - w U = K
-  pub cube_is : (T N S M U K : ℂ) → of_int_ℂ (pos 1) -ℂ w *ℂ T ≡ N → of_int_ℂ (pos 2) *ℂ T -ℂ w *ℂ S ≡ M → S -ℂ w *ℂ U ≡ K
-      → of_int_ℂ (pos 2) *ℂ (i *ℂ i *ℂ i) -ℂ j *ℂ j *ℂ j *ℂ U ≡ of_int_ℂ (pos 2) *ℂ (i *ℂ i *ℂ i) *ℂ N +ℂ i *ℂ i *ℂ j *ℂ M +ℂ i *ℂ j *ℂ j *ℂ K
-  cube_is T N S M U K h k l =
-      combine complex_rationals (of_int_ℂ (pos 2) *ℂ (i *ℂ i *ℂ i)) h
-      (combine complex_rationals (i *ℂ i *ℂ j) k
-      (combine complex_rationals (i *ℂ j *ℂ j) l
-      (combine complex_rationals (of_int_ℂ (pos 2) *ℂ i *ℂ i *ℂ T +ℂ i *ℂ j *ℂ S +ℂ j *ℂ j *ℂ U) quotient_is
-      (ring9 complex_rationals i j w T N S M U K (λ i j w t n s m u k. search quotes depth 15) tt))))
 
 -- each part of z, counted in units of 1/u, is at most m in size
 pub record PartsCounted (u : ℚ) (z : ℂ) (m : ℚ) : Type 0 where

@@ -2,6 +2,7 @@
 use Rattle.exact_math.proofs.Common.{◌≡◌, sym, ap, ap₂, subst, ◌∙◌, ℕ, zero, suc, arith, ints, pos, pow, ℚ, rational_ring, of_int, of_int-mul, of_int-≤, ◌*ℚ◌, inverse, ◌≤ℚ◌, ◌<ℚ◌, nonneg_int, ℂ, ◌+ℂ◌, ◌-ℂ◌, norm, size}
 use Rattle.exact_math.specs.Gaussian.{Gaussian, sub_gaussian}
 use Rattle.exact_math.specs.Sizes.{abs_gaussian}
+use Rattle.exact_math.proofs.GaussianSizes.{size_value}
 use Rattle.exact_math.proofs.Gaussians.{value}
 use Rattle.truncation.specs.CutTerms.{pair_pole_cut, pair_dipole_cut, multipole_pole_cut, multipole_dipole_cut, local_pole_cut, local_dipole_cut}
 use Rattle.truncation.specs.Places.{times_side, pair_distance, PairPlaces, SinglePlaces}
@@ -9,7 +10,7 @@ use Rattle.truncation.specs.Tails.{pair_tail, single_tail}
 use Rattle.truncation.specs.Truncation.{Truncated, halved_pole_term, halved_dipole_term, PairTruncation, SingleTruncation}
 use Rattle.truncation.proofs.Distances.{PartsAtMost, SomePartAtLeast, double, times_ratio}
 use Rattle.truncation.proofs.Quotients.{PartsCounted}
-use Rattle.truncation.proofs.CutValues.{halved, size_value, offset_parts, centre_parts, far_parts, pair_distance_is, single_distance_is, Stands-halved_pole, Stands-halved_dipole, Stands-pair_pole_cut, Stands-pair_dipole_cut, Stands-multipole_pole_cut, Stands-multipole_dipole_cut, Stands-local_pole_cut, Stands-local_dipole_cut}
+use Rattle.truncation.proofs.CutValues.{halved, offset_parts, centre_parts, far_parts, pair_distance_is, single_distance_is, Stands-halved_pole, Stands-halved_dipole, Stands-pair_pole_cut, Stands-pair_dipole_cut, Stands-multipole_pole_cut, Stands-multipole_dipole_cut, Stands-local_pole_cut, Stands-local_dipole_cut}
 use Rattle.truncation.proofs.Counting.{truncated}
 use Rattle.truncation.proofs.Tails.{pair_tail-step, single_tail-step, pair_tail-start, single_tail-start, tail_dominates}
 use Rattle.truncation.proofs.PairBound as Pair

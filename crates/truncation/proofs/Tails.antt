@@ -1,5 +1,6 @@
 -- The two tails, and that they dominate the powers of 17/31 and of 17/36.
-use Rattle.exact_math.proofs.Common.{◌≡◌, refl, ap, subst₂, ℕ, zero, suc, arith, ints, pos, quotes, combine, ring1, ring6, pow, ℚ, rational_ring, of_int, of_int-mul, of_int-≤, ◌*ℚ◌, ◌≤ℚ◌, ≤ℚ-trans, le_equal, le_using, cancel_mul, nonneg_int, int-<}
+use Rattle.exact_math.proofs.Common.{◌≡◌, refl, sym, ap, ◌∙◌, neg_ℤ, subst₂, ℕ, zero, suc, arith, ints, pos, quotes, combine, ring1, ring6, pow, ℚ, rational_ring, of_int, of_int-mul, of_int-≤, ◌*ℚ◌, ◌≤ℚ◌, ≤ℚ-trans, le_equal, le_using, cancel_mul, nonneg_int, int-<}
+use Rattle.exact_math.specs.Rounding.{ceil_div}
 pub use Rattle.truncation.specs.Tails.{ceiling, pair_tail, single_tail}
 use Prim.Native.Nat.{◌+◌, ◌*◌, ◌-◌, ◌/◌, ◌^◌, ◌≤◌, ◌<◌}
 use native.Mathlib.Nat.{div-add-mod, mod-lt}
@@ -9,6 +10,20 @@ ceiling_ge a n h =
     let e = div-add-mod (a + (n - 1)) n in
     let m = mod-lt (a + (n - 1)) h in
     omega arith
+
+-- in the words of rounding
+pub ceiling_is : (a n : ℕ) → 0 < n → pos (ceiling a n) ≡ ceil_div (pos a) (pos n)
+ceiling_is zero n h = ap pos (none n h) ∙ sym (ap (λ z. neg_ℤ (pos z)) (zero_over n h))
+  where
+    none : (n : ℕ) → 0 < n → (0 + (n - 1)) / n ≡ 0
+    none n h = grind arith
+
+    zero_over : (n : ℕ) → 0 < n → 0 / n ≡ 0
+    zero_over n h = grind arith
+ceiling_is (suc a) n h = ap pos (next a n h)
+  where
+    next : (a n : ℕ) → 0 < n → (suc a + (n - 1)) / n ≡ suc (a / n)
+    next a n h = grind arith
 
 -- the next values, as code computes them, and that the tails fall
 pub pair_tail-next : (k : ℕ) → pair_tail (k + 1) ≡ (17 * pair_tail k + 30) / 31
