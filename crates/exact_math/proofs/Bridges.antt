@@ -8,13 +8,14 @@ use lib.Signed.{◌<ℤ◌, ◌≤ℤ◌}
 use borrow.Author.Differences.{ints}
 use Rattle.std.specs.Int.{int_min, int_max}
 use Rattle.exact_math.specs.Contains.{Contains}
+use Rattle.exact_math.specs.Ends.{least, greatest}
 use Rattle.exact_math.specs.Ratio.{Ratio, whole_ratio, add_ratio, neg_ratio, sub_ratio, mul_ratio, over_ratio}
 use Rattle.exact_math.specs.Rounding.{floor_div, ceil_div}
 use Rattle.exact_math.proofs.RingTactic.{quotes, combine, ring2, ring3, ring4, ring5}
-use Rattle.exact_math.proofs.Integers.{*-positive}
+use Rattle.exact_math.proofs.Integers.{*-positive, *-comm}
 use Rattle.exact_math.proofs.Rationals.{ℚ, rational_ring, of_int, of_int-mul, of_int-≤, ◌+ℚ◌, ◌*ℚ◌, ◌-ℚ◌, neg_ℚ, inverse, ◌≤ℚ◌, ◌<ℚ◌}
 use Rattle.exact_math.proofs.RationalOrder.{int-<, inverse_right, mul_mono, cancel_mul, ≤-from_<}
-use Rattle.exact_math.proofs.Enclosures.{Encloses, Encloses-whole, Encloses-wider, Encloses-add, Encloses-neg, Encloses-scale, Encloses-scale_up, Encloses-scale_down, Encloses-quot, Encloses-mul, least_product, greatest_product}
+use Rattle.exact_math.proofs.Enclosures.{Encloses, Encloses-whole, Encloses-wider, Encloses-add, Encloses-neg, Encloses-scale, Encloses-scale_up, Encloses-scale_down, Encloses-quot, Encloses-mul, floor_div_le, ceil_div_ge}
 use Rattle.exact_math.proofs.Fractions.{ratio, ratio_value, RatioStands, RatioStands-itself, RatioStands-whole, RatioStands-add, RatioStands-neg, RatioStands-sub, RatioStands-mul, RatioStands-over, ratio-same, times_denominator}
 
 -- ---- x stands for q, and its ends count units of 1/u
@@ -77,7 +78,7 @@ module _ {u lo hi : ℤ} {x : Ratio} (h : Contains u lo hi x) where
   scaled_stands k = RatioStands-mul (RatioStands-whole k) stands
 
   -- k x: the lower and the upper of the two multiples
-  pub contains-scale : (k : ℤ) → Contains u (int_min (k *ℤ lo) (k *ℤ hi)) (int_max (k *ℤ lo) (k *ℤ hi)) (mul_ratio (whole_ratio k) x)
+  pub contains-scale : (k : ℤ) → Contains u (int_min (lo *ℤ k) (hi *ℤ k)) (int_max (lo *ℤ k) (hi *ℤ k)) (mul_ratio (whole_ratio k) x)
   contains-scale k = contains_from_encloses u _ _ (scaled_stands k) (subst (Encloses _ _) (scale_value k) (Encloses-scale k encloses))
 
   -- k x, where k is at least 0, and where it is at most 0
@@ -103,6 +104,25 @@ module _ {u lo hi : ℤ} {x : Ratio} (h : Contains u lo hi x) where
       value_is : (n u q i : ℚ) {c : ℚ} → n *ℚ i ≡ of_int (pos 1) → c ≡ u *ℚ n → u *ℚ q ≡ c *ℚ (q *ℚ i)
       value_is n u q i {c} e f = combine rational_ring (neg_ℚ (u *ℚ q)) e (combine rational_ring (neg_ℚ (q *ℚ i)) f (ring5 rational_ring n u q i c (λ n u q i c. search quotes depth 12) tt))
 
+-- from units of 1/(u n) to units of 1/u, rounded outward
+pub contains-units : (u n : ℤ) {lo hi : ℤ} {x : Ratio} → pos 1 ≤ℤ n → Contains (u *ℤ n) lo hi x → Contains u (floor_div lo n) (ceil_div hi n) x
+contains-units u n {lo} {hi} {x} n>0 h = contains_from_encloses u _ _ (stands h)
+    (Encloses-quot n n>0 (subst (Encloses lo hi) (value_is (of_int u) (of_int n) (ratio_value x) (of_int-mul u n)) (encloses h)))
+  where
+    value_is : (u n q : ℚ) {c : ℚ} → c ≡ u *ℚ n → c *ℚ q ≡ n *ℚ (u *ℚ q)
+    value_is u n q {c} f = combine rational_ring q f (ring4 rational_ring u n q c (λ u n q c. search quotes depth 12) tt)
+
+-- any fraction, rounded outward to whole units
+pub contains-rounded : (u : ℤ) (x : Ratio) → pos 0 <ℤ x.denominator → Contains u (floor_div (u *ℤ x.numerator) x.denominator) (ceil_div (u *ℤ x.numerator) x.denominator) x
+contains-rounded u x h =
+    let f = floor_div_le (u *ℤ x.numerator) x.denominator (omega (arith, ints)) in
+    let c = ceil_div_ge (u *ℤ x.numerator) x.denominator (omega (arith, ints)) in
+    record {
+      fraction = h;
+      above = subst (λ z. z ≤ℤ (u *ℤ x.numerator)) (*-comm x.denominator _) f;
+      below = subst (λ z. (u *ℤ x.numerator) ≤ℤ z) (*-comm x.denominator _) c;
+    }
+
 -- a whole number of units
 pub contains-whole : (u k : ℤ) → Contains u (u *ℤ k) (u *ℤ k) (whole_ratio k)
 contains-whole u k = contains_from_encloses u _ _ (RatioStands-whole k) (subst (Encloses _ _) (of_int-mul u k) (Encloses-whole (u *ℤ k)))
@@ -118,7 +138,7 @@ contains-sub h k = contains-add h (contains-neg k)
 
 -- x y, in the product of the units: the least and the greatest of the four products of ends
 pub contains-mul : {u v lo hi lo' hi' : ℤ} {x y : Ratio} → Contains u lo hi x → Contains v lo' hi' y
-    → Contains (u *ℤ v) (least_product lo hi lo' hi') (greatest_product lo hi lo' hi') (mul_ratio x y)
+    → Contains (u *ℤ v) (least (lo *ℤ lo') (lo *ℤ hi') (hi *ℤ lo') (hi *ℤ hi')) (greatest (lo *ℤ lo') (lo *ℤ hi') (hi *ℤ lo') (hi *ℤ hi')) (mul_ratio x y)
 contains-mul {u} {v} {lo} {hi} {lo'} {hi'} {x} {y} h k = contains_from_encloses (u *ℤ v) _ _ (RatioStands-mul (stands h) (stands k))
     (subst (Encloses _ _) (value_is (of_int u) (of_int v) (ratio_value x) (ratio_value y) (of_int-mul u v)) (Encloses-mul lo hi lo' hi' (encloses h) (encloses k)))
   where

@@ -10,6 +10,7 @@ use lib.Signed.{◌≤ℤ◌}
 use borrow.Author.Differences.{ints}
 use Rattle.std.specs.Int.{int_min, int_max}
 use Rattle.std.proofs.lemmas.Int.{clamps}
+use Rattle.exact_math.specs.Ends.{least, greatest}
 use Rattle.exact_math.specs.Rounding.{floor_div, ceil_div}
 use Rattle.exact_math.proofs.Ring.{int_ring}
 use Rattle.exact_math.proofs.RingTactic.{quotes, int_quotes, ring1, ring2, ring3}
@@ -76,7 +77,7 @@ Encloses-scale_down k {lo} {hi} {p} high h =
     turned a b {c} {d} e f h = subst₂ (λ l m. Encloses l m (of_int k *ℚ p)) e f (subst (Encloses c d) back h)
 
 -- by any whole number: the lower and the upper of the two multiples
-pub Encloses-scale : (k : ℤ) {lo hi : ℤ} {p : ℚ} → Encloses lo hi p → Encloses (int_min (k *ℤ lo) (k *ℤ hi)) (int_max (k *ℤ lo) (k *ℤ hi)) (of_int k *ℚ p)
+pub Encloses-scale : (k : ℤ) {lo hi : ℤ} {p : ℚ} → Encloses lo hi p → Encloses (int_min (lo *ℤ k) (hi *ℤ k)) (int_max (lo *ℤ k) (hi *ℤ k)) (of_int k *ℚ p)
 Encloses-scale (pos n) h = Encloses-wider (omega (arith, ints, clamps)) (omega (arith, ints, clamps)) (Encloses-scale_up (pos n) (omega (arith, ints)) h)
 Encloses-scale (negsuc n) h = Encloses-wider (omega (arith, ints, clamps)) (omega (arith, ints, clamps)) (Encloses-scale_down (negsuc n) (omega (arith, ints)) h)
 
@@ -134,26 +135,13 @@ product_lower {a} {b} {c} {d} {m} p q h k l r ac ad bc bd =
     back : neg_ℚ p *ℚ q ≤ℚ neg_ℚ m → m ≤ℚ p *ℚ q
     back s = from_difference (subst (λ z. of_int (pos 0) ≤ℚ z) (ring3 rational_ring m p q (λ m p q. search quotes depth 9) tt) (difference_nonneg s))
 
-abbrev pub least_of_four : ℤ → ℤ → ℤ → ℤ → ℤ
-least_of_four a b c d = int_min (int_min a b) (int_min c d)
-
-abbrev pub greatest_of_four : ℤ → ℤ → ℤ → ℤ → ℤ
-greatest_of_four a b c d = int_max (int_max a b) (int_max c d)
-
-least_le : (a b c d : ℤ) → (least_of_four a b c d ≤ℤ a) × (least_of_four a b c d ≤ℤ b) × (least_of_four a b c d ≤ℤ c) × (least_of_four a b c d ≤ℤ d)
+least_le : (a b c d : ℤ) → (least a b c d ≤ℤ a) × (least a b c d ≤ℤ b) × (least a b c d ≤ℤ c) × (least a b c d ≤ℤ d)
 least_le a b c d = omega (arith, ints, clamps)
 
-le_greatest : (a b c d : ℤ) → (a ≤ℤ greatest_of_four a b c d) × (b ≤ℤ greatest_of_four a b c d) × (c ≤ℤ greatest_of_four a b c d) × (d ≤ℤ greatest_of_four a b c d)
+le_greatest : (a b c d : ℤ) → (a ≤ℤ greatest a b c d) × (b ≤ℤ greatest a b c d) × (c ≤ℤ greatest a b c d) × (d ≤ℤ greatest a b c d)
 le_greatest a b c d = omega (arith, ints, clamps)
 
--- the least and the greatest of the four products of an end of [a, b] with an end of [c, d]
-abbrev pub least_product : ℤ → ℤ → ℤ → ℤ → ℤ
-least_product a b c d = least_of_four (a *ℤ c) (a *ℤ d) (b *ℤ c) (b *ℤ d)
-
-abbrev pub greatest_product : ℤ → ℤ → ℤ → ℤ → ℤ
-greatest_product a b c d = greatest_of_four (a *ℤ c) (a *ℤ d) (b *ℤ c) (b *ℤ d)
-
-pub Encloses-mul : (a b c d : ℤ) {p q : ℚ} → Encloses a b p → Encloses c d q → Encloses (least_product a b c d) (greatest_product a b c d) (p *ℚ q)
+pub Encloses-mul : (a b c d : ℤ) {p q : ℚ} → Encloses a b p → Encloses c d q → Encloses (least (a *ℤ c) (a *ℤ d) (b *ℤ c) (b *ℤ d)) (greatest (a *ℤ c) (a *ℤ d) (b *ℤ c) (b *ℤ d)) (p *ℚ q)
 Encloses-mul a b c d {p} {q} h k =
     let l = least_le (a *ℤ c) (a *ℤ d) (b *ℤ c) (b *ℤ d) in
     let g = le_greatest (a *ℤ c) (a *ℤ d) (b *ℤ c) (b *ℤ d) in
