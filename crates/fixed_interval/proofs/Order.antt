@@ -5,15 +5,21 @@ use Rattle.std.proofs.lemmas.Int.{ints, clamps}
 use Rattle.std.proofs.Common.{SFits, to_z, of_z, to_z-of_z}
 use Rattle.std.specs.Int.{w128, int_min, int_max}
 use Rattle.exact_math.specs.Contains.{Contains}
-use Rattle.exact_math.specs.Ends.{EndsWithin, times_ends, scale_ends}
+use Rattle.exact_math.specs.Ends.{least, greatest, EndsWithin, times_ends, scale_ends}
 use Rattle.exact_math.specs.Ratio.{Ratio}
 use Rattle.exact_math.specs.Within.{Within}
 use Rattle.exact_math.proofs.Bridges.{contains-wider}
 use Rattle.fixed_interval.specs.Interval.{ends_of}
 use Rattle.fixed_interval.specs.declared.Interval.{Interval}
-use Rattle.exact_math.proofs.Enclosures.{least_product, greatest_product}
 use Rattle.std.proofs.Math.IntN.{*ℤ_comm}
 use borrow.Author.Differences.{up, down}
+
+-- the least and the greatest of the four products of an end of [a, b] with an end of [c, d]
+abbrev pub least_product : ℤ → ℤ → ℤ → ℤ → ℤ
+least_product a b c d = least (a *ℤ c) (a *ℤ d) (b *ℤ c) (b *ℤ d)
+
+abbrev pub greatest_product : ℤ → ℤ → ℤ → ℤ → ℤ
+greatest_product a b c d = greatest (a *ℤ c) (a *ℤ d) (b *ℤ c) (b *ℤ d)
 
 -- a factor that is not negative keeps the order
 pub mul_up : (n : ℕ) (y z : ℤ) → y ≤ℤ z → (pos n *ℤ y) ≤ℤ (pos n *ℤ z)
@@ -141,13 +147,6 @@ high_fits i = fits_wide i.hi i.high_end
 
 pub min_le_max : (x y : ℤ) → int_min x y ≤ℤ int_max x y
 min_le_max x y = omega (arith, ints, clamps)
-
--- the same products with the factors the other way round
-pub left_min : (x y k : ℤ) → int_min (k *ℤ x) (k *ℤ y) ≡ int_min (x *ℤ k) (y *ℤ k)
-left_min x y k = rw (*ℤ_comm k x, *ℤ_comm k y) refl
-
-pub left_max : (x y k : ℤ) → int_max (k *ℤ x) (k *ℤ y) ≡ int_max (x *ℤ k) (y *ℤ k)
-left_max x y k = rw (*ℤ_comm k x, *ℤ_comm k y) refl
 
 -- what a helper returned, without the casts
 pub within_cast : (x : ℤ) → Within (2 ^ 126) x → Within (2 ^ 126) (to_z w128 (of_z w128 x))

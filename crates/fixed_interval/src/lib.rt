@@ -189,7 +189,7 @@ impl Interval {
         Interval { lo, hi }
     }
 
-    /// `[lo - r, hi + r]`, which contains what lies at most `r` from something that this interval contains.
+    /// `[lo - r, hi + r]`, which contains what differs by at most `r` from something that this interval contains.
     /// Conditions: `r >= 0`, and both ends are at most 2^126 in size.
     #[inline]
     pub fn widen(self, r: i128) -> Interval
@@ -197,7 +197,7 @@ impl Interval {
         requires fits { EndsWithin (2 ^ 126) (widen_ends (ends_of self) r) }
         ensures lo { result.lo ≡ self.lo -ℤ r }
         ensures hi { result.hi ≡ self.hi +ℤ r }
-        ensures contains { (x d : Ratio) → IntervalContains self x → Contains (pos 1) (neg_ℤ r) r d → IntervalContains result (add_ratio x d) }
+        ensures contains { (x y : Ratio) → IntervalContains self x → Contains (pos 1) (neg_ℤ r) r (sub_ratio y x) → IntervalContains result y }
     {
         Interval {
             lo: self.lo - r,
