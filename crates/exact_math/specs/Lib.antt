@@ -4,5 +4,7 @@ pub mod Ends
 pub mod Gaussian
 pub mod Ratio
 pub mod Rounding
+pub mod Sizes
+pub mod Sums
 pub mod Terms
 pub mod Within
