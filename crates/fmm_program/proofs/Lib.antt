@@ -1,1 +1,3 @@
+pub mod Examples
+pub mod LeafContains
 pub mod Orders
