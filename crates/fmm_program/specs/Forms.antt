@@ -1,5 +1,6 @@
 -- The forms of the command line.
-use Rattle.std.specs.Prelude.{ℕ, ◌≤◌, ◌≡◌, ◌≢◌, ◌⊎◌, List, [], ◌∷◌, codes, decimal}
+use Rattle.std.specs.Prelude.{ℕ, ◌≤◌, ◌≡◌, ◌≢◌, ◌⊎◌, List, [], ◌∷◌, codes}
+use Rattle.number_text.specs.Numbers.{IsUint}
 use Rattle.fmm_program.specs.declared.words.Opening.{Opening}
 use Rattle.fmm_program.specs.declared.words.Opening.TheVariants.{Nothing, SolveInput, SolveFile}
 
@@ -14,9 +15,13 @@ pub record IsCapacity (cap : ℕ) : Type 0 where
 
 -- the words are `solve ORDER CAP FILE`
 pub record IsSolve (words : List (List ℕ)) (order cap : ℕ) (file : List ℕ) : Type 0 where
+  pub order_word : List ℕ
+  pub cap_word : List ℕ
+  pub words_are : words ≡ codes "solve" ∷ order_word ∷ cap_word ∷ file ∷ []
+  pub spells_order : IsUint order_word order
+  pub spells_cap : IsUint cap_word cap
   pub is_order : IsOrder order
   pub is_capacity : IsCapacity cap
-  pub spelled : words ≡ codes "solve" ∷ decimal order ∷ decimal cap ∷ file ∷ []
 
 -- the words are of no form
 abbrev pub IsUsage : List (List ℕ) → Type 0
