@@ -1,5 +1,5 @@
 -- Reports of one leaf, computed from the definitions and compared with texts that were worked out elsewhere.
-use Rattle.std.proofs.Common.{◌≡◌, refl, pos, negsuc, ℤ, List, [], ◌∷◌, ◌++◌, codes}
+use Rattle.std.proofs.Common.{◌≡◌, refl, pos, negsuc, ℤ, [], ◌∷◌, ◌++◌, codes}
 use Rattle.std.specs.Fmt.{digits}
 use Rattle.particle_text.specs.declared.Kind.{Kind}
 use Rattle.particle_text.specs.declared.Kind.TheVariants.{Charge, Dipole, Vortex, Target}

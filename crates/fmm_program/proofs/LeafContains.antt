@@ -1,6 +1,6 @@
 -- The box of a target in one leaf contains the direct sum.
-use Rattle.std.proofs.Common.{◌≡◌, ◌^◌, refl, pos, List, [], ◌∷◌, true, filter, fold}
-use Rattle.std.specs.List.{All, AllByRecursion}
+use Rattle.std.proofs.Common.{◌≡◌, ◌^◌, pos, List, [], ◌∷◌, true, fold}
+use Rattle.std.specs.List.{AllByRecursion}
 use Rattle.std.proofs.lemmas.List.Elements.{filter_passes, recursion_from_All}
 use Rattle.exact_math.specs.Ends.{BoxEnds, BoxEndsContain, add_box, zero_box}
 use Rattle.exact_math.specs.Gaussian.{Gaussian}

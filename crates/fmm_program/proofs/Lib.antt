@@ -1,3 +1,3 @@
 pub mod Examples
 pub mod LeafContains
-pub mod Orders
+pub mod Commands
