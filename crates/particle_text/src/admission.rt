@@ -1,8 +1,7 @@
 //! Which points may join a list.
 ghost use Rattle.std.specs.Prelude.{◌≡◌, ℕ, ◌≤◌, ◌↔◌, IsTrue, IfSome, IfNone};
-ghost use Rattle.particle_text.specs.declared.TextKind.{TextKind};
 ghost use Rattle.particle_text.specs.Faults.{IsFirstKind, PointFault};
-ghost use Rattle.particle_text.specs.Limits.{InGrid, InRange, HasStrength, most_weight};
+ghost use Rattle.particle_text.specs.Limits.{CanJoin, InGrid, InRange, HasStrength, most_weight};
 
 use crate::{Kind, Mode, Point, TextKind};
 
@@ -40,7 +39,7 @@ pub fn admit(mode: Mode, live: u64, weight: u64, p: &Point) -> Option<TextKind>
     requires range { InRange p.now }
     requires weight { weight ≤ most_weight }
     ensures some { IfSome result (IsFirstKind (PointFault mode live weight p.now)) }
-    ensures none { IfNone result ((kind : TextKind) → PointFault mode live weight p.now kind → ⊥) }
+    ensures none { IfNone result (CanJoin mode live weight p.now) }
 {
     match (mode, p.kind) {
         (Mode::Velocity, Kind::Charge(_)) | (Mode::Field, Kind::Vortex(_)) => Some(TextKind::Mixed),

@@ -8,10 +8,12 @@ ghost use Rattle.particle_text.specs.Points.{pole, dipole};
 
 mod admission;
 mod line;
+mod reader;
 
 use admission::has_strength;
 pub use admission::{admit, in_grid};
 pub use line::parse_point;
+pub use reader::parse;
 
 use io_ports::Memory;
 use std::alloc::Global;
