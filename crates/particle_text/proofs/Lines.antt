@@ -1,11 +1,13 @@
 -- Lines of points, one behind the other.
-use Rattle.std.proofs.Common.{◌≡◌, ◌≢◌, ◌+◌, ◌<◌, ◌≤◌, ℕ, suc, List, [], ◌∷◌, ◌++◌, length, sym, ap, ◌∙◌, subst, refl, arith}
+use Rattle.std.proofs.Common.{◌≡◌, ◌≢◌, ◌+◌, ◌<◌, ◌≤◌, ℕ, suc, List, [], ◌∷◌, ◌++◌, length, sym, ap, ◌∙◌, subst, refl, inr, arith}
 use Rattle.std.proofs.lemmas.List.{append_assoc, append-nil, length_push, length-append}
 use Rattle.std.proofs.lemmas.List.Elements.{All-push, All-nil}
 use Rattle.std.proofs.lemmas.List.Sums.{sum_by_push, sum_by-append, sum_by-cons}
 use Rattle.number_text.specs.Parts.{IsCut}
 use Rattle.particle_text.specs.declared.Mode.{Mode}
 use Rattle.particle_text.specs.declared.Point.{Point}
+use Rattle.particle_text.specs.declared.TextKind.{TextKind}
+use Rattle.particle_text.specs.Faults.{FirstFault, IsFirstKind, LineFault}
 use Rattle.particle_text.specs.Limits.{InRange, FitsMode, WithinLimits, CanJoin, weight64, total_weight}
 use Rattle.particle_text.specs.Text.{BeginsWith, AreLines, Spells, head_line}
 
@@ -71,3 +73,21 @@ step bytes rest mode points weight p more far begins range joins =
       };
       weight_is = ap (λ w. w + weight64 p) far.weight_is ∙ sym (sum_by_push weight64 points p);
     }
+
+-- nothing is left
+pub whole : (bytes rest : List ℕ) (mode : Mode) (points : List Point) (weight : ℕ) → SoFar bytes rest mode points weight → rest ≡ [] → Spells bytes mode points
+whole bytes rest mode points weight far none =
+    let same : bytes ≡ far.good = far.parts ∙ ap (λ text. far.good ++ text) none ∙ append-nil far.good in
+    subst (λ text. Spells text mode points) (sym same) far.spelled
+
+-- something is left, and its first line is at fault
+pub at_fault : (bytes rest : List ℕ) (mode : Mode) (points : List Point) (weight : ℕ) (kind : TextKind) → SoFar bytes rest mode points weight → rest ≢ [] → IsFirstKind (LineFault mode (length points) weight rest) kind
+    → FirstFault bytes (length points + 2) kind
+at_fault bytes rest mode points weight kind far more fault = inr (mode, points, refl, record {
+  good = far.good;
+  rest = rest;
+  parts = far.parts;
+  spelled = far.spelled;
+  more = more;
+  fault = subst (λ w. IsFirstKind (LineFault mode (length points) w rest) kind) far.weight_is fault;
+})
