@@ -1,6 +1,7 @@
 -- The text of a list of particles: a head line, and a line for each particle. Each line ends with a line feed.
 use Rattle.std.specs.Prelude.{◌≡◌, ℕ, ℤ, List, [], ◌∷◌, ◌++◌, codes}
 use Rattle.std.specs.Fmt.{signed_decimal}
+use Rattle.std.specs.List.{flat_map}
 use Rattle.number_text.specs.Numbers.{AreInts}
 use Rattle.number_text.specs.Parts.{IsCut}
 use Rattle.particle_text.specs.declared.Kind.{Kind}
@@ -67,18 +68,14 @@ pub record Spells (bytes : List ℕ) (mode : Mode) (points : List Point) : Type 
 
 -- Each list within the limits has one text. Here it is, as a function of the list.
 
--- the numbers, with one space before each
-abbrev pub spaced : List ℤ → List ℕ
-spaced [] = []
-spaced (z ∷ zs) = space ∷ (signed_decimal z ++ spaced zs)
+-- the numbers, each behind a space, and the line feed
+abbrev pub numbers_text : List ℤ → List ℕ
+numbers_text [] = line_feed ∷ []
+numbers_text (z ∷ zs) = space ∷ (signed_decimal z ++ numbers_text zs)
 
 -- the line of p, with its line feed
 abbrev pub line_text : Point → List ℕ
-line_text p = name_of p.kind ++ (spaced (numbers_of p) ++ line_feed ∷ [])
-
-abbrev pub lines_text : List Point → List ℕ
-lines_text [] = []
-lines_text (p ∷ points) = line_text p ++ lines_text points
+line_text p = name_of p.kind ++ numbers_text (numbers_of p)
 
 abbrev pub text_of : Mode → List Point → List ℕ
-text_of mode points = head_line mode ++ line_feed ∷ lines_text points
+text_of mode points = head_line mode ++ line_feed ∷ [] ++ flat_map line_text points

@@ -9,12 +9,14 @@ ghost use Rattle.particle_text.specs.Points.{pole, dipole};
 mod admission;
 mod law;
 mod line;
+mod printer;
 mod reader;
 
 use admission::has_strength;
 pub use admission::{admit, in_grid};
 pub use law::one_reading;
 pub use line::parse_point;
+pub use printer::print;
 pub use reader::parse;
 
 use io_ports::Memory;
