@@ -1,1 +1,2 @@
 pub mod PairContains
+pub mod TermSizes
