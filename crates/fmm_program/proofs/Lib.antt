@@ -1,0 +1,3 @@
+pub mod Examples
+pub mod LeafContains
+pub mod Commands
