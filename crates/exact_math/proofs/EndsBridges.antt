@@ -4,10 +4,13 @@ use native.Mathlib.Omega.{arith}
 use lib.IntN.{ℤ, pos, neg_ℤ, ◌+ℤ◌, ◌-ℤ◌, ◌*ℤ◌}
 use lib.Signed.{◌<ℤ◌, ◌≤ℤ◌}
 use borrow.Author.Differences.{ints}
+use Prim.Native.Nat.{suc}
+use Rattle.std.specs.Prelude.{List, [], ◌∷◌, fold, All}
 use Rattle.exact_math.specs.Ends.{Ends, BoxEnds, point_ends, add_ends, neg_ends, sub_ends, scale_ends, times_ends, quot_ends, widen_ends, point_box, zero_box, add_box, neg_box, sub_box, scale_box, times_box, gscale_box, quot_box, gquot_box, widen_box, EndsContain, BoxEndsContain, EndsInside, BoxEndsInside}
 use Rattle.exact_math.specs.Gaussian.{Gaussian, gaussian}
 use Rattle.exact_math.specs.Ratio.{Ratio, whole_ratio, add_ratio, neg_ratio, sub_ratio, mul_ratio, over_ratio, ComplexRatio, zero_complex, whole_complex, add_complex, neg_complex, sub_complex, mul_complex, over_complex, re_part, im_part}
 use Rattle.exact_math.specs.Rounding.{floor_div, ceil_div}
+use Rattle.exact_math.specs.Sums.{sum_terms}
 use Rattle.exact_math.proofs.Ring.{int_ring}
 use Rattle.exact_math.proofs.RingTactic.{int_quotes, ring4, ring5, ring6}
 use Rattle.exact_math.proofs.Integers.{*-positive}
@@ -131,3 +134,14 @@ pub BoxEndsContain-rounded : (u : ℤ) (x : ComplexRatio) → pos 0 <ℤ x.denom
       im = record { lo = floor_div (u *ℤ x.im) x.denominator; hi = ceil_div (u *ℤ x.im) x.denominator };
     }) x
 BoxEndsContain-rounded u x h = record { re = contains-rounded u (re_part x) h; im = contains-rounded u (im_part x) h }
+
+-- ---- a list
+module _ {A : Type 0} (u : ℤ) (box : A → BoxEnds) (term : A → ComplexRatio) where
+  fold_contains : (xs : List A) {b : BoxEnds} {x : ComplexRatio} → BoxEndsContain u b x → All (λ a. BoxEndsContain u (box a) (term a)) xs
+      → BoxEndsContain u (fold (λ s a. add_box s (box a)) b xs) (fold (λ s a. add_complex s (term a)) x xs)
+  fold_contains [] h each = h
+  fold_contains (a ∷ xs) h each = fold_contains xs (BoxEndsContain-add h (each 0 a (omega arith))) (λ k d l. each (suc k) d (omega arith))
+
+  -- the sum of the boxes contains the sum of the terms
+  pub BoxEndsContain-sum : (xs : List A) → All (λ a. BoxEndsContain u (box a) (term a)) xs → BoxEndsContain u (fold (λ s a. add_box s (box a)) zero_box xs) (sum_terms term xs)
+  BoxEndsContain-sum xs each = fold_contains xs BoxEndsContain-zero each
