@@ -39,6 +39,7 @@ module _ (u lo hi : ℤ) {x : Ratio} {q : ℚ} (s : RatioStands x q) where
     below = cancel_mul (of_int x.denominator) D>0 (subst₂ (λ a b. a ≤ℚ b) (sym times) (sym (scaled hi)) ((of_int-≤ _ _).1 h.below));
   }
 
+  -- and back
   pub contains_from_encloses : Encloses lo hi (of_int u *ℚ q) → Contains u lo hi x
   contains_from_encloses h = record {
     fraction = s.positive;
@@ -46,6 +47,7 @@ module _ (u lo hi : ℤ) {x : Ratio} {q : ℚ} (s : RatioStands x q) where
     below = (of_int-≤ _ _).0 (subst₂ (λ a b. a ≤ℚ b) times (scaled hi) (mul_mono (of_int x.denominator) (≤-from_< D>0) h.below));
   }
 
+  -- both at once
   pub contains_is_enclosing : Contains u lo hi x ↔ Encloses lo hi (of_int u *ℚ q)
   contains_is_enclosing = (encloses_from_contains, contains_from_encloses)
 
@@ -85,6 +87,7 @@ module _ {u lo hi : ℤ} {x : Ratio} (h : Contains u lo hi x) where
   pub contains-scale_up : (k : ℤ) → pos 0 ≤ℤ k → Contains u (k *ℤ lo) (k *ℤ hi) (mul_ratio (whole_ratio k) x)
   contains-scale_up k p = contains_from_encloses u _ _ (scaled_stands k) (subst (Encloses _ _) (scale_value k) (Encloses-scale_up k p encloses))
 
+  -- k x, where k is at most 0
   pub contains-scale_down : (k : ℤ) → k ≤ℤ pos 0 → Contains u (k *ℤ hi) (k *ℤ lo) (mul_ratio (whole_ratio k) x)
   contains-scale_down k p = contains_from_encloses u _ _ (scaled_stands k) (subst (Encloses _ _) (scale_value k) (Encloses-scale_down k p encloses))
 

@@ -13,10 +13,12 @@ use Rattle.exact_math.proofs.ComplexSize.{size, size_add, size_mul}
 use Rattle.exact_math.proofs.Enclosures.{of_int-neg}
 use Rattle.exact_math.proofs.Gaussians.{value, value-add, value-mul}
 
+-- |a| of a whole number
 pub absolute_int : (a : ℤ) → absolute (of_int a) ≡ of_int (pos (unsigned_abs a))
 absolute_int (pos n) = absolute_is _ (nonneg_int n)
 absolute_int (negsuc n) = ap absolute (of_int-neg (pos (suc n))) ∙ absolute_neg _ ∙ absolute_is _ (nonneg_int (suc n))
 
+-- |g| of a Gaussian integer
 pub size_value : (g : Gaussian) → size (value g) ≡ of_int (pos (abs_gaussian g))
 size_value g = ap₂ ◌+ℚ◌ (absolute_int g.re) (absolute_int g.im) ∙ sym (of_int-add (pos (unsigned_abs g.re)) (pos (unsigned_abs g.im)))
 

@@ -57,6 +57,7 @@ paired-remainder p x y = paired-sum (suc p) _ _ (λ l.
     both : (x y : Gaussian) (m l : ℕ) → paired (mul_gaussian (pow_gaussian x m) (pow_gaussian y l)) ≡ G.mul (pow G (paired x) m) (pow G (paired y) l)
     both x y m l = paired-mul (pow_gaussian x m) (pow_gaussian y l) ∙ ap₂ G.mul (paired-pow x m) (paired-pow y l)
 
+-- 1 - (1 - x - y) T_P = N_P over Gaussian integers
 pub kernel_identity : KernelIdentity
 kernel_identity zero x y h = absurd (omega arith)
 kernel_identity (suc p) x y h = ap unpaired (whole_left ∙ Kernel.kernel_identity G (paired x) (paired y) p ∙ sym (paired-remainder p x y))

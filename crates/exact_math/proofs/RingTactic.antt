@@ -14,6 +14,7 @@ module _ (R : CommutativeRing) (env : List R.carrier) where
     pub expr : Expr
     pub is : denote R env expr ≡ x
 
+  -- both sides of an equation as expressions over env
   pub record Sides (x y : R.carrier) : Type 0 where
     pub left : Expr
     pub right : Expr
@@ -23,6 +24,7 @@ module _ (R : CommutativeRing) (env : List R.carrier) where
   abbrev pub quote_sides : (x y : R.carrier) → Quoted x → Quoted y → Sides x y
   quote_sides x y p q = record { left = p.expr; right = q.expr; left_is = p.is; right_is = q.is }
 
+  -- equal where the normal forms of both readings are one
   pub ring_by : {x y : R.carrier} (s : Sides x y) → Same (count env) s.left s.right → x ≡ y
   ring_by s c = sym s.left_is ∙ ring R env s.left s.right c ∙ s.right_is
 
@@ -58,6 +60,7 @@ module _ (R : CommutativeRing) where
       back : (x : R.carrier) → R.add (R.add x z) (R.neg z) ≡ x
       back x = R.add_assoc x z (R.neg z) ∙ ap (R.add x) (R.add_neg z) ∙ R.add_zero x
 
+  -- x = y from p = q, where x - y = c (p - q)
   pub combine : (c : R.carrier) {p q x y : R.carrier} → p ≡ q → R.add x (R.mul c q) ≡ R.add y (R.mul c p) → x ≡ y
   combine c {q} {x} {y} e h = cancel_right x y (R.mul c q) (h ∙ ap (λ w. R.add y (R.mul c w)) e)
 

@@ -1,8 +1,14 @@
 -- Values that are known beforehand, by computation.
 use mathlib.Core.Path.{◌≡◌, refl}
+use mathlib.Core.List.{[], ◌∷◌}
+use native.Mathlib.Omega.{arith}
 use lib.IntN.{pos, negsuc}
+use borrow.Author.Differences.{ints}
 use Rattle.exact_math.specs.Binomials.{choose}
+use Rattle.exact_math.specs.Contains.{Contains}
 use Rattle.exact_math.specs.Gaussian.{gaussian}
+use Rattle.exact_math.specs.Sums.{sum_terms}
+use Rattle.exact_math.specs.Terms.{pole_term, dipole_term}
 use Rattle.exact_math.specs.Rounding.{floor_div, ceil_div}
 use Rattle.exact_math.specs.TruncatedKernel.{truncated_kernel, kernel_remainder}
 use Rattle.exact_math.proofs.Ring.{CommutativeRing}
@@ -20,10 +26,12 @@ remainders : (kernel_remainder 2 (gaussian (pos 3) (pos 0)) (gaussian (pos 5) (p
     × (kernel_remainder 2 (gaussian (pos 1) (pos 2)) (gaussian (pos 3) (negsuc 0)) ≡ gaussian (pos 35) (pos 48))
 remainders = (refl, refl, refl)
 
--- 1 + x + y + 2 x y, the truncated kernel of order 2, and one of order 3: the sum of C(k + l, k) 2^k 3^l is 14 + 9 + 12 + ..
-kernels : (truncated_kernel 2 (gaussian (pos 3) (pos 0)) (gaussian (pos 5) (pos 0)) ≡ gaussian (pos 39) (pos 0))
-    × (truncated_kernel 1 (gaussian (pos 3) (pos 0)) (gaussian (pos 5) (pos 0)) ≡ gaussian (pos 1) (pos 0))
-kernels = (refl, refl)
+-- order 1 is 1, order 2 is 1 + x + y + 2 x y, and at 2 and 3 order 3 is 337 and leaves 1349 = 1 - (1 - 2 - 3) 337
+kernels : (truncated_kernel 1 (gaussian (pos 3) (pos 0)) (gaussian (pos 5) (pos 0)) ≡ gaussian (pos 1) (pos 0))
+    × (truncated_kernel 2 (gaussian (pos 3) (pos 0)) (gaussian (pos 5) (pos 0)) ≡ gaussian (pos 39) (pos 0))
+    × (truncated_kernel 3 (gaussian (pos 2) (pos 0)) (gaussian (pos 3) (pos 0)) ≡ gaussian (pos 337) (pos 0))
+    × (kernel_remainder 3 (gaussian (pos 2) (pos 0)) (gaussian (pos 3) (pos 0)) ≡ gaussian (pos 1349) (pos 0))
+kernels = (refl, refl, refl, refl)
 
 binomials : (choose 6 3 ≡ 20) × (choose 10 4 ≡ 210) × (choose 3 5 ≡ 0) × (choose 0 0 ≡ 1)
 binomials = (refl, refl, refl, refl)
@@ -31,3 +39,13 @@ binomials = (refl, refl, refl, refl)
 -- rounding of -7/2 and of 7/2
 roundings : (floor_div (negsuc 6) (pos 2) ≡ negsuc 3) × (ceil_div (negsuc 6) (pos 2) ≡ negsuc 2) × (floor_div (pos 7) (pos 2) ≡ pos 3) × (ceil_div (pos 7) (pos 2) ≡ pos 4)
 roundings = (refl, refl, refl, refl)
+
+-- 3/(1 + 2i) = (3 - 6i)/5, 1/(1 + i)^2 = -2i/4, and their sum from 0/1 on is (12 - 34i)/20
+terms : (pole_term (gaussian (pos 3) (pos 0)) (gaussian (pos 1) (pos 2)) ≡ record { re = pos 3; im = negsuc 5; denominator = pos 5 })
+    × (dipole_term (gaussian (pos 1) (pos 0)) (gaussian (pos 1) (pos 1)) ≡ record { re = pos 0; im = negsuc 1; denominator = pos 4 })
+    × (sum_terms (λ x. x) (pole_term (gaussian (pos 3) (pos 0)) (gaussian (pos 1) (pos 2)) ∷ dipole_term (gaussian (pos 1) (pos 0)) (gaussian (pos 1) (pos 1)) ∷ []) ≡ record { re = pos 12; im = negsuc 33; denominator = pos 20 })
+terms = (refl, refl, refl)
+
+-- in tenths, 3 and 4 are whole ends round 1/3
+third : Contains (pos 10) (pos 3) (pos 4) (record { numerator = pos 1; denominator = pos 3 })
+third = record { fraction = omega (arith, ints); above = omega (arith, ints); below = omega (arith, ints) }

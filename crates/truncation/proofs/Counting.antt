@@ -34,6 +34,7 @@ counted c m n q n>0 h = record {
     low : (k m : ℚ) → k *ℚ absolute q ≤ℚ m → of_int (pos 0) ≤ℚ k → neg_ℚ m ≤ℚ k *ℚ q
     low k m h k≥0 = le_using k k≥0 (neg_le_absolute q) (le_using (of_int (pos 1)) (nonneg_int 1) h (le_equal (ring4 rational_ring k m q (absolute q) (λ k m q a. search quotes depth 12) tt)))
 
+-- the bound in whole numbers, from one on the complex numbers that the fractions stand for
 pub truncated : {x y : ComplexRatio} {z w : ℂ} (m n : ℕ) → 1 ≤ n → Stands x z → Stands y w → PartsCounted (of_int (pos (2 ^ 40))) (z -ℂ w) (of_int (pos m) *ℚ inverse (of_int (pos n))) → Truncated x y m n
 truncated m n n>0 h k l = record {
   exact_fraction = h.positive;
@@ -54,6 +55,7 @@ Truncated-same x x' y m n p e f h = record {
     one : (a d b e c f : ℤ) → a *ℤ e ≡ b *ℤ d → (a *ℤ f +ℤ neg_ℤ c *ℤ d) *ℤ (e *ℤ f) ≡ (b *ℤ f +ℤ neg_ℤ c *ℤ e) *ℤ (d *ℤ f)
     one a d b e c f h = combine int_ring (f *ℤ f) h (ring6 int_ring a d b e c f (λ a d b e c f. search int_quotes depth 14) tt)
 
+-- the bounds of two sources add up
 pub Truncated-add : (x y x' y' : ComplexRatio) (m m' n : ℕ) → Truncated x y m n → Truncated x' y' m' n → Truncated (add_complex x x') (add_complex y y') (m + m') n
 Truncated-add x y x' y' m m' n h k =
     let p = *-positive _ _ h.exact_fraction k.exact_fraction in
@@ -78,6 +80,7 @@ Truncated-add x y x' y' m m' n h k =
     both : {x : Ratio} → Contains (pos (2 ^ 40 * n)) (neg_ℤ (pos m) +ℤ neg_ℤ (pos m')) (pos m +ℤ pos m') x → Contains (pos (2 ^ 40 * n)) (neg_ℤ (pos (m + m'))) (pos (m + m')) x
     both {x} h = subst (λ l. Contains (pos (2 ^ 40 * n)) l (pos (m + m')) x) less h
 
+-- no source
 pub Truncated-zero : (n : ℕ) → Truncated zero_complex zero_complex 0 n
 Truncated-zero n = record {
   exact_fraction = omega (arith, ints);
@@ -96,6 +99,7 @@ module _ {A : Type 0} (exact cut : A → ComplexRatio) (weight : A → ℕ) (T n
       (Truncated-add x y (exact a) (cut a) (w * T) (weight a * T) n h (each 0 a (omega arith))))
       (λ k d l. each (suc k) d (omega arith))
 
+  -- the bound of all sources together: total weight times T over n
   pub Truncated-sum : (xs : List A) → All (λ a. Truncated (exact a) (cut a) (weight a * T) n) xs → Truncated (sum_terms exact xs) (sum_terms cut xs) (fold (λ s a. s + weight a) 0 xs * T) n
   Truncated-sum xs each = Truncated-fold xs zero_complex zero_complex 0 (subst (λ m. Truncated zero_complex zero_complex m n) {x = 0} {y = 0 * T} (omega arith) (Truncated-zero n)) each
 
@@ -106,6 +110,7 @@ neg_floor m n = twice_negated (floor_div (neg_ℤ (pos m)) (pos n))
     twice_negated : (z : ℤ) → z ≡ neg_ℤ (neg_ℤ z)
     twice_negated z = ring1 int_ring z (λ z. search int_quotes depth 9) tt
 
+-- a box of the cut sum, widened by m/n rounded up, contains the exact sum
 pub radius_widens : RadiusWidens
 radius_widens m n exact cut box n>0 t h = record {
   re = contains-widen (ceil_div (pos m) (pos n)) (re_part exact) h.re (near t.re);

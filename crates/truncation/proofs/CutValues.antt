@@ -29,7 +29,7 @@ size_le m (pos n) h = let l = h.below in omega (arith, ints)
 size_le m (negsuc n) h = let l = h.above in omega (arith, ints)
 
 -- ---- reciprocals
-pub Stands-reciprocal : (g : Gaussian) → pos 0 <ℤ norm_gaussian g → Stands (reciprocal g) (inverse_ℂ (value g))
+Stands-reciprocal : (g : Gaussian) → pos 0 <ℤ norm_gaussian g → Stands (reciprocal g) (inverse_ℂ (value g))
 Stands-reciprocal g h = record {
   positive = h;
   is = same_pair rational_ring _ _
@@ -41,7 +41,7 @@ Stands-reciprocal g h = record {
 real_one : real (of_int (pos 1)) ≡ of_int_ℂ (pos 1)
 real_one = sym (parts-int (pos 1))
 
-pub Stands-invert : {x : ComplexRatio} {z : ℂ} → Stands x z → of_int (pos 0) <ℚ norm z → Stands (invert x) (inverse_ℂ z)
+Stands-invert : {x : ComplexRatio} {z : ℂ} → Stands x z → of_int (pos 0) <ℚ norm z → Stands (invert x) (inverse_ℂ z)
 Stands-invert {x} {z} h z>0 =
     let D = of_int x.denominator in
     let g = gaussian x.re x.im in
@@ -72,7 +72,7 @@ Stands-invert {x} {z} h z>0 =
     one : z *ℂ (value (gaussian x.denominator (pos 0)) *ℂ inverse_ℂ (value (gaussian x.re x.im))) ≡ of_int_ℂ (pos 1)
     one = sym (complex_rationals.mul_assoc _ _ _) ∙ ap (λ w. w *ℂ inverse_ℂ (value (gaussian x.re x.im))) g_is ∙ *ℂ-inverse _ g>0
 
-pub Stands-slope : {x : ComplexRatio} {z : ℂ} → Stands x z → (n : ℕ) → Stands (slope_complex x n) (pow_slope complex_rationals z n)
+Stands-slope : {x : ComplexRatio} {z : ℂ} → Stands x z → (n : ℕ) → Stands (slope_complex x n) (pow_slope complex_rationals z n)
 Stands-slope h zero = Stands-count 0
 Stands-slope h (suc n) = Stands-mul (Stands-count (suc n)) (Stands-pow h n)
 
@@ -81,13 +81,13 @@ Stands-slope h (suc n) = Stands-mul (Stands-count (suc n)) (Stands-pow h n)
 abbrev pub halved : Gaussian → ℂ
 halved g = complex_value (half g)
 
-pub Stands-half : (g : Gaussian) → Stands (half g) (halved g)
+Stands-half : (g : Gaussian) → Stands (half g) (halved g)
 Stands-half g = record { positive = omega (arith, ints); is = refl }
 
 two_inverse : of_int (pos 2) *ℚ inverse (of_int (pos 2)) ≡ of_int (pos 1)
 two_inverse = inverse_right _ (int-< _ _ (omega (arith, ints)))
 
-pub double_halved : (g : Gaussian) → double (halved g) ≡ value g
+double_halved : (g : Gaussian) → double (halved g) ≡ value g
 double_halved g = parts-add _ _ ∙ same_pair rational_ring _ _ (one (of_int g.re) (inverse (of_int (pos 2))) two_inverse) (one (of_int g.im) (inverse (of_int (pos 2))) two_inverse)
   where
     one : (a i : ℚ) → of_int (pos 2) *ℚ i ≡ of_int (pos 1) → a *ℚ i +ℚ a *ℚ i ≡ a
@@ -96,13 +96,14 @@ double_halved g = parts-add _ _ ∙ same_pair rational_ring _ _ (one (of_int g.r
 int_le : (m n : ℕ) → m ≤ n → of_int (pos m) ≤ℚ of_int (pos n)
 int_le m n h = (of_int-≤ _ _).1 (omega (arith, ints))
 
+-- an offset within s
 pub offset_parts : (g : Gaussian) (s : ℕ) → GaussianWithin s g → PartsAtMost (double (halved g)) (of_int (pos s))
 offset_parts g s h = subst (λ z. PartsAtMost z (of_int (pos s))) (sym (double_halved g)) (record {
   re = subst (λ q. q ≤ℚ of_int (pos s)) (sym (absolute_int g.re)) (int_le _ _ (size_le s g.re h.re));
   im = subst (λ q. q ≤ℚ of_int (pos s)) (sym (absolute_int g.im)) (int_le _ _ (size_le s g.im h.im));
 })
 
-pub value_parts : (g : Gaussian) (m : ℕ) → GaussianBeyond m g → SomePartAtLeast (value g) (of_int (pos m))
+value_parts : (g : Gaussian) (m : ℕ) → GaussianBeyond m g → SomePartAtLeast (value g) (of_int (pos m))
 value_parts g m (inl h) = inl (subst (λ q. of_int (pos m) ≤ℚ q) (sym (absolute_int g.re)) (int_le _ _ h))
 value_parts g m (inr h) = inr (subst (λ q. of_int (pos m) ≤ℚ q) (sym (absolute_int g.im)) (int_le _ _ h))
 
@@ -116,9 +117,11 @@ times_side_parts s e (inr h) = inr (one e.im h)
     one : (z : ℤ) → 2 ≤ unsigned_abs z → 2 * s ≤ unsigned_abs (pos s *ℤ z)
     one z h = let e = unsigned_abs-mul (pos s) z in let k = mul-le-mul_left s h in omega arith
 
+-- centres 2 sides apart
 pub centre_parts : (s : ℕ) (e : Gaussian) → GaussianBeyond 2 e → SomePartAtLeast (value (times_side s e)) (of_int (pos 2) *ℚ of_int (pos s))
 centre_parts s e h = subst (λ m. SomePartAtLeast (value (times_side s e)) m) (of_int-mul (pos 2) (pos s)) (value_parts (times_side s e) (2 * s) (times_side_parts s e h))
 
+-- a place beyond 3 sides
 pub far_parts : (s : ℕ) (z : Gaussian) → GaussianBeyond (3 * s) z → SomePartAtLeast (double (halved z)) (of_int (pos 3) *ℚ of_int (pos s))
 far_parts s z h = subst₂ SomePartAtLeast (sym (double_halved z)) (of_int-mul (pos 3) (pos s)) (value_parts z (3 * s) h)
 
@@ -136,6 +139,7 @@ pair_distance_is s e o q =
         same_pair rational_ring _ _ (one (pos s *ℤ e.re) q.re o.re) (one (pos s *ℤ e.im) q.im o.im)
         ∙ sym (ap₂ ◌+ℂ◌ (ap (λ z. z +ℂ value q) (parts-add (value (times_side s e)) (value (times_side s e))) ∙ parts-add _ (value q)) (parts-neg (value o)) ∙ parts-add _ _)
 
+-- twice w - u
 pub single_distance_is : (z o : Gaussian) → value (sub_gaussian z o) ≡ double (halved z -ℂ halved o)
 single_distance_is z o =
     value-sub z o ∙ ap₂ (λ a b. a -ℂ b) (sym (double_halved z)) (sym (double_halved o))
@@ -162,11 +166,13 @@ module _ (D : Gaussian) (delta : ℂ) (is : value D ≡ double delta) (delta>0 :
       one : (d j : ℂ) → d ≡ double delta → d *ℂ j ≡ of_int_ℂ (pos 1) → delta *ℂ double j ≡ of_int_ℂ (pos 1)
       one d j e f = combine complex_rationals (neg_ℂ j) e (combine complex_rationals (of_int_ℂ (pos 1)) f (ring3 complex_rationals d j delta (λ d j x. search quotes depth 12) tt))
 
+  -- a/delta
   pub Stands-halved_pole : (a : Gaussian) → Stands (halved_pole_term a D) (value a *ℂ inverse_ℂ delta)
   Stands-halved_pole a = subst (Stands (halved_pole_term a D))
       (ap (λ z. z *ℂ inverse_ℂ (value D)) (value-twice a) ∙ ring2 complex_rationals (value a) (inverse_ℂ (value D)) (λ a j. search quotes depth 12) tt ∙ ap (λ z. value a *ℂ z) inverse_is)
       (Stands-pole (twice a) D distance_positive)
 
+  -- b/delta^2
   pub Stands-halved_dipole : (b : Gaussian) → Stands (halved_dipole_term b D) (value b *ℂ (inverse_ℂ delta *ℂ inverse_ℂ delta))
   Stands-halved_dipole b = subst (Stands (halved_dipole_term b D))
       (ap (λ z. z *ℂ (inverse_ℂ (value D) *ℂ inverse_ℂ (value D))) (value-twice (twice b) ∙ ap double (value-twice b))
@@ -175,42 +181,48 @@ module _ (D : Gaussian) (delta : ℂ) (is : value D ≡ double delta) (delta>0 :
 
 -- ---- the cut terms
 module _ (P s : ℕ) (e o q : Gaussian) (d>0 : of_int (pos 0) <ℚ norm (value (times_side s e))) where
-  abbrev pub d : ℂ
+  abbrev d : ℂ
   d = value (times_side s e)
 
-  pub stands_d : Stands (reciprocal (times_side s e)) (inverse_ℂ d)
+  stands_d : Stands (reciprocal (times_side s e)) (inverse_ℂ d)
   stands_d = Stands-reciprocal (times_side s e) (norm_positive (times_side s e) d>0)
 
-  pub stands_x : Stands (mul_complex (half o) (reciprocal (times_side s e))) (halved o *ℂ inverse_ℂ d)
+  stands_x : Stands (mul_complex (half o) (reciprocal (times_side s e))) (halved o *ℂ inverse_ℂ d)
   stands_x = Stands-mul (Stands-half o) stands_d
 
-  pub stands_y : Stands (neg_complex (mul_complex (half q) (reciprocal (times_side s e)))) (neg_ℂ (halved q *ℂ inverse_ℂ d))
+  stands_y : Stands (neg_complex (mul_complex (half q) (reciprocal (times_side s e)))) (neg_ℂ (halved q *ℂ inverse_ℂ d))
   stands_y = Stands-neg (Stands-mul (Stands-half q) stands_d)
 
+  -- (a/d) T(u/d, -v/d)
   pub Stands-pair_pole_cut : (a : Gaussian) → Stands (pair_pole_cut P s e o q a)
       (value a *ℂ inverse_ℂ (value (times_side s e)) *ℂ kernel_sum complex_rationals (halved o *ℂ inverse_ℂ (value (times_side s e))) (neg_ℂ (halved q *ℂ inverse_ℂ (value (times_side s e)))) P P)
   Stands-pair_pole_cut a = Stands-mul (Stands-mul (Stands-whole a) stands_d) (Stands-sum P (λ l. Stands-sum P (λ k. Stands-mul (Stands-count (choose (k + l) k)) (Stands-mul (Stands-pow stands_x k) (Stands-pow stands_y l)))))
 
+  -- (b/d^2) T'(u/d, -v/d)
   pub Stands-pair_dipole_cut : (b : Gaussian) → Stands (pair_dipole_cut P s e o q b)
       (value b *ℂ (inverse_ℂ (value (times_side s e)) *ℂ inverse_ℂ (value (times_side s e))) *ℂ slope_sum complex_rationals (halved o *ℂ inverse_ℂ (value (times_side s e))) (neg_ℂ (halved q *ℂ inverse_ℂ (value (times_side s e)))) P P)
   Stands-pair_dipole_cut b = Stands-mul (Stands-mul (Stands-whole b) (Stands-mul stands_d stands_d)) (Stands-sum P (λ l. Stands-sum P (λ k. Stands-mul (Stands-count (choose (k + l) k)) (Stands-mul (Stands-slope stands_x k) (Stands-pow stands_y l)))))
 
 module _ (P : ℕ) (z o : Gaussian) (z>0 : of_int (pos 0) <ℚ norm (halved z)) where
-  pub stands_w : Stands (invert (half z)) (inverse_ℂ (halved z))
+  stands_w : Stands (invert (half z)) (inverse_ℂ (halved z))
   stands_w = Stands-invert (Stands-half z) z>0
 
+  -- a times the sum of u^k / w^(k + 1)
   pub Stands-multipole_pole_cut : (a : Gaussian) → Stands (multipole_pole_cut P z o a)
       (value a *ℂ sum_below complex_rationals P (λ k. pow complex_rationals (halved o) k *ℂ pow complex_rationals (inverse_ℂ (halved z)) (suc k)))
   Stands-multipole_pole_cut a = Stands-mul (Stands-whole a) (Stands-sum P (λ k. Stands-mul (Stands-pow (Stands-half o) k) (Stands-pow stands_w (suc k))))
 
+  -- b times the sum of k u^(k - 1) / w^(k + 1)
   pub Stands-multipole_dipole_cut : (b : Gaussian) → Stands (multipole_dipole_cut P z o b)
       (value b *ℂ sum_below complex_rationals P (λ k. pow_slope complex_rationals (halved o) k *ℂ pow complex_rationals (inverse_ℂ (halved z)) (suc k)))
   Stands-multipole_dipole_cut b = Stands-mul (Stands-whole b) (Stands-sum P (λ k. Stands-mul (Stands-slope (Stands-half o) k) (Stands-pow stands_w (suc k))))
 
+  -- -a times the sum of v^l / zeta^(l + 1)
   pub Stands-local_pole_cut : (a : Gaussian) → Stands (local_pole_cut P z o a)
       (neg_ℂ (value a) *ℂ sum_below complex_rationals P (λ l. pow complex_rationals (halved o) l *ℂ pow complex_rationals (inverse_ℂ (halved z)) (suc l)))
   Stands-local_pole_cut a = Stands-mul (Stands-neg (Stands-whole a)) (Stands-sum P (λ l. Stands-mul (Stands-pow (Stands-half o) l) (Stands-pow stands_w (suc l))))
 
+  -- b times the sum of (l + 1) v^l / zeta^(l + 2)
   pub Stands-local_dipole_cut : (b : Gaussian) → Stands (local_dipole_cut P z o b)
       (value b *ℂ sum_below complex_rationals P (λ l. of_int_ℂ (pos (suc l)) *ℂ pow complex_rationals (halved o) l *ℂ pow complex_rationals (inverse_ℂ (halved z)) (suc (suc l))))
   Stands-local_dipole_cut b = Stands-mul (Stands-whole b) (Stands-sum P (λ l. Stands-mul (Stands-mul (Stands-count (suc l)) (Stands-pow (Stands-half o) l)) (Stands-pow stands_w (suc (suc l)))))

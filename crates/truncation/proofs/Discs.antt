@@ -16,10 +16,12 @@ square_root_le p q low h = ⊎_elim (λ k. k) (λ k. absurd (not_≤ℚ _ _ (abo
     below k = le_using (of_int (pos 1)) (nonneg_int 1) h
         (le_plus (of_int (pos 2) *ℚ (q *ℚ (p -ℚ q))) (*ℚ-nonneg _ _ (nonneg_int 2) (*ℚ-nonneg _ _ low (difference_nonneg (≤-from_< k)))) (ring2 rational_ring p q (λ p q. search quotes depth 12) tt))
 
+-- z is at most r from 0
 pub record InDisc (z : ℂ) (r : ℚ) : Type 0 where
   pub bound : of_int (pos 0) ≤ℚ r
   pub norm_le : norm z ≤ℚ r *ℚ r
 
+-- 0 <= norm z
 pub norm_nonneg : (z : ℂ) → of_int (pos 0) ≤ℚ norm z
 norm_nonneg z = nonneg_add _ _ (square_nonneg z.re) (square_nonneg z.im)
 
@@ -44,12 +46,14 @@ sum_square a b c d r t h k l = subst₂ (λ p q. p ≤ℚ q)
     (ring2 rational_ring r t (λ r t. search quotes depth 12) tt)
     (add_mono (add_mono h k) (mul_mono (of_int (pos 2)) (nonneg_int 2) l))
 
+-- z + w
 pub InDisc-add : {z w : ℂ} {r t : ℚ} → InDisc z r → InDisc w t → InDisc (z +ℂ w) (r +ℚ t)
 InDisc-add {z} {w} {r} {t} h k = record {
   bound = nonneg_add _ _ h.bound k.bound;
   norm_le = rw (parts-add z w) (sum_square z.re z.im w.re w.im r t h.norm_le k.norm_le (dot_le h k));
 }
 
+-- z w
 pub InDisc-mul : {z w : ℂ} {r t : ℚ} → InDisc z r → InDisc w t → InDisc (z *ℂ w) (r *ℚ t)
 InDisc-mul {z} {w} {r} {t} h k = record {
   bound = *ℚ-nonneg _ _ h.bound k.bound;
@@ -57,28 +61,34 @@ InDisc-mul {z} {w} {r} {t} h k = record {
       (le_equal (ring2 rational_ring r t (λ r t. search quotes depth 9) tt)));
 }
 
+-- the norm of -z
 pub norm-neg : (z : ℂ) → norm (neg_ℂ z) ≡ norm z
 norm-neg z = ap norm (parts-neg z) ∙ ring2 rational_ring z.re z.im (λ a b. search quotes depth 9) tt
 
+-- -z
 pub InDisc-neg : {z : ℂ} {r : ℚ} → InDisc z r → InDisc (neg_ℂ z) r
 InDisc-neg {z} {r} h = record { bound = h.bound; norm_le = rw (norm-neg z) h.norm_le }
 
+-- a larger disc
 pub InDisc-mono : {z : ℂ} {r t : ℚ} → InDisc z r → r ≤ℚ t → InDisc z t
 InDisc-mono {z} {r} {t} h k = record {
   bound = ≤ℚ-trans _ _ _ h.bound k;
   norm_le = ≤ℚ-trans _ _ _ h.norm_le (product_mono h.bound (≤ℚ-trans _ _ _ h.bound k) k k);
 }
 
+-- n
 pub InDisc-int : (n : ℕ) → InDisc (of_int_ℂ (pos n)) (of_int (pos n))
 InDisc-int n = record {
   bound = nonneg_int n;
   norm_le = rw (parts-int (pos n)) (le_equal (ring1 rational_ring (of_int (pos n)) (λ a. search quotes depth 9) tt));
 }
 
+-- z^n
 pub InDisc-pow : {z : ℂ} {r : ℚ} → InDisc z r → (n : ℕ) → InDisc (pow complex_rationals z n) (pow rational_ring r n)
 InDisc-pow h zero = InDisc-int 1
 InDisc-pow h (suc n) = InDisc-mul h (InDisc-pow h n)
 
+-- a sum, with the sum of the radii
 pub InDisc-sum_below : (n : ℕ) (f : ℕ → ℂ) (g : ℕ → ℚ) → ((k : ℕ) → InDisc (f k) (g k)) → InDisc (sum_below complex_rationals n f) (sum_below rational_ring n g)
 InDisc-sum_below zero f g h = InDisc-int 0
 InDisc-sum_below (suc n) f g h = InDisc-add (InDisc-sum_below n f g h) (h n)
@@ -93,9 +103,11 @@ module _ {z : ℂ} {r : ℚ} (h : InDisc z r) where
       alone : p *ℚ p ≤ℚ p *ℚ p +ℚ q *ℚ q
       alone = le_plus (q *ℚ q) (square_nonneg q) (ring2 rational_ring p q (λ p q. search quotes depth 9) tt)
 
+  -- the real part
   pub InDisc-re : absolute z.re ≤ℚ r
   InDisc-re = part_le z.re z.im h.norm_le
 
+  -- the imaginary part
   pub InDisc-im : absolute z.im ≤ℚ r
   InDisc-im = part_le z.im z.re (≤ℚ-trans _ _ _ (le_equal (ring2 rational_ring z.re z.im (λ a b. search quotes depth 9) tt)) h.norm_le)
 

@@ -15,9 +15,11 @@ pub record PartsAtMost (z : ℂ) (m : ℚ) : Type 0 where
 abbrev pub SomePartAtLeast : ℂ → ℚ → Type 0
 SomePartAtLeast z m = (m ≤ℚ absolute z.re) ⊎ (m ≤ℚ absolute z.im)
 
+-- 2 z
 abbrev pub double : ℂ → ℂ
 double z = z +ℂ z
 
+-- what is at least a positive number is positive
 pub positive_above : {a b : ℚ} → of_int (pos 0) <ℚ a → a ≤ℚ b → of_int (pos 0) <ℚ b
 positive_above h k = <ℚ-from_not _ _ (λ l. not_≤ℚ _ _ h (≤ℚ-trans _ _ _ k l))
 
@@ -93,10 +95,12 @@ parts-sub : (z w : ℂ) → ((z -ℂ w).re ≡ z.re -ℚ w.re) × ((z -ℂ w).im
 parts-sub z w =
     (ap (λ a. a.re) (parts-add z (neg_ℂ w)) ∙ ap (λ a. z.re +ℚ a.re) (parts-neg w), ap (λ a. a.im) (parts-add z (neg_ℂ w)) ∙ ap (λ a. z.im +ℚ a.im) (parts-neg w))
 
+-- places whose centres are two sides apart are a side apart
 pub places_apart : {s : ℚ} (d u v : ℂ) → SomePartAtLeast d (of_int (pos 2) *ℚ s) → PartsAtMost (double u) s → PartsAtMost (double v) s → SomePartAtLeast (d +ℂ v -ℂ u) s
 places_apart {s} d u v (inl h) u_near v_near = inl (subst (λ a. s ≤ℚ absolute a) (sym ((parts-sub (d +ℂ v) u).0 ∙ ap (λ a. a.re -ℚ u.re) (parts-add d v))) (far_pair d.re u.re v.re s h (offset_re u u_near) (offset_re v v_near)))
 places_apart {s} d u v (inr h) u_near v_near = inr (subst (λ a. s ≤ℚ absolute a) (sym ((parts-sub (d +ℂ v) u).1 ∙ ap (λ a. a.im -ℚ u.im) (parts-add d v))) (far_pair d.im u.im v.im s h (offset_im u u_near) (offset_im v v_near)))
 
+-- a place beyond three half sides of a centre is a side apart from the cell
 pub place_apart : {s : ℚ} (w u : ℂ) → SomePartAtLeast (double w) (of_int (pos 3) *ℚ s) → PartsAtMost (double u) s → SomePartAtLeast (w -ℂ u) s
 place_apart {s} w u (inl h) u_near = inl (subst (λ a. s ≤ℚ absolute a) (sym (parts-sub w u).0) (far_single w.re u.re s (subst (λ z. of_int (pos 3) *ℚ s ≤ℚ absolute z.re) (parts-add w w) h) (offset_re u u_near)))
 place_apart {s} w u (inr h) u_near = inr (subst (λ a. s ≤ℚ absolute a) (sym (parts-sub w u).1) (far_single w.im u.im s (subst (λ z. of_int (pos 3) *ℚ s ≤ℚ absolute z.im) (parts-add w w) h) (offset_im u u_near)))
@@ -121,6 +125,7 @@ times_ratio n m h = turn (of_int (pos m)) (of_int (pos n)) (inverse (of_int (pos
     turn : (m n i : ℚ) → m *ℚ i ≡ of_int (pos 1) → m *ℚ (n *ℚ i) ≡ n
     turn m n i e = combine rational_ring n e (ring3 rational_ring m n i (λ m n i. search quotes depth 9) tt)
 
+-- 0 <= n/m
 pub ratio_nonneg : (n m : ℕ) → 0 < m → of_int (pos 0) ≤ℚ ratio (pos n) (pos m)
 ratio_nonneg n m h = *ℚ-nonneg _ _ (nonneg_int n) (≤-from_< (inverse_positive _ (int-< _ _ (omega (arith, ints)))))
 

@@ -25,11 +25,13 @@ positive_quarter x y h =
     quarter n h = omega (arith, ints)
 
 module _ (delta a : Gaussian) (cut : ComplexRatio) (m n : ℕ) where
+  -- the term of a pole at the distance delta
   pub at_places_pole : Truncated (halved_pole_term a (twice delta)) cut m n → Truncated (pole_term a delta) cut m n
   at_places_pole h = Truncated-same (halved_pole_term a (twice delta)) (pole_term a delta) cut m n (positive_quarter delta.re delta.im h.exact_fraction)
       (ring4 int_ring a.re a.im delta.re delta.im (λ a b x y. search int_quotes depth 16) tt)
       (ring4 int_ring a.re a.im delta.re delta.im (λ a b x y. search int_quotes depth 16) tt) h
 
+  -- the term of a dipole at the distance delta
   pub at_places_dipole : pos 0 <ℤ norm_gaussian delta → Truncated (halved_dipole_term a (twice delta)) cut m n → Truncated (dipole_term a delta) cut m n
   at_places_dipole p h = Truncated-same (halved_dipole_term a (twice delta)) (dipole_term a delta) cut m n (*-positive _ _ p p)
       (ring4 int_ring a.re a.im delta.re delta.im (λ a b x y. search int_quotes depth 20) tt)
@@ -72,6 +74,7 @@ offsets_twice a b c = ap₂ gaussian (one a.re b.re c.re) (one a.im b.im c.im)
     one : (a b c : ℤ) → (a +ℤ a -ℤ c) -ℤ (b +ℤ b -ℤ c) ≡ (a -ℤ b) +ℤ (a -ℤ b)
     one a b c = omega (arith, ints)
 
+-- two cells of one side
 pub pair_entries : PairEntries
 pair_entries P s e b c t order side apart centres target xs sources =
     Truncated-sum (exact_term t) (pair_cut P s e b c t) (weight P) (pair_tail P) s xs (λ k d l. one _ (sources k d l))
@@ -85,6 +88,7 @@ pair_entries P s e b c t order side apart centres target xs sources =
         one_source P (pair_tail P) s x (sub_gaussian t x.place) (pair_distance s e o q) _ _ (pair_distance_twice s e b c t x.place centres)
         (holds.pole s e o q x.strength places) (holds.dipole s e o q x.strength places)
 
+-- a far target
 pub multipole_entries : MultipoleEntries
 multipole_entries P s c t order side far xs sources =
     Truncated-sum (exact_term t) (multipole_cut P c t) (weight P) (single_tail P) s xs (λ k d l. one _ (sources k d l))
@@ -98,6 +102,7 @@ multipole_entries P s c t order side far xs sources =
         one_source P (single_tail P) s x (sub_gaussian t x.place) (sub_gaussian z o) _ _ (offsets_twice t x.place c)
         (holds.multipole_pole s z o x.strength places) (holds.multipole_dipole s z o x.strength places)
 
+-- far sources
 pub local_entries : LocalEntries
 local_entries P s b t order side near xs sources =
     Truncated-sum (exact_term t) (local_cut P b t) (weight P) (single_tail P) s xs (λ k d l. one _ (sources k d l))

@@ -16,11 +16,11 @@ InDisc-pow_slope h zero = InDisc-int 0
 InDisc-pow_slope h (suc k) = InDisc-mul (InDisc-int (suc k)) (InDisc-pow h k)
 
 module _ (r rho : ℚ) (low : of_int (pos 0) ≤ℚ r) (high : r ≤ℚ of_int (pos 1)) (rho_low : of_int (pos 0) ≤ℚ rho) (rho_is : rho *ℚ (of_int (pos 1) -ℚ r) ≡ r) (p : ℕ) where
-  abbrev pub counts : ℚ
+  abbrev counts : ℚ
   counts = sum_below rational_ring (suc p) (count_term r low high p)
 
   -- r^P (C(P - 1, 0) + C(P, 1) r + ..) <= rho^P
-  pub power_times_counts : pow rational_ring r (suc p) *ℚ counts ≤ℚ pow rational_ring rho (suc p)
+  power_times_counts : pow rational_ring r (suc p) *ℚ counts ≤ℚ pow rational_ring rho (suc p)
   power_times_counts =
       let k = mul_mono (pow rational_ring rho (suc p)) (nonneg_pow rho (suc p) rho_low) (counts_bound r low high p) in
       subst₂ (λ a b. a ≤ℚ b) (same (pow rational_ring rho (suc p)) (pow rational_ring (of_int (pos 1) -ℚ r) (suc p)) counts
@@ -31,6 +31,7 @@ module _ (r rho : ℚ) (low : of_int (pos 0) ≤ℚ r) (high : r ≤ℚ of_int (
       same a b c {d} e = combine rational_ring c e (ring4 rational_ring a b c d (λ a b c d. search quotes depth 9) tt)
 
   module _ (x y : ℂ) (x_within : InDisc x r) (y_within : InDisc y r) where
+    -- |N| <= 2 rho^P
     pub remainder_within : InDisc (kernel_remainder complex_rationals x y p) (of_int (pos 2) *ℚ pow rational_ring rho (suc p))
     remainder_within = InDisc-mono (InDisc-sum_below (suc p) _ _ (λ l.
         InDisc-mul (InDisc-int (choose (p + l) l)) (InDisc-add (InDisc-mul (InDisc-pow x_within (suc p)) (InDisc-pow y_within l)) (InDisc-mul (InDisc-pow y_within (suc p)) (InDisc-pow x_within l)))))
@@ -50,10 +51,12 @@ module _ (r rho : ℚ) (low : of_int (pos 0) ≤ℚ r) (high : r ≤ℚ of_int (
     abbrev pub slope_bound : ℚ
     slope_bound = sum_below rational_ring (suc p) (λ l. of_int (pos (choose (p + l) l)) *ℚ (pow_slope rational_ring r (suc p) *ℚ pow rational_ring r l +ℚ pow rational_ring r (suc p) *ℚ pow_slope rational_ring r l))
 
+    -- |N'| <= its bound
     pub slope_within : InDisc (remainder_slope complex_rationals x y p) slope_bound
     slope_within = InDisc-sum_below (suc p) _ _ (λ l.
         InDisc-mul (InDisc-int (choose (p + l) l)) (InDisc-add (InDisc-mul (InDisc-pow_slope x_within (suc p)) (InDisc-pow y_within l)) (InDisc-mul (InDisc-pow y_within (suc p)) (InDisc-pow_slope x_within l))))
 
+    -- r times that bound is at most (2 P - 1) rho^P
     pub slope_bound_le : r *ℚ slope_bound ≤ℚ of_int (pos (2 * p + 1)) *ℚ pow rational_ring rho (suc p)
     slope_bound_le =
         ≤ℚ-trans _ _ _ (le_equal (sym (sum_below-mul rational_ring r (suc p) _)))

@@ -122,12 +122,14 @@ module _ (s : ℕ) (z o : Gaussian) (h : SinglePlaces s z o) where
       (recount (dipole_total P b (single_tail P) (inverse (of_int (pos s))))
       (Single.turned_dipole_bound (of_int (pos s)) single_large (halved z) (halved o) far near P (of_int (pos (2 ^ 40))) (of_int (pos (single_tail P))) (nonneg_int (2 ^ 40)) (single_tail_dominates P) k (value b)))
 
+-- two cells of one side
 pub pair_truncation : PairTruncation
 pair_truncation P h = record {
   pole = λ s e o q a k. pair_pole s e o q k P h a;
   dipole = λ s e o q b k. pair_dipole s e o q k P h b;
 }
 
+-- a cell and a far place
 pub single_truncation : SingleTruncation
 single_truncation P h = record {
   multipole_pole = λ s z o a k. multipole_pole s z o k P a;

@@ -5,6 +5,7 @@ pub use Rattle.truncation.specs.Tails.{ceiling, pair_tail, single_tail}
 use Prim.Native.Nat.{◌+◌, ◌*◌, ◌-◌, ◌/◌, ◌^◌, ◌≤◌, ◌<◌}
 use native.Mathlib.Nat.{div-add-mod, mod-lt}
 
+-- a <= n ceil(a/n)
 pub ceiling_ge : (a n : ℕ) → 0 < n → a ≤ n * ceiling a n
 ceiling_ge a n h =
     let e = div-add-mod (a + (n - 1)) n in
@@ -30,15 +31,18 @@ pub pair_tail-next : (k : ℕ) → pair_tail (k + 1) ≡ (17 * pair_tail k + 30)
 unfolding pair_tail
 pair_tail-next k = ap pair_tail {x = k + 1} {y = suc k} (omega arith)
 
+-- the next value of the single tail, as code computes it
 pub single_tail-next : (k : ℕ) → single_tail (k + 1) ≡ (17 * single_tail k + 35) / 36
 unfolding single_tail
 single_tail-next k = ap single_tail {x = k + 1} {y = suc k} (omega arith)
 
+-- no tail is above its start
 pub pair_tail_le : (k : ℕ) → pair_tail k ≤ 2 ^ 41
 unfolding pair_tail
 pair_tail_le zero = omega arith
 pair_tail_le (suc k) = let h = pair_tail_le k in omega arith
 
+-- nor the single one
 pub single_tail_le : (k : ℕ) → single_tail k ≤ 2 ^ 40
 unfolding single_tail
 single_tail_le zero = omega arith
@@ -46,6 +50,7 @@ single_tail_le (suc k) = let h = single_tail_le k in omega arith
 
 -- m rho = n, and t goes on with at least n/m times its value, so t P >= t 0 rho^P
 module _ (n m : ℕ) (positive : 0 < m) (rho : ℚ) (is : of_int (pos m) *ℚ rho ≡ of_int (pos n)) (t : ℕ → ℕ) (step : (k : ℕ) → n * t k ≤ m * t (suc k)) where
+  -- so t P is at least t 0 times rho^P
   pub tail_dominates : (P : ℕ) → of_int (pos (t 0)) *ℚ pow rational_ring rho P ≤ℚ of_int (pos (t P))
   tail_dominates zero = le_equal (ring1 rational_ring (of_int (pos (t 0))) (λ t. search quotes depth 9) tt)
   tail_dominates (suc P) = cancel_mul (of_int (pos m)) (int-< _ _ (omega (arith, ints)))
@@ -57,18 +62,22 @@ module _ (n m : ℕ) (positive : 0 < m) (rho : ℚ) (is : of_int (pos m) *ℚ rh
       next : n * t P ≤ m * t (suc P) → of_int (pos n) *ℚ of_int (pos (t P)) ≤ℚ of_int (pos m) *ℚ of_int (pos (t (suc P)))
       next h = subst₂ (λ a b. a ≤ℚ b) (of_int-mul (pos n) (pos (t P))) (of_int-mul (pos m) (pos (t (suc P)))) ((of_int-≤ _ _).1 (omega (arith, ints)))
 
+-- 17/31 of a tail is at most the next
 pub pair_tail-step : (k : ℕ) → 17 * pair_tail k ≤ 31 * pair_tail (suc k)
 unfolding pair_tail
 pair_tail-step k = ceiling_ge (17 * pair_tail k) 31 (omega arith)
 
+-- 17/36 of a tail is at most the next
 pub single_tail-step : (k : ℕ) → 17 * single_tail k ≤ 36 * single_tail (suc k)
 unfolding single_tail
 single_tail-step k = ceiling_ge (17 * single_tail k) 36 (omega arith)
 
+-- the pair tail begins at 2 2^40
 pub pair_tail-start : pair_tail 0 ≡ 2 * 2 ^ 40
 unfolding pair_tail
 pair_tail-start = refl
 
+-- the single tail begins at 2^40
 pub single_tail-start : single_tail 0 ≡ 2 ^ 40
 unfolding single_tail
 single_tail-start = refl
