@@ -8,7 +8,7 @@ use Prim.Native.Nat.{suc}
 use Rattle.std.specs.Prelude.{List, [], ◌∷◌, fold, All}
 use Rattle.exact_math.specs.Ends.{Ends, BoxEnds, point_ends, add_ends, neg_ends, sub_ends, scale_ends, times_ends, quot_ends, widen_ends, point_box, zero_box, add_box, neg_box, sub_box, scale_box, times_box, gscale_box, quot_box, gquot_box, widen_box, EndsContain, BoxEndsContain, EndsInside, BoxEndsInside}
 use Rattle.exact_math.specs.Gaussian.{Gaussian, gaussian}
-use Rattle.exact_math.specs.Ratio.{Ratio, whole_ratio, add_ratio, neg_ratio, sub_ratio, mul_ratio, over_ratio, ComplexRatio, zero_complex, whole_complex, add_complex, neg_complex, sub_complex, mul_complex, over_complex, re_part, im_part}
+use Rattle.exact_math.specs.Ratio.{Ratio, whole_ratio, add_ratio, neg_ratio, sub_ratio, mul_ratio, over_ratio, ComplexRatio, SameComplex, zero_complex, whole_complex, add_complex, neg_complex, sub_complex, mul_complex, over_complex, re_part, im_part}
 use Rattle.exact_math.specs.Rounding.{floor_div, ceil_div}
 use Rattle.exact_math.specs.Sums.{sum_terms}
 use Rattle.exact_math.proofs.Ring.{int_ring}
@@ -67,8 +67,8 @@ module _ {u : ℤ} {b : BoxEnds} {x : ComplexRatio} (h : BoxEndsContain u b x) w
   BoxEndsContain-quot n n>0 = record { re = contains-quot h.re n n>0; im = contains-quot h.im n n>0 }
 
   -- another fraction of the same value
-  pub BoxEndsContain-same : (y : ComplexRatio) → pos 0 <ℤ y.denominator → x.re *ℤ y.denominator ≡ y.re *ℤ x.denominator → x.im *ℤ y.denominator ≡ y.im *ℤ x.denominator → BoxEndsContain u b y
-  BoxEndsContain-same y p e f = record { re = contains-same h.re (re_part y) p e; im = contains-same h.im (im_part y) p f }
+  pub BoxEndsContain-same : (y : ComplexRatio) → pos 0 <ℤ y.denominator → SameComplex x y → BoxEndsContain u b y
+  BoxEndsContain-same y p e = record { re = contains-same h.re (re_part y) p e.re; im = contains-same h.im (im_part y) p e.im }
 
   whole_positive : pos 0 <ℤ (pos 1 *ℤ x.denominator)
   whole_positive = *-positive (pos 1) _ (omega (arith, ints)) h.re.fraction

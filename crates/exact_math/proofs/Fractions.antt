@@ -8,14 +8,14 @@ use lib.Signed.{◌<ℤ◌, ◌≤ℤ◌}
 use borrow.Author.Differences.{ints}
 use Rattle.std.specs.List.{fold, All}
 use Rattle.exact_math.specs.Gaussian.{Gaussian, gaussian, mul_gaussian}
-use Rattle.exact_math.specs.Ratio.{Ratio, whole_ratio, add_ratio, neg_ratio, sub_ratio, mul_ratio, over_ratio, ComplexRatio, zero_complex, whole_complex, add_complex, neg_complex, sub_complex, mul_complex, over_complex, re_part, im_part}
-use Rattle.exact_math.specs.Sums.{count, pow_complex, sum_complex, sum_terms}
+use Rattle.exact_math.specs.Ratio.{Ratio, whole_ratio, add_ratio, neg_ratio, sub_ratio, mul_ratio, over_ratio, ComplexRatio, SameComplex, zero_complex, whole_complex, add_complex, neg_complex, sub_complex, mul_complex, over_complex, re_part, im_part}
+use Rattle.exact_math.specs.Sums.{count, pow_complex, slope_complex, sum_complex, sum_terms}
 use Rattle.exact_math.proofs.Ring.{pow}
 use Rattle.exact_math.proofs.RingTactic.{quotes, combine, ring1, ring2, ring3, ring4, ring5, ring6}
 use Rattle.exact_math.proofs.Integers.{*-positive}
 use Rattle.exact_math.proofs.Sums.{sum_below, sum_list}
-use Rattle.exact_math.proofs.QuadraticExtension.{same_pair}
-use Rattle.exact_math.proofs.Rationals.{ℚ, rational_ring, of_int, of_int-add, of_int-mul, ◌+ℚ◌, ◌*ℚ◌, ◌-ℚ◌, neg_ℚ, inverse}
+use Rattle.exact_math.proofs.QuadraticExtension.{same_pair, pow_slope}
+use Rattle.exact_math.proofs.Rationals.{ℚ, rational_ring, of_int, of_int-add, of_int-mul, of_int-≤, ◌+ℚ◌, ◌*ℚ◌, ◌-ℚ◌, neg_ℚ, inverse, ◌≤ℚ◌, ≤ℚ-refl}
 use Rattle.exact_math.proofs.RationalOrder.{int-<, inverse_right, inverse-mul}
 use Rattle.exact_math.proofs.ComplexRationals.{ℂ, complex, complex_rationals, of_int_ℂ, ◌+ℂ◌, ◌*ℂ◌, ◌-ℂ◌, neg_ℂ, parts-add, parts-neg, parts-mul, parts-int, real, real-mul}
 use Rattle.exact_math.proofs.Enclosures.{of_int-neg}
@@ -197,6 +197,11 @@ pub Stands-pow : {x : ComplexRatio} {z : ℂ} → Stands x z → (n : ℕ) → S
 Stands-pow h zero = Stands-count 1
 Stands-pow h (suc n) = Stands-mul h (Stands-pow h n)
 
+-- n z^(n - 1)
+pub Stands-slope : {x : ComplexRatio} {z : ℂ} → Stands x z → (n : ℕ) → Stands (slope_complex x n) (pow_slope complex_rationals z n)
+Stands-slope h zero = Stands-count 0
+Stands-slope h (suc n) = Stands-mul (Stands-count (suc n)) (Stands-pow h n)
+
 -- the sum of the first n terms
 pub Stands-sum : (n : ℕ) {f : ℕ → ComplexRatio} {g : ℕ → ℂ} → ((k : ℕ) → Stands (f k) (g k)) → Stands (sum_complex n f) (sum_below complex_rationals n g)
 Stands-sum zero h = Stands-count 0
@@ -243,3 +248,25 @@ ratio-same a d b e p q h =
     (combine rational_ring (neg_ℚ (of_int a *ℚ inverse (of_int d))) (inverse_right (of_int e) (int-< _ _ q))
     (combine rational_ring (of_int b *ℚ inverse (of_int e)) (inverse_right (of_int d) (int-< _ _ p))
     (ring6 rational_ring (of_int a) (of_int b) (of_int d) (of_int e) (inverse (of_int d)) (inverse (of_int e)) (λ a b d e i j. search quotes depth 12) tt)))
+
+-- whole numbers that are equal as rational numbers are equal
+pub of_int-injective : (a b : ℤ) → of_int a ≡ of_int b → a ≡ b
+of_int-injective a b e =
+    let h : a ≤ℤ b = (of_int-≤ a b).0 (subst (λ q. of_int a ≤ℚ q) e (≤ℚ-refl _)) in
+    let k : b ≤ℤ a = (of_int-≤ b a).0 (subst (λ q. q ≤ℚ of_int a) e (≤ℚ-refl _)) in
+    omega (arith, ints)
+
+-- equal as numbers, equal by cross multiplication
+pub cross_from_ratio : (a d b e : ℤ) → pos 0 <ℤ d → pos 0 <ℤ e → ratio a d ≡ ratio b e → a *ℤ e ≡ b *ℤ d
+cross_from_ratio a d b e p q h = of_int-injective _ _
+    (of_int-mul a e ∙ ap (λ z. z *ℚ of_int e) (sym (times_denominator a d p)) ∙ turn (of_int d) (ratio a d) (of_int e) (ratio b e) h ∙ ap (λ z. z *ℚ of_int d) (times_denominator b e q) ∙ sym (of_int-mul b d))
+  where
+    turn : (d r e s : ℚ) → r ≡ s → d *ℚ r *ℚ e ≡ e *ℚ s *ℚ d
+    turn d r e s h = combine rational_ring (d *ℚ e) h (ring4 rational_ring d r e s (λ d r e s. search quotes depth 12) tt)
+
+-- two fractions that stand for one number
+pub same_from_stands : {x y : ComplexRatio} {z : ℂ} → Stands x z → Stands y z → SameComplex x y
+same_from_stands {x} {y} h k = record {
+  re = cross_from_ratio x.re x.denominator y.re y.denominator h.positive k.positive (ap (λ w. w.re) (h.is ∙ sym k.is));
+  im = cross_from_ratio x.im x.denominator y.im y.denominator h.positive k.positive (ap (λ w. w.im) (h.is ∙ sym k.is));
+}

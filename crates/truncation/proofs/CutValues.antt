@@ -1,6 +1,5 @@
 -- What the cut terms and the doubled distances stand for.
-use Rattle.exact_math.proofs.Common.{◌≡◌, refl, sym, ap, ap₂, subst, subst₂, ◌∙◌, ℕ, zero, suc, arith, ints, ℤ, pos, negsuc, ◌+ℤ◌, ◌-ℤ◌, ◌*ℤ◌, ◌<ℤ◌, quotes, combine, ring1, ring2, ring3, pow, ℚ, rational_ring, of_int, of_int-add, of_int-mul, of_int-≤, ◌+ℚ◌, ◌*ℚ◌, neg_ℚ, inverse, ◌≤ℚ◌, ◌<ℚ◌, int-<, inverse_right, positive_mul, sum_below, ℂ, complex_rationals, of_int_ℂ, ◌+ℂ◌, ◌*ℂ◌, ◌-ℂ◌, neg_ℂ, inverse_ℂ, *ℂ-inverse, norm, norm-mul, real, parts-add, parts-neg, parts-int, parts-inverse}
-use Rattle.exact_math.specs.Binomials.{choose}
+use Rattle.exact_math.proofs.Common.{◌≡◌, refl, sym, ap, ap₂, subst, subst₂, ◌∙◌, ℕ, suc, arith, ints, ℤ, pos, negsuc, ◌+ℤ◌, ◌-ℤ◌, ◌*ℤ◌, ◌<ℤ◌, quotes, combine, ring1, ring2, ring3, pow, ℚ, rational_ring, of_int, of_int-add, of_int-mul, of_int-≤, ◌+ℚ◌, ◌*ℚ◌, neg_ℚ, inverse, ◌≤ℚ◌, ◌<ℚ◌, int-<, inverse_right, positive_mul, sum_below, ℂ, complex_rationals, of_int_ℂ, ◌+ℂ◌, ◌*ℂ◌, ◌-ℂ◌, neg_ℂ, inverse_ℂ, *ℂ-inverse, norm, norm-mul, real, parts-add, parts-neg, parts-int, parts-inverse}
 use Rattle.exact_math.specs.Gaussian.{Gaussian, gaussian, sub_gaussian, norm_gaussian}
 use Rattle.exact_math.specs.Ratio.{ComplexRatio, neg_complex, mul_complex}
 use Rattle.exact_math.specs.Within.{Within}
@@ -11,9 +10,10 @@ use Rattle.exact_math.proofs.KernelSlope.{slope_sum}
 use Rattle.exact_math.proofs.Enclosures.{of_int-neg}
 use Rattle.exact_math.proofs.GaussianSizes.{absolute_int}
 use Rattle.exact_math.proofs.Gaussians.{value, value-norm, value-sub}
-use Rattle.exact_math.proofs.Fractions.{complex_value, complex_value-split, Stands, Stands-whole, Stands-count, Stands-mul, Stands-neg, Stands-pow, Stands-sum}
+use Rattle.exact_math.proofs.Fractions.{complex_value, complex_value-split, Stands, Stands-whole, Stands-count, Stands-mul, Stands-neg, Stands-pow, Stands-slope, Stands-sum}
+use Rattle.exact_math.proofs.KernelIdentity.{Stands-kernel, Stands-kernel_slope}
 use Rattle.exact_math.proofs.DirectTerms.{norm_positive, Stands-pole, Stands-dipole}
-use Rattle.truncation.specs.CutTerms.{half, reciprocal, invert, slope_complex, pair_pole_cut, pair_dipole_cut, multipole_pole_cut, multipole_dipole_cut, local_pole_cut, local_dipole_cut}
+use Rattle.truncation.specs.CutTerms.{half, reciprocal, invert, pair_pole_cut, pair_dipole_cut, multipole_pole_cut, multipole_dipole_cut, local_pole_cut, local_dipole_cut}
 use Rattle.truncation.specs.Places.{GaussianWithin, GaussianBeyond, times_side, pair_distance}
 use Rattle.truncation.specs.Truncation.{twice, halved_pole_term, halved_dipole_term}
 use Rattle.truncation.proofs.Distances.{PartsAtMost, SomePartAtLeast, double}
@@ -21,7 +21,7 @@ use Rattle.std.specs.Prelude.{unsigned_abs}
 use Rattle.std.proofs.lemmas.Int.{unsigned_abs-mul}
 use mathlib.Core.Logic.{inl, inr}
 use native.Mathlib.Nat.{mul-le-mul_left}
-use Prim.Native.Nat.{◌+◌, ◌*◌, ◌≤◌}
+use Prim.Native.Nat.{◌*◌, ◌≤◌}
 
 -- ---- sizes
 size_le : (m : ℕ) (z : ℤ) → Within m z → unsigned_abs z ≤ m
@@ -71,10 +71,6 @@ Stands-invert {x} {z} h z>0 =
 
     one : z *ℂ (value (gaussian x.denominator (pos 0)) *ℂ inverse_ℂ (value (gaussian x.re x.im))) ≡ of_int_ℂ (pos 1)
     one = sym (complex_rationals.mul_assoc _ _ _) ∙ ap (λ w. w *ℂ inverse_ℂ (value (gaussian x.re x.im))) g_is ∙ *ℂ-inverse _ g>0
-
-Stands-slope : {x : ComplexRatio} {z : ℂ} → Stands x z → (n : ℕ) → Stands (slope_complex x n) (pow_slope complex_rationals z n)
-Stands-slope h zero = Stands-count 0
-Stands-slope h (suc n) = Stands-mul (Stands-count (suc n)) (Stands-pow h n)
 
 -- ---- offsets
 -- g/2
@@ -196,12 +192,12 @@ module _ (P s : ℕ) (e o q : Gaussian) (d>0 : of_int (pos 0) <ℚ norm (value (
   -- (a/d) T(u/d, -v/d)
   pub Stands-pair_pole_cut : (a : Gaussian) → Stands (pair_pole_cut P s e o q a)
       (value a *ℂ inverse_ℂ (value (times_side s e)) *ℂ kernel_sum complex_rationals (halved o *ℂ inverse_ℂ (value (times_side s e))) (neg_ℂ (halved q *ℂ inverse_ℂ (value (times_side s e)))) P P)
-  Stands-pair_pole_cut a = Stands-mul (Stands-mul (Stands-whole a) stands_d) (Stands-sum P (λ l. Stands-sum P (λ k. Stands-mul (Stands-count (choose (k + l) k)) (Stands-mul (Stands-pow stands_x k) (Stands-pow stands_y l)))))
+  Stands-pair_pole_cut a = Stands-mul (Stands-mul (Stands-whole a) stands_d) (Stands-kernel stands_x stands_y P)
 
   -- (b/d^2) T'(u/d, -v/d)
   pub Stands-pair_dipole_cut : (b : Gaussian) → Stands (pair_dipole_cut P s e o q b)
       (value b *ℂ (inverse_ℂ (value (times_side s e)) *ℂ inverse_ℂ (value (times_side s e))) *ℂ slope_sum complex_rationals (halved o *ℂ inverse_ℂ (value (times_side s e))) (neg_ℂ (halved q *ℂ inverse_ℂ (value (times_side s e)))) P P)
-  Stands-pair_dipole_cut b = Stands-mul (Stands-mul (Stands-whole b) (Stands-mul stands_d stands_d)) (Stands-sum P (λ l. Stands-sum P (λ k. Stands-mul (Stands-count (choose (k + l) k)) (Stands-mul (Stands-slope stands_x k) (Stands-pow stands_y l)))))
+  Stands-pair_dipole_cut b = Stands-mul (Stands-mul (Stands-whole b) (Stands-mul stands_d stands_d)) (Stands-kernel_slope stands_x stands_y P)
 
 module _ (P : ℕ) (z o : Gaussian) (z>0 : of_int (pos 0) <ℚ norm (halved z)) where
   stands_w : Stands (invert (half z)) (inverse_ℂ (halved z))

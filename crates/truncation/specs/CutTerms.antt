@@ -1,9 +1,9 @@
 -- The cut terms of one source, as fractions of whole numbers: what the expansions of order P hold in place of the term of the direct sum.
-use Rattle.std.specs.Prelude.{ℕ, zero, suc, ◌+◌, pos, neg_ℤ}
-use Rattle.exact_math.specs.Binomials.{choose}
+use Rattle.std.specs.Prelude.{ℕ, suc, pos, neg_ℤ}
 use Rattle.exact_math.specs.Gaussian.{Gaussian, gaussian, norm_gaussian}
 use Rattle.exact_math.specs.Ratio.{ComplexRatio, whole_complex, neg_complex, mul_complex}
-use Rattle.exact_math.specs.Sums.{count, pow_complex, sum_complex}
+use Rattle.exact_math.specs.Sums.{count, pow_complex, slope_complex, sum_complex}
+use Rattle.exact_math.specs.TruncatedKernel.{truncated_kernel, truncated_slope}
 use Rattle.truncation.specs.Places.{times_side}
 
 -- g/2
@@ -18,28 +18,23 @@ reciprocal g = record { re = g.re; im = neg_ℤ g.im; denominator = norm_gaussia
 abbrev pub invert : ComplexRatio → ComplexRatio
 invert x = mul_complex (whole_complex (gaussian x.denominator (pos 0))) (reciprocal (gaussian x.re x.im))
 
--- k x^(k - 1)
-abbrev pub slope_complex : ComplexRatio → ℕ → ComplexRatio
-slope_complex x zero = count 0
-slope_complex x (suc k) = mul_complex (count (suc k)) (pow_complex x k)
-
 -- ---- two cells of one side, d = s e apart: with x = u/d and y = -v/d, where o = 2 u is the doubled offset of the source and q = 2 v that of the target
 
--- (a/d) times the sum of C(k + l, k) x^k y^l over k < P and l < P
+-- (a/d) T(x, y), the sum of C(k + l, k) x^k y^l over k < P and l < P times a/d
 abbrev pub pair_pole_cut : ℕ → ℕ → Gaussian → Gaussian → Gaussian → Gaussian → ComplexRatio
 pair_pole_cut P s e o q a =
     let d = reciprocal (times_side s e) in
     let x = mul_complex (half o) d in
     let y = neg_complex (mul_complex (half q) d) in
-    mul_complex (mul_complex (whole_complex a) d) (sum_complex P (λ l. sum_complex P (λ k. mul_complex (count (choose (k + l) k)) (mul_complex (pow_complex x k) (pow_complex y l)))))
+    mul_complex (mul_complex (whole_complex a) d) (truncated_kernel P x y)
 
--- (b/d^2) times the sum of k C(k + l, k) x^(k - 1) y^l over k < P and l < P
+-- (b/d^2) T'(x, y), the sum of k C(k + l, k) x^(k - 1) y^l over k < P and l < P times b/d^2
 abbrev pub pair_dipole_cut : ℕ → ℕ → Gaussian → Gaussian → Gaussian → Gaussian → ComplexRatio
 pair_dipole_cut P s e o q b =
     let d = reciprocal (times_side s e) in
     let x = mul_complex (half o) d in
     let y = neg_complex (mul_complex (half q) d) in
-    mul_complex (mul_complex (whole_complex b) (mul_complex d d)) (sum_complex P (λ l. sum_complex P (λ k. mul_complex (count (choose (k + l) k)) (mul_complex (slope_complex x k) (pow_complex y l)))))
+    mul_complex (mul_complex (whole_complex b) (mul_complex d d)) (truncated_slope P x y)
 
 -- ---- a far target: o = 2 u and z = 2 w are the doubled offsets of the source and of the target from the centre of the source's cell
 
