@@ -1,4 +1,7 @@
 //! The near field: what one source contributes at a place, as a box.
 #![tactic(auto)]
 
+mod pairs;
 mod term;
+
+pub use pairs::pair;
