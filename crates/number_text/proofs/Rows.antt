@@ -1,9 +1,11 @@
 -- Numbers in a row, and casts of what is read.
-use Rattle.std.proofs.Common.{◌≡◌, ◌<◌, ◌≤ℤ◌, List, [], ◌∷◌, length, ℕ, suc, ℤ, pos, negsuc, neg_ℤ, refl, sym, ap, ◌∙◌, subst, arith, to_z, of_z, w64, ◌⊎◌, ⊎_elim, inl, inr}
+use Rattle.std.proofs.Common.{◌≡◌, ◌<◌, ◌≤ℤ◌, List, [], ◌∷◌, ◌++◌, length, ℕ, suc, ℤ, pos, negsuc, neg_ℤ, refl, sym, ap, ◌∙◌, subst, arith, to_z, of_z, w64, ◌⊎◌, ⊎_elim, inl, inr}
 use Rattle.std.proofs.lemmas.Int.{ints, to_z-of_z}
 use mir.Val.{SFits}
-use Rattle.number_text.specs.Numbers.{IsPlainNumber, IsInt, AreInts, value_after, nearest_uint, nearest_int, most_read}
-use Rattle.number_text.specs.Parts.{IsCut}
+use Rattle.number_text.specs.Numbers.{IsDigit, IsPlainNumber, IsInt, AreInts, value_after, nearest_uint, nearest_int, most_read}
+use Rattle.std.specs.List.{AllByRecursion}
+use Rattle.number_text.specs.Parts.{IsCut, IsFreeOf}
+use Rattle.number_text.proofs.Spelling.{one_word}
 use Rattle.number_text.proofs.Cuts.{same_cut, tail_of}
 
 -- behind the first word stand the other numbers
@@ -54,3 +56,27 @@ nearest_small n (negsuc m) small above below = omega (arith, ints)
 pub small_nearest : (n : ℕ) (z : ℤ) → n < most_read → neg_ℤ (pos n) ≤ℤ nearest_int z → nearest_int z ≤ℤ pos n → nearest_int z ≡ z
 small_nearest n (pos m) small above below = omega (arith, ints)
 small_nearest n (negsuc m) small above below = omega (arith, ints)
+
+-- the bytes of a number stand at or above the sign
+digits_free : (byte : ℕ) (digits : List ℕ) → byte < 48 → AllByRecursion IsDigit digits → IsFreeOf byte digits
+digits_free byte [] below all = tt
+digits_free byte (c ∷ cs) below all = ((λ same. omega (arith, same, all.0)), digits_free byte cs below all.1)
+
+plain_free : (byte : ℕ) (word : List ℕ) → byte < 48 → IsPlainNumber word → IsFreeOf byte word
+plain_free byte [] below form = absurd form
+plain_free byte (c ∷ cs) below form = elim form [
+    inl alone ↦ ((λ same. omega (arith, same, alone.0)), subst (IsFreeOf byte) (sym alone.1) tt)
+  | inr plain ↦ ((λ same. omega (arith, same)), digits_free byte cs below plain.2) ]
+
+pub int_free : (byte : ℕ) (word : List ℕ) (z : ℤ) → byte < 45 → IsInt word z → IsFreeOf byte word
+int_free byte word (pos n) below int = plain_free byte word (omega arith) int.form
+int_free byte word (negsuc n) below int = subst (IsFreeOf byte) (sym int.1) ((λ same. omega (arith, same)), plain_free byte int.0 (omega arith) int.2.form)
+
+-- a row has one spelling
+pub one_spelled_row : (text other : List ℕ) (zs : List ℤ) → AreInts text zs → AreInts other zs → text ≡ other
+one_spelled_row text other [] a b = a ∙ sym b
+one_spelled_row text other (z ∷ []) a b = one_word text other z a b
+one_spelled_row text other (z ∷ y ∷ zs) a b =
+    let first = one_word a.0 b.0 z a.3 b.3 in
+    let rest = one_spelled_row a.1 b.1 (y ∷ zs) a.4 b.4 in
+    a.2.whole ∙ ap (λ word. word ++ 32 ∷ a.1) first ∙ ap (λ back. b.0 ++ 32 ∷ back) rest ∙ sym b.2.whole

@@ -14,7 +14,7 @@ mod reader;
 
 use admission::has_strength;
 pub use admission::{admit, in_grid};
-pub use law::one_reading;
+pub use law::{one_reading, one_text};
 pub use line::parse_point;
 pub use printer::print;
 pub use reader::parse;
