@@ -8,11 +8,13 @@ use Rattle.exact_math.proofs.Ring.{CommutativeRing, pow}
 use Rattle.exact_math.proofs.RingTactic.{quotes, ring1, ring2, ring3, ring4, ring5}
 use Rattle.exact_math.proofs.Sums.{sum_below, sum_below-congruence, sum_below-add, sum_below-mul, sum_below-first}
 
+-- there is no way to choose more than there are
 pub choose-above : (n k : ℕ) → n < k → choose n k ≡ 0
 choose-above n zero h = absurd (omega arith)
 choose-above zero (suc k) h = refl
 choose-above (suc n) (suc k) h = ap₂ ◌+◌ (choose-above n k (omega arith)) (choose-above n (suc k) (omega arith))
 
+-- one way to choose all
 pub choose-all : (n : ℕ) → choose n n ≡ 1
 choose-all zero = refl
 choose-all (suc n) = ap₂ ◌+◌ (choose-all n) (choose-above n (suc n) (omega arith))

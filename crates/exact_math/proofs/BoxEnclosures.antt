@@ -23,18 +23,23 @@ pub record EnclosesBox (b : BoxEnds) (z : ℂ) : Type 0 where
   pub re : EnclosedBy b.re z.re
   pub im : EnclosedBy b.im z.im
 
+-- 0
 pub EnclosesBox-zero : EnclosesBox zero_box (of_int_ℂ (pos 0))
 EnclosesBox-zero = rw (parts-int (pos 0)) (record { re = Encloses-whole (pos 0); im = Encloses-whole (pos 0) })
 
+-- wider ends
 pub EnclosesBox-inside : {b c : BoxEnds} {z : ℂ} → BoxEndsInside b c → EnclosesBox b z → EnclosesBox c z
 EnclosesBox-inside l h = record { re = Encloses-wider l.re.lo l.re.hi h.re; im = Encloses-wider l.im.lo l.im.hi h.im }
 
+-- z + w
 pub EnclosesBox-add : {b c : BoxEnds} {z w : ℂ} → EnclosesBox b z → EnclosesBox c w → EnclosesBox (add_box b c) (z +ℂ w)
 EnclosesBox-add {z = z} {w = w} h k = rw (parts-add z w) (record { re = Encloses-add h.re k.re; im = Encloses-add h.im k.im })
 
+-- -z
 pub EnclosesBox-neg : {b : BoxEnds} {z : ℂ} → EnclosesBox b z → EnclosesBox (neg_box b) (neg_ℂ z)
 EnclosesBox-neg {z = z} h = rw (parts-neg z) (record { re = Encloses-neg h.re; im = Encloses-neg h.im })
 
+-- z - w
 pub EnclosesBox-sub : {b c : BoxEnds} {z w : ℂ} → EnclosesBox b z → EnclosesBox c w → EnclosesBox (sub_box b c) (z -ℂ w)
 EnclosesBox-sub h k = EnclosesBox-add h (EnclosesBox-neg k)
 
@@ -73,12 +78,14 @@ EnclosesBox-gquot g n {b} positive h e = EnclosesBox-quot n positive (subst (Enc
 
 -- a box contains a fraction exactly where it holds what the fraction stands for, counted in units of 1/u
 module _ (u : ℤ) (b : BoxEnds) {x : ComplexRatio} {z : ℂ} (s : Stands x z) where
+  -- from the fraction to the number
   pub enclosed_from_contained : BoxEndsContain u b x → EnclosesBox b (of_int_ℂ u *ℂ z)
   enclosed_from_contained h = rw (whole_times u z) (record {
     re = encloses_from_contains u b.re.lo b.re.hi (Stands-re s) h.re;
     im = encloses_from_contains u b.im.lo b.im.hi (Stands-im s) h.im;
   })
 
+  -- and back
   pub contained_from_enclosed : EnclosesBox b (of_int_ℂ u *ℂ z) → BoxEndsContain u b x
   contained_from_enclosed h =
       let l : EnclosesBox b (complex (of_int u *ℚ z.re) (of_int u *ℚ z.im)) = subst (EnclosesBox b) (whole_times u z) h in

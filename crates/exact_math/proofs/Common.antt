@@ -14,3 +14,4 @@ pub use Rattle.exact_math.proofs.Powers.{pow-add, pow-mul, pow-one}
 pub use Rattle.exact_math.proofs.Binomials.{binomial_theorem}
 pub use Rattle.exact_math.proofs.ComplexRationals.{ℂ, complex, complex_rationals, of_int_ℂ, ◌+ℂ◌, ◌*ℂ◌, ◌-ℂ◌, neg_ℂ, inverse_ℂ, *ℂ-inverse, conjugate, norm, norm-mul, real, parts-add, parts-mul, parts-neg, parts-int, parts-inverse}
 pub use Rattle.exact_math.proofs.ComplexSize.{size, size_nonneg, size_add, size_neg, size_mul, size_pow, size_sum_below, size_sum_list}
+pub use Rattle.exact_math.proofs.ListSums.{sum_list-congruence_all, sum_list-map, sum_list-fold, sum_list-permutation, sum_list-partition, sum_list-filter, sum_list-exchange_lists, sum_list-classes}

@@ -1,5 +1,5 @@
--- The finite geometric sum with its remainder, and its first and second derivative, in any commutative ring.
-use Rattle.exact_math.proofs.Common.{◌≡◌, ap, ◌∙◌, ℕ, zero, suc, pos, CommutativeRing, sub, pow, quotes, combine, ring1, ring3, ring4, ring5, ring6, sum_below}
+-- The finite geometric sum with its remainder, and its derivative, in any commutative ring.
+use Rattle.exact_math.proofs.Common.{◌≡◌, ap, ◌∙◌, ℕ, zero, suc, pos, CommutativeRing, sub, pow, quotes, combine, ring1, ring3, ring4, ring6, sum_below}
 use Rattle.exact_math.proofs.QuadraticExtension.{pow_slope, of_int-suc}
 
 module _ (R : CommutativeRing) (q : R.carrier) where
@@ -34,27 +34,3 @@ module _ (R : CommutativeRing) (q : R.carrier) where
       combine R (R.of_int (pos 1)) (geometric_slope_identity n)
       (combine R (R.neg (R.of_int (pos 1))) (slope-suc n)
       (ring6 R q (power_sum n) (power_slope_sum n) (pow R q n) (pow_slope R q n) (R.of_int (pos (suc n))) (λ q s t p d m. search quotes depth 12) tt))
-
-  -- k (k - 1) q^(k - 2)
-  abbrev pub pow_curve : ℕ → R.carrier
-  pow_curve zero = R.of_int (pos 0)
-  pow_curve (suc k) = R.mul (R.of_int (pos (suc k))) (pow_slope R q k)
-
-  abbrev pub power_curve_sum : ℕ → R.carrier
-  power_curve_sum n = sum_below R n pow_curve
-
-  curve-suc : (k : ℕ) → pow_curve (suc k) ≡ R.add (R.mul q (pow_curve k)) (R.mul (R.of_int (pos 2)) (pow_slope R q k))
-  curve-suc zero = ring1 R q (λ q. search quotes depth 9) tt
-  curve-suc (suc k) =
-      ap (λ n. R.mul n (pow_slope R q (suc k))) (of_int-suc R (suc k))
-      ∙ combine R (R.neg (R.of_int (pos (suc k)))) (times_slope k)
-      (combine R (R.mul (R.of_int (pos (suc k))) (pow R q k)) (of_int-suc R k)
-      (ring5 R q (R.of_int (pos (suc k))) (R.of_int (pos k)) (pow R q k) (pow_slope R q k) (λ q n m p s. search quotes depth 12) tt))
-
-  -- the second derivative: 2 (1 + 2 q + ..) - (1 - q) (2 + 6 q + ..) = n (n - 1) q^(n - 2)
-  pub geometric_curve_identity : (n : ℕ) → sub R (R.mul (R.of_int (pos 2)) (power_slope_sum n)) (R.mul (sub R (R.of_int (pos 1)) q) (power_curve_sum n)) ≡ pow_curve n
-  geometric_curve_identity zero = ring1 R q (λ q. search quotes depth 9) tt
-  geometric_curve_identity (suc n) =
-      combine R (R.of_int (pos 1)) (geometric_curve_identity n)
-      (combine R (R.neg (R.of_int (pos 1))) (curve-suc n)
-      (ring6 R q (power_slope_sum n) (power_curve_sum n) (pow_slope R q n) (pow_curve n) (R.of_int (pos (suc n))) (λ q s t p d m. search quotes depth 12) tt))

@@ -14,6 +14,7 @@ module _ (x : ℚ) (low : of_int (pos 0) ≤ℚ x) (high : x ≤ℚ of_int (pos 
   abbrev one : ℚ
   one = of_int (pos 1)
 
+  -- C(p + l, l) x^l
   abbrev pub count_term : ℕ → ℕ → ℚ
   count_term p l = of_int (pos (choose (p + l) l)) *ℚ pow rational_ring x l
 
@@ -35,5 +36,6 @@ module _ (x : ℚ) (low : of_int (pos 0) ≤ℚ x) (high : x ≤ℚ of_int (pos 
       let more : of_int (pos 0) ≤ℚ c *ℚ (a *ℚ b) = search nonneg depth 7 in
       from_difference (subst (λ z. of_int (pos 0) ≤ℚ z) (ring5 rational_ring a b c d e (λ a b c d e. search quotes depth 12) tt) more)
 
+  -- (1 - x)^(p + 1) times the sum of the first p + 1 terms is at most 1
   pub counts_bound : (p : ℕ) → pow rational_ring (one -ℚ x) (suc p) *ℚ sum_below rational_ring (suc p) (count_term p) ≤ℚ one
   counts_bound p = subst₂ (λ a b. a ≤ℚ b) (sum_below-mul rational_ring _ (suc p) (count_term p)) (remainder_is_one p) (sum_below_mono (suc p) _ _ (λ l h. term_le p l))

@@ -1,69 +1,55 @@
--- The identity of the truncated kernel over Gaussian integers, from the one for every commutative ring.
-use mathlib.Core.Path.{◌≡◌, refl, sym, ap, ap₂, ◌∙◌}
+-- The identity of the truncated kernel and its derivative over complex fractions, from those for every commutative ring.
+use mathlib.Core.Path.{◌≡◌, subst}
 use Prim.Native.Nat.{ℕ, zero, suc, ◌+◌, ◌-◌}
 use native.Mathlib.Omega.{arith}
 use lib.IntN.{pos}
 use Rattle.exact_math.specs.Binomials.{choose}
-use Rattle.exact_math.specs.Gaussian.{Gaussian, gaussian, add_gaussian, sub_gaussian, mul_gaussian}
-use Rattle.exact_math.specs.TruncatedKernel.{count_gaussian, pow_gaussian, sum_gaussian, truncated_kernel, kernel_remainder, KernelIdentity}
-use Rattle.exact_math.proofs.Ring.{CommutativeRing, sub, pow, int_ring}
-use Rattle.exact_math.proofs.RingTactic.{int_quotes, ring4}
-use Rattle.exact_math.proofs.Sums.{sum_below}
-use Rattle.exact_math.proofs.QuadraticExtension.{Pair, same_pair, complex_ring}
+use Rattle.exact_math.specs.Ratio.{ComplexRatio}
+use Rattle.exact_math.specs.Sums.{count}
+use Rattle.exact_math.specs.TruncatedKernel.{truncated_kernel, truncated_slope, kernel_remainder, remainder_slope, one_less, KernelIdentity, KernelSlopeIdentity}
+use Rattle.exact_math.proofs.ComplexRationals.{ℂ, complex_rationals, of_int_ℂ, ◌-ℂ◌}
+use Rattle.exact_math.proofs.Fractions.{complex_value, Stands, Stands-itself, Stands-count, Stands-add, Stands-sub, Stands-mul, Stands-pow, Stands-slope, Stands-sum, same_from_stands}
 use Rattle.exact_math.proofs.TruncatedKernel as Kernel
+use Rattle.exact_math.proofs.KernelSlope as Slope
 
-abbrev G : CommutativeRing
-G = complex_ring int_ring
+module _ {x y : ComplexRatio} {z w : ℂ} (h : Stands x z) (k : Stands y w) where
+  -- the truncated kernel
+  pub Stands-kernel : (P : ℕ) → Stands (truncated_kernel P x y) (Kernel.kernel_sum complex_rationals z w P P)
+  Stands-kernel P = Stands-sum P (λ l. Stands-sum P (λ m. Stands-mul (Stands-count (choose (m + l) m)) (Stands-mul (Stands-pow h m) (Stands-pow k l))))
 
-abbrev paired : Gaussian → Pair int_ring
-paired g = record { re = g.re; im = g.im }
+  -- and its derivative
+  pub Stands-kernel_slope : (P : ℕ) → Stands (truncated_slope P x y) (Slope.slope_sum complex_rationals z w P P)
+  Stands-kernel_slope P = Stands-sum P (λ l. Stands-sum P (λ m. Stands-mul (Stands-count (choose (m + l) m)) (Stands-mul (Stands-slope h m) (Stands-pow k l))))
 
-abbrev unpaired : Pair int_ring → Gaussian
-unpaired p = gaussian p.re p.im
+  count_is : (p l : ℕ) → Stands (count (choose (suc p + l - 1) l)) (of_int_ℂ (pos (choose (p + l) l)))
+  count_is p l = subst (λ n. Stands (count (choose (suc p + l - 1) l)) (of_int_ℂ (pos (choose n l)))) (less p l) (Stands-count (choose (suc p + l - 1) l))
+    where
+      less : (p l : ℕ) → suc p + l - 1 ≡ p + l
+      less p l = omega arith
 
-paired-mul : (g h : Gaussian) → paired (mul_gaussian g h) ≡ G.mul (paired g) (paired h)
-paired-mul g h = same_pair int_ring _ _
-    (ring4 int_ring g.re g.im h.re h.im (λ a b c d. search int_quotes depth 12) tt)
-    (ring4 int_ring g.re g.im h.re h.im (λ a b c d. search int_quotes depth 12) tt)
+  -- the remainder of order p + 1
+  pub Stands-remainder : (p : ℕ) → Stands (kernel_remainder (suc p) x y) (Kernel.kernel_remainder complex_rationals z w p)
+  Stands-remainder p = Stands-sum (suc p) (λ l. Stands-mul (count_is p l) (Stands-add (Stands-mul (Stands-pow h (suc p)) (Stands-pow k l)) (Stands-mul (Stands-pow k (suc p)) (Stands-pow h l))))
 
-paired-sub : (g h : Gaussian) → paired (sub_gaussian g h) ≡ sub G (paired g) (paired h)
-paired-sub g h = same_pair int_ring _ _
-    (ring4 int_ring g.re g.im h.re h.im (λ a b c d. search int_quotes depth 12) tt)
-    (ring4 int_ring g.re g.im h.re h.im (λ a b c d. search int_quotes depth 12) tt)
+  -- and its derivative
+  pub Stands-remainder_slope : (p : ℕ) → Stands (remainder_slope (suc p) x y) (Slope.remainder_slope complex_rationals z w p)
+  Stands-remainder_slope p = Stands-sum (suc p) (λ l. Stands-mul (count_is p l) (Stands-add (Stands-mul (Stands-slope h (suc p)) (Stands-pow k l)) (Stands-mul (Stands-pow k (suc p)) (Stands-slope h l))))
 
-paired-pow : (g : Gaussian) (n : ℕ) → paired (pow_gaussian g n) ≡ pow G (paired g) n
-paired-pow g zero = refl
-paired-pow g (suc n) = paired-mul g (pow_gaussian g n) ∙ ap (G.mul (paired g)) (paired-pow g n)
+  less_stands : Stands (one_less x y) (of_int_ℂ (pos 1) -ℂ z -ℂ w)
+  less_stands = Stands-sub (Stands-sub (Stands-count 1) h) k
 
-paired-sum : (n : ℕ) (f : ℕ → Gaussian) (h : ℕ → Pair int_ring) → ((k : ℕ) → paired (f k) ≡ h k) → paired (sum_gaussian n f) ≡ sum_below G n h
-paired-sum zero f h e = refl
-paired-sum (suc n) f h e = ap₂ G.add (paired-sum n f h e) (e n)
-
-paired-product : (n : ℕ) (g h : Gaussian) (p q : Pair int_ring) → paired g ≡ p → paired h ≡ q → paired (mul_gaussian (count_gaussian n) (mul_gaussian g h)) ≡ G.mul (G.of_int (pos n)) (G.mul p q)
-paired-product n g h p q e f = paired-mul (count_gaussian n) (mul_gaussian g h) ∙ ap (G.mul (G.of_int (pos n))) (paired-mul g h ∙ ap₂ G.mul e f)
-
-paired-kernel : (P : ℕ) (x y : Gaussian) → paired (truncated_kernel P x y) ≡ Kernel.kernel_sum G (paired x) (paired y) P P
-paired-kernel P x y = paired-sum P _ _ (λ l. paired-sum P _ _ (λ k. paired-product (choose (k + l) k) (pow_gaussian x k) (pow_gaussian y l) _ _ (paired-pow x k) (paired-pow y l)))
-
-paired-remainder : (p : ℕ) (x y : Gaussian) → paired (kernel_remainder (suc p) x y) ≡ Kernel.kernel_remainder G (paired x) (paired y) p
-paired-remainder p x y = paired-sum (suc p) _ _ (λ l.
-    paired-mul (count_gaussian (choose (suc p + l - 1) l)) (add_gaussian (mul_gaussian (pow_gaussian x (suc p)) (pow_gaussian y l)) (mul_gaussian (pow_gaussian y (suc p)) (pow_gaussian x l)))
-    ∙ ap₂ G.mul (ap (λ n. G.of_int (pos (choose n l))) (one_less l))
-    (ap₂ G.add (both x y (suc p) l) (both y x (suc p) l)))
-  where
-    one_less : (l : ℕ) → suc p + l - 1 ≡ p + l
-    one_less l = omega arith
-
-    both : (x y : Gaussian) (m l : ℕ) → paired (mul_gaussian (pow_gaussian x m) (pow_gaussian y l)) ≡ G.mul (pow G (paired x) m) (pow G (paired y) l)
-    both x y m l = paired-mul (pow_gaussian x m) (pow_gaussian y l) ∙ ap₂ G.mul (paired-pow x m) (paired-pow y l)
-
+-- 1 - (1 - x - y) T = N
 pub kernel_identity : KernelIdentity
-kernel_identity zero x y h = absurd (omega arith)
-kernel_identity (suc p) x y h = ap unpaired (whole_left ∙ Kernel.kernel_identity G (paired x) (paired y) p ∙ sym (paired-remainder p x y))
-  where
-    left : paired (mul_gaussian (sub_gaussian (sub_gaussian (count_gaussian 1) x) y) (truncated_kernel (suc p) x y)) ≡ G.mul (sub G (sub G (G.of_int (pos 1)) (paired x)) (paired y)) (Kernel.kernel_sum G (paired x) (paired y) (suc p) (suc p))
-    left = paired-mul (sub_gaussian (sub_gaussian (count_gaussian 1) x) y) (truncated_kernel (suc p) x y) ∙ ap₂ G.mul (paired-sub (sub_gaussian (count_gaussian 1) x) y ∙ ap (λ z. sub G z (paired y)) (paired-sub (count_gaussian 1) x)) (paired-kernel (suc p) x y)
+kernel_identity zero x y order p q = absurd (omega arith)
+kernel_identity (suc n) x y order p q =
+    let h = Stands-itself x p in
+    let k = Stands-itself y q in
+    same_from_stands (subst (Stands _) (Kernel.kernel_identity complex_rationals (complex_value x) (complex_value y) n) (Stands-sub (Stands-count 1) (Stands-mul (less_stands h k) (Stands-kernel h k (suc n))))) (Stands-remainder h k n)
 
-    whole_left : paired (sub_gaussian (count_gaussian 1) (mul_gaussian (sub_gaussian (sub_gaussian (count_gaussian 1) x) y) (truncated_kernel (suc p) x y)))
-        ≡ sub G (G.of_int (pos 1)) (G.mul (sub G (sub G (G.of_int (pos 1)) (paired x)) (paired y)) (Kernel.kernel_sum G (paired x) (paired y) (suc p) (suc p)))
-    whole_left = paired-sub (count_gaussian 1) (mul_gaussian (sub_gaussian (sub_gaussian (count_gaussian 1) x) y) (truncated_kernel (suc p) x y)) ∙ ap (sub G (G.of_int (pos 1))) left
+-- T - (1 - x - y) T' = N'
+pub kernel_slope_identity : KernelSlopeIdentity
+kernel_slope_identity zero x y order p q = absurd (omega arith)
+kernel_slope_identity (suc n) x y order p q =
+    let h = Stands-itself x p in
+    let k = Stands-itself y q in
+    same_from_stands (subst (Stands _) (Slope.kernel_slope_identity complex_rationals (complex_value x) (complex_value y) n) (Stands-sub (Stands-kernel h k (suc n)) (Stands-mul (less_stands h k) (Stands-kernel_slope h k (suc n))))) (Stands-remainder_slope h k n)

@@ -18,6 +18,7 @@ module _ (R : CommutativeRing) (x y d delta v w : R.carrier) (q : R.carrier)
       (combine R (R.mul v w) (sym delta-is)
       (combine R (R.mul q w) v-inverse (ring5 R d delta v w q (λ d e v w q. search quotes depth 12) tt)))
 
+  -- (1/d) T = (1/delta) (1 - N)
   pub pole_cut : (p : ℕ) → R.mul v (kernel_sum R x y (suc p) (suc p)) ≡ R.mul w (sub R (R.of_int (pos 1)) (kernel_remainder R x y p))
   pole_cut p =
       let T = kernel_sum R x y (suc p) (suc p) in
@@ -26,6 +27,7 @@ module _ (R : CommutativeRing) (x y d delta v w : R.carrier) (q : R.carrier)
       (combine R (R.mul w T) q-is
       (combine R (R.neg w) (kernel_identity R x y p) (ring7 R x y v w q T N (λ x y v w q t n. search quotes depth 12) tt)))
 
+  -- (1/d^2) T' = (1/delta^2) (1 - N - q N'), where ' is the derivative by x
   pub dipole_cut : (p : ℕ) → R.mul (R.mul v v) (slope_sum R x y (suc p) (suc p))
       ≡ R.mul (R.mul w w) (sub R (sub R (R.of_int (pos 1)) (kernel_remainder R x y p)) (R.mul q (remainder_slope R x y p)))
   dipole_cut p =

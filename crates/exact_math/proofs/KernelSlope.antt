@@ -14,9 +14,11 @@ module _ (R : CommutativeRing) (x y : R.carrier) where
   abbrev pub slope_term : ℕ → ℕ → R.carrier
   slope_term k l = R.mul (binomial R k l) (R.mul (pow_slope R x k) (pow R y l))
 
+  -- the derivative of the truncated kernel by x
   abbrev pub slope_sum : ℕ → ℕ → R.carrier
   slope_sum n m = sum_below R m (λ l. sum_below R n (λ k. slope_term k l))
 
+  -- the derivative of the remainder by x
   abbrev pub remainder_slope : ℕ → R.carrier
   remainder_slope p = sum_below R (suc p) (λ l. R.mul (R.of_int (pos (choose (p + l) l))) (R.add (R.mul (pow_slope R x (suc p)) (pow R y l)) (R.mul (pow R y (suc p)) (pow_slope R x l))))
 

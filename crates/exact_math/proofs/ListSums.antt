@@ -21,6 +21,7 @@ module _ (R : CommutativeRing) where
   sum_list-congruence_all f g [] each = refl
   sum_list-congruence_all f g (x ∷ xs) each = ap₂ R.add (each 0 x (omega arith)) (sum_list-congruence_all f g xs (λ k d l. each (suc k) d (omega arith)))
 
+  -- over the images of the members
   pub sum_list-map : {A B : Type 0} (f : B → R.carrier) (g : A → B) (xs : List A) → sum_list R f (map g xs) ≡ sum_list R (λ x. f (g x)) xs
   sum_list-map f g [] = refl
   sum_list-map f g (x ∷ xs) = ap (R.add (f (g x))) (sum_list-map f g xs)
@@ -54,6 +55,7 @@ module _ (R : CommutativeRing) where
       (combine R (R.of_int (pos 1)) first
       (combine R (R.neg (R.of_int (pos 1))) read (ring6 R x y s a b c (λ x y s a b c. search quotes depth 12) tt)))
 
+  -- over any rearrangement
   pub sum_list-permutation : {A : Type 0} (f : A → R.carrier) (xs ys : List A) → IsPermutation xs ys → sum_list R f ys ≡ sum_list R f xs
   sum_list-permutation {A} f xs ys = IsPermutation-keeps xs (λ l. sum_list R f l ≡ sum_list R f xs) refl (λ l i j p q h.
       let d : A = some_member l (omega arith) in

@@ -38,6 +38,7 @@ module _ (R : CommutativeRing) where
   times_shifted h c [] = c ∷ []
   times_shifted h c (a ∷ p) = R.add c (R.mul h a) ∷ times_shifted h a p
 
+  -- the coefficients of p(h + x)
   abbrev pub recentre : R.carrier → List R.carrier → List R.carrier
   recentre h [] = []
   recentre h (c ∷ cs) = times_shifted h c (recentre h cs)
@@ -48,6 +49,7 @@ module _ (R : CommutativeRing) where
       ap (λ s. R.add (R.add c (R.mul h a)) (R.mul x s)) (horner-times_shifted h a x p)
       ∙ ring5 R h c x a (horner x p) (λ h c x a s. search quotes depth 12) tt
 
+  -- the same polynomial about another centre
   pub horner-recentre : (h x : R.carrier) (p : List R.carrier) → horner x (recentre h p) ≡ horner (R.add h x) p
   horner-recentre h x [] = refl
   horner-recentre h x (c ∷ cs) = horner-times_shifted h c x (recentre h cs) ∙ ap (λ s. R.add c (R.mul (R.add h x) s)) (horner-recentre h x cs)

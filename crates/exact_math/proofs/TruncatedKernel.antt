@@ -14,9 +14,6 @@ module _ (R : CommutativeRing) where
   abbrev pub binomial : ℕ → ℕ → R.carrier
   binomial k l = R.of_int (pos (choose (k + l) k))
 
-  binomial-zero : (l : ℕ) → binomial 0 l ≡ R.of_int (pos 1)
-  binomial-zero l = refl
-
   binomial-right_zero : (k : ℕ) → binomial k 0 ≡ R.of_int (pos 1)
   binomial-right_zero k = ap (λ n. R.of_int (pos n)) (ap (λ n. choose n k) {x = k + 0} {y = k} (omega arith) ∙ choose-all k)
 
@@ -37,9 +34,6 @@ module _ (R : CommutativeRing) where
 
     term-right_zero : (k : ℕ) → kernel_term k 0 ≡ pow R x k
     term-right_zero k = ap (λ b. R.mul b (R.mul (pow R x k) (R.of_int (pos 1)))) (binomial-right_zero k) ∙ ring1 R (pow R x k) (λ a. search quotes depth 9) tt
-
-    term-zero : (l : ℕ) → kernel_term 0 l ≡ pow R y l
-    term-zero l = ring1 R (pow R y l) (λ a. search quotes depth 9) tt
 
     term-pascal : (k l : ℕ) → kernel_term (suc k) (suc l) ≡ R.add (R.mul x (kernel_term k (suc l))) (R.mul y (kernel_term (suc k) l))
     term-pascal k l =

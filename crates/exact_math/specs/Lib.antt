@@ -3,6 +3,7 @@ pub mod Binomials
 pub mod Contains
 pub mod Ends
 pub mod Gaussian
+pub mod Orders
 pub mod Ratio
 pub mod Rounding
 pub mod Sizes

@@ -1,31 +1,36 @@
--- The truncated kernel in two variables, over Gaussian integers: the sum of C(k + l, k) x^k y^l over a square of exponents, which cuts 1/(1 - x - y) off.
-use Rattle.std.specs.Prelude.{ℕ, zero, suc, ◌+◌, ◌-◌, ◌≤◌, ◌≡◌, pos}
+-- The truncated kernel in two variables, over complex fractions: the square of side P cut out of the series of 1/(1 - x - y), what it leaves, and
+-- the derivatives of both by x.
+use Rattle.std.specs.Prelude.{ℕ, ◌+◌, ◌-◌, ◌≤◌, ◌<ℤ◌, pos}
 use Rattle.exact_math.specs.Binomials.{choose}
-use Rattle.exact_math.specs.Gaussian.{Gaussian, gaussian, add_gaussian, sub_gaussian, mul_gaussian}
+use Rattle.exact_math.specs.Ratio.{ComplexRatio, SameComplex, add_complex, sub_complex, mul_complex}
+use Rattle.exact_math.specs.Sums.{count, pow_complex, slope_complex, sum_complex}
 
--- n
-abbrev pub count_gaussian : ℕ → Gaussian
-count_gaussian n = gaussian (pos n) (pos 0)
+-- T: the sum of C(k + l, k) x^k y^l over k < P and l < P
+abbrev pub truncated_kernel : ℕ → ComplexRatio → ComplexRatio → ComplexRatio
+truncated_kernel P x y = sum_complex P (λ l. sum_complex P (λ k. mul_complex (count (choose (k + l) k)) (mul_complex (pow_complex x k) (pow_complex y l))))
 
--- g^n
-abbrev pub pow_gaussian : Gaussian → ℕ → Gaussian
-pow_gaussian g zero = count_gaussian 1
-pow_gaussian g (suc n) = mul_gaussian g (pow_gaussian g n)
+-- T': the sum of k C(k + l, k) x^(k - 1) y^l
+abbrev pub truncated_slope : ℕ → ComplexRatio → ComplexRatio → ComplexRatio
+truncated_slope P x y = sum_complex P (λ l. sum_complex P (λ k. mul_complex (count (choose (k + l) k)) (mul_complex (slope_complex x k) (pow_complex y l))))
 
--- f 0 + .. + f (n - 1)
-abbrev pub sum_gaussian : ℕ → (ℕ → Gaussian) → Gaussian
-sum_gaussian zero f = count_gaussian 0
-sum_gaussian (suc n) f = add_gaussian (sum_gaussian n f) (f n)
+-- N: the sum of C(P + l - 1, l) (x^P y^l + y^P x^l) over l < P
+abbrev pub kernel_remainder : ℕ → ComplexRatio → ComplexRatio → ComplexRatio
+kernel_remainder P x y = sum_complex P (λ l. mul_complex (count (choose (P + l - 1) l)) (add_complex (mul_complex (pow_complex x P) (pow_complex y l)) (mul_complex (pow_complex y P) (pow_complex x l))))
 
--- the sum of C(k + l, k) x^k y^l over k < P and l < P
-abbrev pub truncated_kernel : ℕ → Gaussian → Gaussian → Gaussian
-truncated_kernel P x y = sum_gaussian P (λ l. sum_gaussian P (λ k. mul_gaussian (count_gaussian (choose (k + l) k)) (mul_gaussian (pow_gaussian x k) (pow_gaussian y l))))
+-- N': the sum of C(P + l - 1, l) (P x^(P - 1) y^l + l y^P x^(l - 1)) over l < P
+abbrev pub remainder_slope : ℕ → ComplexRatio → ComplexRatio → ComplexRatio
+remainder_slope P x y = sum_complex P (λ l. mul_complex (count (choose (P + l - 1) l)) (add_complex (mul_complex (slope_complex x P) (pow_complex y l)) (mul_complex (pow_complex y P) (slope_complex x l))))
 
--- the sum of C(P + l - 1, l) (x^P y^l + y^P x^l) over l < P
-abbrev pub kernel_remainder : ℕ → Gaussian → Gaussian → Gaussian
-kernel_remainder P x y = sum_gaussian P (λ l. mul_gaussian (count_gaussian (choose (P + l - 1) l)) (add_gaussian (mul_gaussian (pow_gaussian x P) (pow_gaussian y l)) (mul_gaussian (pow_gaussian y P) (pow_gaussian x l))))
+-- 1 - x - y
+abbrev pub one_less : ComplexRatio → ComplexRatio → ComplexRatio
+one_less x y = sub_complex (sub_complex (count 1) x) y
 
--- 1 - (1 - x - y) times the truncated kernel is the remainder, at every order from 1 on
+-- 1 - (1 - x - y) T = N, at every order from 1 on
 abbrev pub KernelIdentity : Type 0
-KernelIdentity = (P : ℕ) (x y : Gaussian) → 1 ≤ P
-    → sub_gaussian (count_gaussian 1) (mul_gaussian (sub_gaussian (sub_gaussian (count_gaussian 1) x) y) (truncated_kernel P x y)) ≡ kernel_remainder P x y
+KernelIdentity = (P : ℕ) (x y : ComplexRatio) → 1 ≤ P → pos 0 <ℤ x.denominator → pos 0 <ℤ y.denominator
+    → SameComplex (sub_complex (count 1) (mul_complex (one_less x y) (truncated_kernel P x y))) (kernel_remainder P x y)
+
+-- T - (1 - x - y) T' = N', its derivative by x
+abbrev pub KernelSlopeIdentity : Type 0
+KernelSlopeIdentity = (P : ℕ) (x y : ComplexRatio) → 1 ≤ P → pos 0 <ℤ x.denominator → pos 0 <ℤ y.denominator
+    → SameComplex (sub_complex (truncated_kernel P x y) (mul_complex (one_less x y) (truncated_slope P x y))) (remainder_slope P x y)

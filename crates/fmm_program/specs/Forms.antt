@@ -1,19 +1,11 @@
 -- The forms of the command line.
-use Rattle.std.specs.Prelude.{ℕ, ◌≤◌, ◌≡◌, ◌≢◌, ◌⊎◌, List, [], ◌∷◌, codes}
+use Rattle.std.specs.Prelude.{ℕ, ◌≡◌, ◌≢◌, List, [], ◌∷◌, codes}
+use Rattle.exact_math.specs.Orders.{IsOrder, IsCapacity}
 use Rattle.number_text.specs.Numbers.{IsUint}
 use Rattle.fmm_program.specs.declared.words.Command.{Command}
 use Rattle.fmm_program.specs.declared.words.Command.TheVariants.{Solve}
 use Rattle.fmm_program.specs.declared.words.Opening.{Opening}
 use Rattle.fmm_program.specs.declared.words.Opening.TheVariants.{Nothing, SolveInput, SolveFile}
-
--- the orders of expansion that the program offers
-abbrev pub IsOrder : ℕ → Type 0
-IsOrder order = (order ≡ 4) ⊎ ((order ≡ 8) ⊎ ((order ≡ 16) ⊎ (order ≡ 24)))
-
--- how many points a leaf may have
-pub record IsCapacity (cap : ℕ) : Type 0 where
-  pub least : 8 ≤ cap
-  pub most : cap ≤ 1024
 
 -- the words are `solve ORDER CAP FILE`
 pub record IsSolve (words : List (List ℕ)) (order cap : ℕ) (file : List ℕ) : Type 0 where

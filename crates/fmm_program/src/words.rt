@@ -1,7 +1,8 @@
 //! The words of the command line, and what they ask for.
 ghost use Rattle.std.specs.Prelude.{◌≡◌, ℕ, ◌+◌, ◌<◌, ◌≤◌, List, [], ◌∷◌, ◌++◌, length, slice_get, codes, decimal, ◌≢◌, IfSome, IfNone, OnOk, OnErr, Some, None};
+ghost use Rattle.exact_math.specs.Orders.{IsOrder, IsCapacity};
 ghost use Rattle.number_text.specs.Numbers.{IsUint};
-ghost use Rattle.fmm_program.specs.Forms.{Asks, IsUsage, Opens, IsOrder, IsCapacity};
+ghost use Rattle.fmm_program.specs.Forms.{Asks, IsUsage, Opens};
 
 use io_ports::Memory;
 use number_text::read_uint;

@@ -1,1 +1,3 @@
 pub mod PairContains
+pub mod TermSizes
+pub mod PairSizes

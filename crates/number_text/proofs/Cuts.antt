@@ -13,10 +13,10 @@ pub record Same (front other back rest : List ℕ) : Type 0 where
   pub fronts : front ≡ other
   pub backs : back ≡ rest
 
-head_of : (a b : ℕ) (xs ys : List ℕ) → a ∷ xs ≡ b ∷ ys → a ≡ b
+pub head_of : (a b : ℕ) (xs ys : List ℕ) → a ∷ xs ≡ b ∷ ys → a ≡ b
 head_of a b xs ys e = cc
 
-tail_of : (a b : ℕ) (xs ys : List ℕ) → a ∷ xs ≡ b ∷ ys → xs ≡ ys
+pub tail_of : (a b : ℕ) (xs ys : List ℕ) → a ∷ xs ≡ b ∷ ys → xs ≡ ys
 tail_of a b xs ys e = cc
 
 pub one_cut : (byte : ℕ) (front back other rest : List ℕ) → IsFreeOf byte front → IsFreeOf byte other → front ++ byte ∷ back ≡ other ++ byte ∷ rest → Same front other back rest
