@@ -7,11 +7,13 @@ ghost use Rattle.particle_text.specs.Limits.{InRange, weight64};
 ghost use Rattle.particle_text.specs.Points.{pole, dipole};
 
 mod admission;
+mod law;
 mod line;
 mod reader;
 
 use admission::has_strength;
 pub use admission::{admit, in_grid};
+pub use law::one_reading;
 pub use line::parse_point;
 pub use reader::parse;
 

@@ -4,6 +4,7 @@ ghost use Rattle.particle_text.specs.declared.Mode.{Mode};
 ghost use Rattle.particle_text.specs.declared.ParseFault.{ParseFault};
 ghost use Rattle.particle_text.specs.declared.Point.{Point};
 ghost use Rattle.particle_text.specs.declared.TextKind.{TextKind};
+ghost use Rattle.particle_text.specs.Answers.{GivesPoints, GivesFault};
 ghost use Rattle.particle_text.specs.Faults.{IsFirstKind, IsFaultOf, LineFault, FirstFault, HasNoHead};
 ghost use Rattle.particle_text.specs.Limits.{CanJoin, InRange, most_weight};
 ghost use Rattle.particle_text.specs.Text.{BeginsWith, Spells, head_line, line_feed};
@@ -65,6 +66,8 @@ fn next_point(mode: Mode, live: u64, weight: u64, bytes: &[u8]) -> Result<(Point
 pub fn parse(alloc: Global, bytes: &[u8]) -> Result<Points, ParseFault>
     ensures ok { IfOk result (λ points. Spells bytes.now points.mode points.list) }
     ensures fault { IfErr result (IsFaultOf bytes.now) }
+    ensures accepts { (mode : Mode) (points : List Point) → Spells bytes.now mode points → GivesPoints result mode points }
+    ensures refuses { (line : ℕ) (kind : TextKind) → FirstFault bytes.now line kind → GivesFault result line kind }
 {
     let Some((mode, mut rest)) = read_head(bytes) else {
         return Err(ParseFault::Text {
