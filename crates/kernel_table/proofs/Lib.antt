@@ -1,0 +1,4 @@
+mod PowersOfTwo
+mod Contained
+mod Widths
+-- mod Sizes
