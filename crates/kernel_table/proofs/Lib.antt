@@ -1,4 +1,4 @@
 mod PowersOfTwo
 mod Contained
 mod Widths
--- mod Sizes
+mod Sizes

@@ -56,11 +56,11 @@ narrow-scale (negsuc n) {i} {w} h =
     turned p m lo hi e = subst (λ m. p *ℤ (hi -ℤ lo) ≡ lo *ℤ m -ℤ hi *ℤ m) (sym e) (ring3 int_ring p lo hi (λ p l h. search int_quotes depth 12) tt)
 
 -- the other side of rounding
-floor_div_gt : (a : ℤ) (n : ℕ) → 0 < n → a ≤ℤ (pos n *ℤ floor_div a (pos n) +ℤ pos (n - 1))
+pub floor_div_gt : (a : ℤ) (n : ℕ) → 0 < n → a ≤ℤ (pos n *ℤ floor_div a (pos n) +ℤ pos (n - 1))
 floor_div_gt (pos a) n h = omega (arith, ints)
 floor_div_gt (negsuc a) n h = omega (arith, ints)
 
-ceil_div_lt : (a : ℤ) (n : ℕ) → 0 < n → (pos n *ℤ ceil_div a (pos n)) ≤ℤ (a +ℤ pos (n - 1))
+pub ceil_div_lt : (a : ℤ) (n : ℕ) → 0 < n → (pos n *ℤ ceil_div a (pos n)) ≤ℤ (a +ℤ pos (n - 1))
 ceil_div_lt a n h =
     let k = floor_div_gt (neg_ℤ a) n h in
     let e : pos n *ℤ ceil_div a (pos n) ≡ neg_ℤ (pos n *ℤ floor_div (neg_ℤ a) (pos n)) = ring2 int_ring (floor_div (neg_ℤ a) (pos n)) (pos n) (λ f n. search int_quotes depth 9) tt in
@@ -72,6 +72,13 @@ floor_le_ceil lo hi n h o =
     let c = ceil_div_ge hi (pos n) (omega (arith, ints)) in
     Z.*-cancel_≤ (pos n) _ _ (omega (arith, ints)) (omega (arith, ints, f, c, o))
 
+-- a number below n (v + 1) in the n-fold is at most v
+pub at_most : (n v : ℕ) (d : ℤ) → (pos n *ℤ d) <ℤ (pos n *ℤ pos (suc v)) → d ≤ℤ pos v
+at_most n v (pos d) k =
+    let m : d < suc v = lt_of_not-le (λ l. let t = mul-le-mul_left n l in absurd (omega (arith, ints))) in
+    omega (arith, ints)
+at_most n v (negsuc d) k = omega (arith, ints)
+
 -- n times the width of a quotient is at most the width and 2 (n - 1)
 pub narrow-quot : (n : ℕ) {i : Ends} {w v : ℕ} → 0 < n → EndsNarrow w i → w + 2 * (n - 1) < n * suc v → EndsNarrow v (quot_ends i (pos n))
 narrow-quot n {i} {w} {v} n>0 h enough = record {
@@ -79,18 +86,12 @@ narrow-quot n {i} {w} {v} n>0 h enough = record {
   width = last (ceil_div i.hi (pos n)) (floor_div i.lo (pos n)) (ceil_div_lt i.hi n n>0) (floor_div_gt i.lo n n>0);
 }
   where
-    below : (d : ℤ) → (pos n *ℤ d) <ℤ (pos n *ℤ pos (suc v)) → d ≤ℤ pos v
-    below (pos d) k =
-        let m : d < suc v = lt_of_not-le (λ l. let t = mul-le-mul_left n l in absurd (omega (arith, ints))) in
-        omega (arith, ints)
-    below (negsuc d) k = omega (arith, ints)
-
     -- from n (c - f) < n (v + 1)
     last : (c f : ℤ) → (pos n *ℤ c) ≤ℤ (i.hi +ℤ pos (n - 1)) → i.lo ≤ℤ (pos n *ℤ f +ℤ pos (n - 1)) → (c -ℤ f) ≤ℤ pos v
     last c f up down =
         let e : pos n *ℤ (c -ℤ f) ≡ pos n *ℤ c -ℤ pos n *ℤ f = ring3 int_ring (pos n) c f (λ n c f. search int_quotes depth 9) tt in
         let less : (pos n *ℤ (c -ℤ f)) <ℤ (pos n *ℤ pos (suc v)) = rw e (omega (arith, ints, h.width, up, down)) in
-        below (c -ℤ f) less
+        at_most n v (c -ℤ f) less
 
 -- ---- the bound: 2 at first, then 6/5 of it and 2 more, rounded down: 10 (6/5)^(n + 1) - 10
 abbrev pub next_width : ℕ → ℕ
