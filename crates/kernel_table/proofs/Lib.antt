@@ -1,4 +1,5 @@
 mod PowersOfTwo
+mod Chosen
 mod Contained
 mod Widths
 mod Sizes

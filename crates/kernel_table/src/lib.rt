@@ -1,2 +1,9 @@
 //! The kernel that turns a multipole row into a local row, as a table of boxes.
+//!
+//! For two cells of one side whose centres are `e` sides apart, the kernel is `K_(k,l) = (-1)^l C(k + l, k)/e^(k + l + 1)`:
+//! the multipole to local formula of the method's papers of 1987 and 1988, in sides. Boxes count units of 2^-40.
 #![tactic(auto)]
+
+mod binomials;
+
+pub use binomials::binomial;
