@@ -39,6 +39,7 @@ module _ (u lo hi : ℤ) {x : Ratio} {q : ℚ} (s : RatioStands x q) where
     below = cancel_mul (of_int x.denominator) D>0 (subst₂ (λ a b. a ≤ℚ b) (sym times) (sym (scaled hi)) ((of_int-≤ _ _).1 h.below));
   }
 
+  -- and back
   pub contains_from_encloses : Encloses lo hi (of_int u *ℚ q) → Contains u lo hi x
   contains_from_encloses h = record {
     fraction = s.positive;
@@ -46,6 +47,7 @@ module _ (u lo hi : ℤ) {x : Ratio} {q : ℚ} (s : RatioStands x q) where
     below = (of_int-≤ _ _).0 (subst₂ (λ a b. a ≤ℚ b) times (scaled hi) (mul_mono (of_int x.denominator) (≤-from_< D>0) h.below));
   }
 
+  -- both at once
   pub contains_is_enclosing : Contains u lo hi x ↔ Encloses lo hi (of_int u *ℚ q)
   contains_is_enclosing = (encloses_from_contains, contains_from_encloses)
 
@@ -85,6 +87,7 @@ module _ {u lo hi : ℤ} {x : Ratio} (h : Contains u lo hi x) where
   pub contains-scale_up : (k : ℤ) → pos 0 ≤ℤ k → Contains u (k *ℤ lo) (k *ℤ hi) (mul_ratio (whole_ratio k) x)
   contains-scale_up k p = contains_from_encloses u _ _ (scaled_stands k) (subst (Encloses _ _) (scale_value k) (Encloses-scale_up k p encloses))
 
+  -- k x, where k is at most 0
   pub contains-scale_down : (k : ℤ) → k ≤ℤ pos 0 → Contains u (k *ℤ hi) (k *ℤ lo) (mul_ratio (whole_ratio k) x)
   contains-scale_down k p = contains_from_encloses u _ _ (scaled_stands k) (subst (Encloses _ _) (scale_value k) (Encloses-scale_down k p encloses))
 
@@ -103,6 +106,14 @@ module _ {u lo hi : ℤ} {x : Ratio} (h : Contains u lo hi x) where
     where
       value_is : (n u q i : ℚ) {c : ℚ} → n *ℚ i ≡ of_int (pos 1) → c ≡ u *ℚ n → u *ℚ q ≡ c *ℚ (q *ℚ i)
       value_is n u q i {c} e f = combine rational_ring (neg_ℚ (u *ℚ q)) e (combine rational_ring (neg_ℚ (q *ℚ i)) f (ring5 rational_ring n u q i c (λ n u q i c. search quotes depth 12) tt))
+
+-- from units of 1/(u n) to units of 1/u, rounded outward
+pub contains-units : (u n : ℤ) {lo hi : ℤ} {x : Ratio} → pos 1 ≤ℤ n → Contains (u *ℤ n) lo hi x → Contains u (floor_div lo n) (ceil_div hi n) x
+contains-units u n {lo} {hi} {x} n>0 h = contains_from_encloses u _ _ (stands h)
+    (Encloses-quot n n>0 (subst (Encloses lo hi) (value_is (of_int u) (of_int n) (ratio_value x) (of_int-mul u n)) (encloses h)))
+  where
+    value_is : (u n q : ℚ) {c : ℚ} → c ≡ u *ℚ n → c *ℚ q ≡ n *ℚ (u *ℚ q)
+    value_is u n q {c} f = combine rational_ring q f (ring4 rational_ring u n q c (λ u n q c. search quotes depth 12) tt)
 
 -- any fraction, rounded outward to whole units
 pub contains-rounded : (u : ℤ) (x : Ratio) → pos 0 <ℤ x.denominator → Contains u (floor_div (u *ℤ x.numerator) x.denominator) (ceil_div (u *ℤ x.numerator) x.denominator) x

@@ -40,11 +40,14 @@ positive_int (pos zero) h = absurd (not_≤ℚ _ _ h (≤ℚ-refl _))
 positive_int (pos (suc n)) h = omega (arith, ints)
 positive_int (negsuc n) h = absurd (not_≤ℚ _ _ h ((of_int-≤ _ _).1 (omega (arith, ints))))
 
+-- the norm of g is above 0 where that of its value is
 pub norm_positive : (g : Gaussian) → of_int (pos 0) <ℚ norm (value g) → pos 0 <ℤ norm_gaussian g
 norm_positive g h = positive_int _ (subst (λ n. of_int (pos 0) <ℚ n) (sym (value-norm g)) h)
 
+-- the term of a pole is a/delta
 pub Stands-pole : (a delta : Gaussian) → pos 0 <ℤ norm_gaussian delta → Stands (pole_term a delta) (value a *ℂ inverse_ℂ (value delta))
 Stands-pole a delta h = record { positive = h; is = pole-value a delta }
 
+-- the term of a dipole is b/delta^2
 pub Stands-dipole : (b delta : Gaussian) → pos 0 <ℤ norm_gaussian delta → Stands (dipole_term b delta) (value b *ℂ (inverse_ℂ (value delta) *ℂ inverse_ℂ (value delta)))
 Stands-dipole b delta h = record { positive = *-positive _ _ h h; is = dipole-value b delta (subst (λ n. of_int (pos 0) <ℚ n) (value-norm delta) (int-< _ _ h)) }

@@ -23,6 +23,7 @@ pub record Encloses (lo hi : ℤ) (q : ℚ) : Type 0 where
   pub above : of_int lo ≤ℚ q
   pub below : q ≤ℚ of_int hi
 
+-- -a as a rational number
 pub of_int-neg : (a : ℤ) → of_int (neg_ℤ a) ≡ neg_ℚ (of_int a)
 of_int-neg a =
     ap of_int (ring1 int_ring a (λ a. search int_quotes depth 9) tt) ∙ of_int-mul (negsuc 0) a
@@ -46,9 +47,11 @@ Encloses-add h k = record {
   below = rw of_int-add (add_mono h.below k.below);
 }
 
+-- -q <= -p from p <= q
 pub neg_mono : {p q : ℚ} → p ≤ℚ q → neg_ℚ q ≤ℚ neg_ℚ p
 neg_mono {p} {q} h = from_difference (subst (λ z. of_int (pos 0) ≤ℚ z) (ring2 rational_ring p q (λ p q. search quotes depth 9) tt) (difference_nonneg h))
 
+-- -p
 pub Encloses-neg : {lo hi : ℤ} {p : ℚ} → Encloses lo hi p → Encloses (neg_ℤ hi) (neg_ℤ lo) (neg_ℚ p)
 Encloses-neg h = record { above = rw of_int-neg (neg_mono h.below); below = rw of_int-neg (neg_mono h.above) }
 
@@ -63,6 +66,7 @@ pub Encloses-scale_up : (k : ℤ) {lo hi : ℤ} {p : ℚ} → pos 0 ≤ℤ k →
 Encloses-scale_up (pos n) low h = record { above = rw of_int-mul (mul_mono _ (nonneg_int n) h.above); below = rw of_int-mul (mul_mono _ (nonneg_int n) h.below) }
 Encloses-scale_up (negsuc n) low h = absurd (omega (arith, ints))
 
+-- k p, where k is at most 0
 pub Encloses-scale_down : (k : ℤ) {lo hi : ℤ} {p : ℚ} → k ≤ℤ pos 0 → Encloses lo hi p → Encloses (k *ℤ hi) (k *ℤ lo) (of_int k *ℚ p)
 Encloses-scale_down k {lo} {hi} {p} high h =
     turned (k *ℤ hi) (k *ℤ lo) (one hi) (one lo) (Encloses-neg (Encloses-scale_up (neg_ℤ k) (omega (arith, ints)) h))
@@ -87,6 +91,7 @@ floor_div_le (pos a) (pos n) h = let e = div-add-mod a n in omega (arith, ints)
 floor_div_le (negsuc a) (pos n) h = let e = div-add-mod a n in let m : a % n < n = mod-lt a (omega (arith, ints)) in omega (arith, ints)
 floor_div_le a (negsuc n) h = absurd (omega (arith, ints))
 
+-- a <= n ceil(a/n)
 pub ceil_div_ge : (a n : ℤ) → pos 1 ≤ℤ n → a ≤ℤ (n *ℤ ceil_div a n)
 ceil_div_ge a n h =
     let k = floor_div_le (neg_ℤ a) n h in
@@ -120,10 +125,12 @@ side {a} {b} {p} {m} x h k l r = ⊎_elim
 turn : {m : ℚ} (p q : ℚ) → p *ℚ q ≤ℚ m → q *ℚ p ≤ℚ m
 turn {m} p q h = subst (λ z. z ≤ℚ m) (ring2 rational_ring p q (λ p q. search quotes depth 9) tt) h
 
+-- a product of numbers from a to b and from c to d is at most m, where the four products of the ends are
 pub product_upper : {a b c d m : ℚ} (p q : ℚ) → a ≤ℚ p → p ≤ℚ b → c ≤ℚ q → q ≤ℚ d
     → a *ℚ c ≤ℚ m → a *ℚ d ≤ℚ m → b *ℚ c ≤ℚ m → b *ℚ d ≤ℚ m → p *ℚ q ≤ℚ m
 product_upper {a} {b} p q h k l r ac ad bc bd = turn q p (side q h k (turn a q (side a l r ac ad)) (turn b q (side b l r bc bd)))
 
+-- and at least m, where these are
 pub product_lower : {a b c d m : ℚ} (p q : ℚ) → a ≤ℚ p → p ≤ℚ b → c ≤ℚ q → q ≤ℚ d
     → m ≤ℚ a *ℚ c → m ≤ℚ a *ℚ d → m ≤ℚ b *ℚ c → m ≤ℚ b *ℚ d → m ≤ℚ p *ℚ q
 product_lower {a} {b} {c} {d} {m} p q h k l r ac ad bc bd =
@@ -141,6 +148,7 @@ least_le a b c d = omega (arith, ints, clamps)
 le_greatest : (a b c d : ℤ) → (a ≤ℤ greatest a b c d) × (b ≤ℤ greatest a b c d) × (c ≤ℤ greatest a b c d) × (d ≤ℤ greatest a b c d)
 le_greatest a b c d = omega (arith, ints, clamps)
 
+-- p q: the least and the greatest of the four products of ends
 pub Encloses-mul : (a b c d : ℤ) {p q : ℚ} → Encloses a b p → Encloses c d q → Encloses (least (a *ℤ c) (a *ℤ d) (b *ℤ c) (b *ℤ d)) (greatest (a *ℤ c) (a *ℤ d) (b *ℤ c) (b *ℤ d)) (p *ℚ q)
 Encloses-mul a b c d {p} {q} h k =
     let l = least_le (a *ℤ c) (a *ℤ d) (b *ℤ c) (b *ℤ d) in

@@ -12,6 +12,11 @@ abbrev pub pow_complex : ComplexRatio → ℕ → ComplexRatio
 pow_complex x zero = count 1
 pow_complex x (suc n) = mul_complex x (pow_complex x n)
 
+-- n x^(n - 1), the derivative of x^n
+abbrev pub slope_complex : ComplexRatio → ℕ → ComplexRatio
+slope_complex x zero = count 0
+slope_complex x (suc n) = mul_complex (count (suc n)) (pow_complex x n)
+
 -- f 0 + .. + f (n - 1)
 abbrev pub sum_complex : ℕ → (ℕ → ComplexRatio) → ComplexRatio
 sum_complex zero f = zero_complex

@@ -1,7 +1,7 @@
 -- The printed counts of a box: whole numbers of 10^-12.
-use Rattle.std.specs.Prelude.{ℤ, pos, neg_ℤ, ◌*ℤ◌, ◌^◌}
+use Rattle.std.specs.Prelude.{ℤ, pos, ◌*ℤ◌, ◌^◌}
 use Rattle.exact_math.specs.Contains.{Contains}
-use Rattle.exact_math.specs.Ends.{Ends, BoxEnds}
+use Rattle.exact_math.specs.Ends.{Ends, BoxEnds, neg_ends}
 use Rattle.exact_math.specs.Ratio.{Ratio, ComplexRatio, re_part, im_part, neg_ratio}
 use Rattle.exact_math.specs.Rounding.{floor_div, ceil_div}
 use Rattle.particle_text.specs.declared.Mode.{Mode}
@@ -28,7 +28,7 @@ abbrev pub target_counts : Mode → BoxEnds → TargetCounts
 target_counts Field b = record { first = count_ends b.re; second = count_ends b.im }
 target_counts Velocity b = record {
   first = count_ends b.re;
-  second = record { lo = neg_ℤ (count_above b.im.hi); hi = neg_ℤ (count_below b.im.lo) };
+  second = neg_ends (count_ends b.im);
 }
 
 -- the second number of a target line

@@ -1,1 +1,3 @@
-pub mod Orders
+pub mod Examples
+pub mod LeafContains
+pub mod Commands

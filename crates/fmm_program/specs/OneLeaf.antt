@@ -1,5 +1,5 @@
 -- The field of a list that makes one leaf: each target's box is the sum of its pairs.
-use Rattle.std.specs.Prelude.{ℕ, ◌+◌, ◌≡◌, Bool, not, List, [], ◌∷◌, filter, fold, map, length, sum_by}
+use Rattle.std.specs.Prelude.{ℕ, not, List, filter, fold, map, length, sum_by}
 use Rattle.exact_math.specs.Ends.{BoxEnds, add_box, zero_box}
 use Rattle.exact_math.specs.Gaussian.{Gaussian}
 use Rattle.near_field.specs.DirectSum.{is_source, acting_on}

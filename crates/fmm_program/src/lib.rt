@@ -3,4 +3,4 @@
 
 mod words;
 
-pub use words::{Opening, Words};
+pub use words::{Opening, Words, plan};

@@ -1,8 +1,11 @@
 //! The words of the command line, and what they ask for.
 ghost use Rattle.std.specs.Prelude.{◌≡◌, ℕ, ◌+◌, ◌<◌, ◌≤◌, List, [], ◌∷◌, ◌++◌, length, slice_get, codes, decimal, ◌≢◌, IfSome, IfNone, OnOk, OnErr, Some, None};
-ghost use Rattle.fmm_program.specs.Forms.{IsSolve, IsUsage, Opens, IsOrder, IsCapacity};
+ghost use Rattle.exact_math.specs.Orders.{IsOrder, IsCapacity};
+ghost use Rattle.number_text.specs.Numbers.{IsUint};
+ghost use Rattle.fmm_program.specs.Forms.{Asks, IsUsage, Opens};
 
-use particle_text::Memory;
+use io_ports::Memory;
+use number_text::read_uint;
 use std::alloc::Global;
 use std::marker::Model;
 
@@ -72,16 +75,68 @@ pub enum Opening<'a> {
     SolveFile { file: &'a str },
 }
 
-/// The order that a word spells: 4, 8, 16 or 24.
-fn order_of(word: &str) -> Option<u32>
-    ensures some { IfSome result (λ n. IsOrder n × (word.now ≡ decimal n)) }
-    ensures none { IfNone result ((n : ℕ) → IsOrder n → word.now ≢ decimal n) }
+/// What the words ask for.
+#[derive(Clone, Copy, Debug, PartialEq, Eq)]
+pub(crate) enum Command<'a> {
+    /// `solve ORDER CAP FILE`
+    Solve { order: u32, cap: u32, file: &'a str },
+}
+
+/// The number that a word spells, where it is at least `least` and at most `most`.
+fn number_in(word: &str, least: u32, most: u32) -> Option<u32>
+    ensures some { IfSome result (λ n. IsUint word.now n × (least ≤ n) × (n ≤ most)) }
+    ensures none { IfNone result ((n : ℕ) → IsUint word.now n → least ≤ n → n ≤ most → ⊥) }
 {
-    match word {
-        "4" => Some(4),
-        "8" => Some(8),
-        "16" => Some(16),
-        "24" => Some(24),
+    let number = read_uint(word.as_bytes())?;
+    if number < u64::from(least) || u64::from(most) < number {
+        return None;
+    }
+    Some(number as u32)
+}
+
+/// The order that a word spells.
+fn order_of(word: &str) -> Option<u32>
+    ensures some { IfSome result (λ n. IsUint word.now n × IsOrder n) }
+    ensures none { IfNone result ((n : ℕ) → IsUint word.now n → IsOrder n → ⊥) }
+{
+    let number = number_in(word, 4, 24)?;
+    match number {
+        4 | 8 | 16 | 24 => Some(number),
         _ => None,
+    }
+}
+
+/// The capacity that a word spells.
+fn capacity_of(word: &str) -> Option<u32>
+    ensures some { IfSome result (λ n. IsUint word.now n × IsCapacity n) }
+    ensures none { IfNone result ((n : ℕ) → IsUint word.now n → IsCapacity n → ⊥) }
+{
+    number_in(word, 8, 1024)
+}
+
+/// The command that the words ask for; `None` where they are of no form.
+pub(crate) fn asked(words: &Words) -> Option<Command<'_>>
+    ensures some { IfSome result (λ c. Asks words.now c) }
+    ensures none { IfNone result (IsUsage words.now) }
+{
+    if words.count() != 4 || words.word(0) != "solve" {
+        return None;
+    }
+    let order = order_of(words.word(1))?;
+    let cap = capacity_of(words.word(2))?;
+    let file = words.word(3);
+    Some(Command::Solve { order, cap, file })
+}
+
+/// What is to be opened for these words. It takes no memory.
+///
+/// `Nothing` exactly where they are of no form; a FILE `-` is standard input.
+pub fn plan(words: &Words) -> Opening<'_>
+    ensures { Opens words.now result }
+{
+    match asked(words) {
+        Some(Command::Solve { file: "-", .. }) => Opening::SolveInput,
+        Some(Command::Solve { file, .. }) => Opening::SolveFile { file },
+        None => Opening::Nothing,
     }
 }

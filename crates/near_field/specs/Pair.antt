@@ -4,7 +4,6 @@ use Rattle.std.specs.Ordering.{int_eq}
 use Rattle.exact_math.specs.Ends.{BoxEnds, zero_box}
 use Rattle.exact_math.specs.Gaussian.{Gaussian, sub_gaussian}
 use Rattle.exact_math.specs.Ratio.{ComplexRatio, zero_complex}
-use Rattle.exact_math.specs.Rounding.{floor_div, ceil_div}
 use Rattle.exact_math.specs.Terms.{pole_term, dipole_term}
 use Rattle.particle_text.specs.declared.Kind.{Kind}
 use Rattle.particle_text.specs.declared.Kind.TheVariants.{Charge, Dipole, Vortex, Target}
@@ -26,12 +25,9 @@ term_at Target delta = zero_complex
 abbrev pub term_of : Gaussian → Point → ComplexRatio
 term_of t p = term_at p.kind (sub_gaussian t (place p))
 
--- a fraction in units of 2^-40, both parts rounded outward
+-- a fraction in units of 2^-40, both parts rounded outward: quot of 2^40 times the numerators by the denominator
 abbrev pub outward : ComplexRatio → BoxEnds
-outward z = record {
-  re = record { lo = floor_div (pos (2 ^ 40) *ℤ z.re) z.denominator; hi = ceil_div (pos (2 ^ 40) *ℤ z.re) z.denominator };
-  im = record { lo = floor_div (pos (2 ^ 40) *ℤ z.im) z.denominator; hi = ceil_div (pos (2 ^ 40) *ℤ z.im) z.denominator };
-}
+outward z = quot_box (point_box (pos (2 ^ 40) *ℤ z.re) (pos (2 ^ 40) *ℤ z.im)) z.denominator
 
 -- the box of a pair: the term rounded outward, and the zero box at one place
 abbrev pub pair_box : Gaussian → Point → BoxEnds

@@ -1,0 +1,8 @@
+-- Lemmas on cells.
+pub mod Ancestors
+pub mod Axis
+pub mod Cells
+pub mod Levels
+pub mod Comparisons
+pub mod Distances
+pub mod Quarters

@@ -1,0 +1,175 @@
+//! Cells and their arithmetic.
+
+ghost use Rattle.std.specs.Prelude.{◌≡◌, ◌≤◌, ◌<◌, ◌^◌, ◌+◌, ◌*◌, ◌%◌, IsTrue, ◌↔◌, pos, ◌≤ℤ◌, ◌<ℤ◌, ◌+ℤ◌, FitsSigned};
+ghost use Rattle.std.specs.Int.{w64};
+ghost use Rattle.cell_name.specs.Square.{side, corner_x, corner_y, doubled_centre_x, doubled_centre_y, offset_x, offset_y, Holds, Touches, IsInGrid, IsInsideGrid, square_at, parent, child, ancestor};
+
+/// The bits of the grid: it has 2 ^ 16 places in each direction.
+pub const GRID: u8 = 16;
+
+/// How far the origin is from the west and the south border of the grid.
+const HALF: i64 = 32768;
+
+/// A cell of the quadtree, ordered by level, column and row.
+///
+/// Level 0 is the whole grid, and each level halves the side. Column `i` counts from the west and row `j` from the south.
+#[derive(Clone, Copy, PartialEq, Eq, PartialOrd, Ord, Debug)]
+pub struct Cell {
+    pub level: u8,
+    pub i: u32,
+    pub j: u32,
+    pub ghost level_in_grid: { level ≤ 16 },
+    pub ghost column: { i < 2 ^ level },
+    pub ghost row: { j < 2 ^ level },
+}
+
+/// Which quarter of its parent a cell is.
+#[derive(Clone, Copy, PartialEq, Eq, Debug)]
+pub struct Quadrant {
+    pub right: bool,
+    pub top: bool,
+}
+
+impl Cell {
+    ghost use Rattle.cell_name.specs.Cell.{square, half_number};
+
+    /// The one cell of a level that holds a place of the grid: column `(x + 32768) / s`, row `(y + 32768) / s`, for the side `s`.
+    pub fn of(x: i64, y: i64, level: u8) -> Cell
+        requires in_grid { IsInGrid 16 x y }
+        requires level { level ≤ 16 }
+        ensures { square result ≡ square_at 16 level x y }
+    {
+        let shift = GRID - level;
+        Cell {
+            level,
+            i: ((x + HALF) as u32) >> shift,
+            j: ((y + HALF) as u32) >> shift,
+        }
+    }
+
+    /// The cell of the level above that has this cell as a quarter: `(level - 1, i / 2, j / 2)`.
+    pub fn parent(self) -> Cell
+        requires { 1 ≤ self.level }
+        ensures { square result ≡ parent (square self) }
+    {
+        Cell {
+            level: self.level - 1,
+            i: self.i / 2,
+            j: self.j / 2,
+        }
+    }
+
+    /// The cell of a level that has this cell as a part, for a level that is at most the cell's own.
+    pub fn ancestor(self, level: u8) -> Cell
+        requires { level ≤ self.level }
+        ensures { square result ≡ ancestor (square self) level }
+    {
+        let shift = self.level - level;
+        Cell {
+            level,
+            i: self.i >> shift,
+            j: self.j >> shift,
+        }
+    }
+
+    /// Which quarter of its parent the cell is.
+    pub fn quadrant(self) -> Quadrant
+        requires { 1 ≤ self.level }
+        ensures right { half_number result.right ≡ self.i % 2 }
+        ensures top { half_number result.top ≡ self.j % 2 }
+    {
+        Quadrant {
+            right: self.i % 2 == 1,
+            top: self.j % 2 == 1,
+        }
+    }
+
+    /// A quarter of the cell, one level below: column `2 i` or `2 i + 1`, row `2 j` or `2 j + 1`.
+    pub fn child(self, q: Quadrant) -> Cell
+        requires { self.level ≤ 15 }
+        ensures { square result ≡ child (square self) (half_number q.right) (half_number q.top) }
+    {
+        Cell {
+            level: self.level + 1,
+            i: 2 * self.i + u32::from(q.right),
+            j: 2 * self.j + u32::from(q.top),
+        }
+    }
+
+    /// The length of a side, `2^(16 - level)` places.
+    pub fn side(self) -> i64
+        ensures value { result ≡ pos (side (square self)) }
+        ensures at_least { pos 1 ≤ℤ result }
+        ensures at_most { result ≤ℤ pos 65536 }
+    {
+        1 << (GRID - self.level)
+    }
+
+    /// The corner in the southwest, `(i s - 32768, j s - 32768)` for the side `s`.
+    pub fn corner(self) -> (i64, i64)
+        ensures x { result.0 ≡ corner_x (square self) }
+        ensures y { result.1 ≡ corner_y (square self) }
+        ensures inside { IsInsideGrid (square self) }
+    {
+        let s = self.side();
+        (i64::from(self.i) * s - HALF, i64::from(self.j) * s - HALF)
+    }
+
+    /// Twice the centre, which is whole: `2 corner + (s, s)` for the side `s`.
+    pub fn doubled_centre(self) -> (i64, i64)
+        ensures x { result.0 ≡ doubled_centre_x (square self) }
+        ensures y { result.1 ≡ doubled_centre_y (square self) }
+        ensures inside { IsInsideGrid (square self) }
+    {
+        let s = self.side();
+        let (x, y) = self.corner();
+        (2 * x + s, 2 * y + s)
+    }
+
+    /// Twice the offset of a place of the grid from the centre.
+    pub fn offset(self, x: i64, y: i64) -> (i64, i64)
+        requires { IsInGrid 16 x y }
+        ensures x { result.0 ≡ offset_x (square self) x }
+        ensures y { result.1 ≡ offset_y (square self) y }
+    {
+        let (cx, cy) = self.doubled_centre();
+        (2 * x - cx, 2 * y - cy)
+    }
+
+    /// Whether the half-open square has the place: `corner.x <= x < corner.x + s`, and the same for `y`.
+    pub fn holds(self, x: i64, y: i64) -> bool
+        ensures { IsTrue result ↔ Holds (square self) x y }
+    {
+        let s = self.side();
+        let (cx, cy) = self.corner();
+        spans(cx, s, x) && spans(cy, s, y)
+    }
+
+    /// Whether the closed squares meet, be it in a corner alone.
+    pub fn touches(self, o: Cell) -> bool
+        ensures { IsTrue result ↔ Touches (square self) (square o) }
+    {
+        let s = self.side();
+        let t = o.side();
+        let (x, y) = self.corner();
+        let (ox, oy) = o.corner();
+        meet(x, s, ox, t) && meet(y, s, oy, t)
+    }
+}
+
+/// Whether the half-open piece of length `s` from `a` has `x`.
+fn spans(a: i64, s: i64, x: i64) -> bool
+    requires { FitsSigned w64 (a +ℤ s) }
+    ensures { IsTrue result ↔ ((a ≤ℤ x) × (x <ℤ (a +ℤ s))) }
+{
+    a <= x && x < a + s
+}
+
+/// Whether the closed pieces of length `s` from `a` and of length `t` from `b` meet.
+fn meet(a: i64, s: i64, b: i64, t: i64) -> bool
+    requires first { FitsSigned w64 (a +ℤ s) }
+    requires second { FitsSigned w64 (b +ℤ t) }
+    ensures { IsTrue result ↔ ((a ≤ℤ (b +ℤ t)) × (b ≤ℤ (a +ℤ s))) }
+{
+    a <= b + t && b <= a + s
+}
