@@ -13,9 +13,10 @@ use Rattle.exact_math.specs.Sums.{count, pow_complex}
 use Rattle.exact_math.proofs.Ring.{int_ring}
 use Rattle.exact_math.proofs.RingTactic.{int_quotes, ring2, ring3, ring5, ring6}
 use Rattle.exact_math.proofs.Integers.{*-positive, *-cancel_≤}
-use Rattle.exact_math.proofs.Binomials.{choose}
+use Rattle.exact_math.specs.Binomials.{choose}
 use Rattle.exact_math.proofs.EndsBridges.{BoxEndsContain-point, BoxEndsContain-quot, BoxEndsContain-gquot, BoxEndsContain-scale, BoxEndsContain-neg}
-use Rattle.kernel_table.specs.Kernel.{conj_multiple, kernel_power, kernel_entry, alternate_box, reciprocal, alternate_complex, kernel_fraction}
+use Rattle.kernel_table.specs.Kernel.{conj_multiple, kernel_power, kernel_entry, alternate_box, alternate_complex, kernel_fraction}
+use Rattle.truncation.specs.CutTerms.{reciprocal}
 use Rattle.kernel_table.proofs.PowersOfTwo.{two_power, power_positive, power_add}
 
 -- another fraction in another unit, with the same multiple

@@ -3,3 +3,5 @@ mod Chosen
 mod Contained
 mod Widths
 mod Sizes
+mod Norms
+mod Signs

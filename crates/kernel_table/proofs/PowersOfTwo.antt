@@ -2,7 +2,7 @@
 use mathlib.Core.Path.{◌≡◌, refl, sym, ap, ◌∙◌}
 use Prim.Native.Nat.{ℕ, zero, suc, ◌+◌, ◌*◌, ◌^◌, ◌≤◌, ◌<◌}
 use native.Mathlib.Omega.{arith}
-use Rattle.exact_math.proofs.Binomials.{choose}
+use Rattle.exact_math.specs.Binomials.{choose}
 
 pub two_power : (n : ℕ) → 2 ^ suc n ≡ 2 * 2 ^ n
 two_power n = omega arith

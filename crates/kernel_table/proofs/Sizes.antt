@@ -7,7 +7,7 @@ use lib.IntN.{ℤ, pos, negsuc, neg_ℤ, ◌+ℤ◌, ◌-ℤ◌, ◌*ℤ◌}
 use lib.Signed.{◌<ℤ◌, ◌≤ℤ◌}
 use Rattle.std.proofs.lemmas.Int.{ints, clamps}
 use Rattle.exact_math.specs.Contains.{Contains}
-use Rattle.exact_math.specs.Ends.{Ends, BoxEnds, neg_ends, scale_ends, quot_ends, EndsWithin, BoxEndsWithin}
+use Rattle.exact_math.specs.Ends.{Ends, BoxEnds, add_ends, sub_ends, neg_ends, scale_ends, scale_box, quot_ends, EndsWithin, BoxEndsWithin}
 use Rattle.exact_math.specs.Gaussian.{Gaussian, norm_gaussian}
 use Rattle.exact_math.specs.Ratio.{Ratio, ComplexRatio, mul_complex}
 use Rattle.exact_math.specs.Rounding.{floor_div, ceil_div}
@@ -16,9 +16,11 @@ use Rattle.exact_math.specs.Within.{Within}
 use Rattle.exact_math.proofs.Ring.{int_ring}
 use Rattle.exact_math.proofs.RingTactic.{int_quotes, ring2, ring3, ring4, ring5, ring6}
 use Rattle.exact_math.proofs.Integers as Z
-use Rattle.exact_math.proofs.Binomials.{choose}
+use Rattle.exact_math.specs.Binomials.{choose}
 use Rattle.exact_math.proofs.Enclosures.{floor_div_le}
-use Rattle.kernel_table.specs.Kernel.{IsKernelDistance, kernel_power, kernel_entry, alternate_box, reciprocal}
+use Rattle.complex_box.specs.Box.{GscaleFits}
+use Rattle.kernel_table.specs.Kernel.{IsKernelDistance, kernel_power, kernel_entry, alternate_box}
+use Rattle.truncation.specs.CutTerms.{reciprocal}
 use Rattle.kernel_table.specs.Narrow.{EndsNarrow, BoxEndsNarrow}
 use Rattle.kernel_table.proofs.Contained.{kernel_power_contains}
 use Rattle.kernel_table.proofs.PowersOfTwo.{two_power, power_positive, power_add, choose_le}
@@ -126,6 +128,10 @@ module _ (e : Gaussian) (h : IsKernelDistance e) where
       let room : 2 ^ 59 + widths n ≤ 2 ^ 59 + 2 ^ 20 = let l = widths_le n small in omega (arith, l) in
       record { re = within-more room (within-near (2 ^ 59) (widths n) k.re w.re (units-le n _ _ s.0)); im = within-more room (within-near (2 ^ 59) (widths n) k.im w.im (units-le n _ _ s.1)) }
 
+-- so they fit 61 bits and a sign
+pub power-fits : (e : Gaussian) → IsKernelDistance e → (n : ℕ) → n ≤ 62 → BoxEndsWithin (2 ^ 60) (kernel_power e n)
+power-fits e h n small = let w = kernel_power_within e h n small in record { re = within-more (omega arith) w.re; im = within-more (omega arith) w.im }
+
 -- ---- the entries
 within-scale : (n c : ℕ) {i : Ends} → EndsWithin n i → EndsWithin (c * n) (scale_ends (pos c) i)
 within-scale n c {i} h =
@@ -139,6 +145,55 @@ within-scale n c {i} h =
       lo = record { above = omega (arith, ints, clamps, e, a, a'); below = omega (arith, ints, clamps, e, b, b') };
       hi = record { above = omega (arith, ints, clamps, e, a, a'); below = omega (arith, ints, clamps, e, b, b') };
     }
+
+-- the same for a factor of either sign
+pub within-factor : (n c : ℕ) (k : ℤ) {i : Ends} → Within c k → EndsWithin n i → EndsWithin (c * n) (scale_ends k i)
+within-factor n c (pos k) {i} small h = let l : k ≤ c = omega (arith, ints, small.below) in within-more (mul-le-mul_right n l) (within-scale n k h)
+within-factor n c (negsuc k) {i} small h =
+    let s : EndsWithin (suc k * n) (scale_ends (pos (suc k)) i) = within-scale n (suc k) h in
+    let l = turned i.lo in
+    let m = turned i.hi in
+    let o : suc k ≤ c = omega (arith, ints, small.above) in
+    within-more (mul-le-mul_right n o) (record {
+      lo = record { above = omega (arith, ints, clamps, l, m, s.hi.below); below = omega (arith, ints, clamps, l, m, s.lo.above) };
+      hi = record { above = omega (arith, ints, clamps, l, m, s.hi.below); below = omega (arith, ints, clamps, l, m, s.lo.above) };
+    })
+  where
+    turned : (a : ℤ) → a *ℤ negsuc k ≡ neg_ℤ (a *ℤ pos (suc k))
+    turned a = times_neg a (pos (suc k))
+
+-- the product of a power with twice a distance fits
+pub gscale-fits : {b : BoxEnds} {g : Gaussian} → BoxEndsWithin (2 ^ 60) b → Within 6 g.re → Within 6 g.im → GscaleFits b g
+gscale-fits {b} {g} w x y =
+    let p = within-factor (2 ^ 60) 6 g.re x w.re in
+    let q = within-factor (2 ^ 60) 6 g.im y w.im in
+    let r = within-factor (2 ^ 60) 6 g.im y w.re in
+    let s = within-factor (2 ^ 60) 6 g.re x w.im in
+    record {
+      re_re = within-more (omega arith) p;
+      im_im = within-more (omega arith) q;
+      im_re = within-more (omega arith) r;
+      re_im = within-more (omega arith) s;
+      whole = record { re = within-sub p q; im = within-add r s };
+    }
+  where
+    within-sub : {i j : Ends} → EndsWithin (6 * 2 ^ 60) i → EndsWithin (6 * 2 ^ 60) j → EndsWithin (2 ^ 126) (sub_ends i j)
+    within-sub {i} {j} h k = record {
+      lo = record { above = omega (arith, ints, h.lo.above, k.hi.below); below = omega (arith, ints, h.lo.below, k.hi.above) };
+      hi = record { above = omega (arith, ints, h.hi.above, k.lo.below); below = omega (arith, ints, h.hi.below, k.lo.above) };
+    }
+
+    within-add : {i j : Ends} → EndsWithin (6 * 2 ^ 60) i → EndsWithin (6 * 2 ^ 60) j → EndsWithin (2 ^ 126) (add_ends i j)
+    within-add {i} {j} h k = record {
+      lo = record { above = omega (arith, ints, h.lo.above, k.lo.above); below = omega (arith, ints, h.lo.below, k.lo.below) };
+      hi = record { above = omega (arith, ints, h.hi.above, k.hi.above); below = omega (arith, ints, h.hi.below, k.hi.below) };
+    }
+
+-- the product of a power with a binomial coefficient fits
+pub scale-fits : {b : BoxEnds} {k : ℤ} → BoxEndsWithin (2 ^ 60) b → pos 0 ≤ℤ k → k ≤ℤ pos (2 ^ 62) → BoxEndsWithin (2 ^ 126) (scale_box k b)
+scale-fits {b} {k} w h l =
+    let small : Within (2 ^ 62) k = record { above = omega (arith, ints, h); below = l } in
+    record { re = within-more (omega arith) (within-factor (2 ^ 60) (2 ^ 62) k small w.re); im = within-more (omega arith) (within-factor (2 ^ 60) (2 ^ 62) k small w.im) }
 
 floor-within : (n m : ℕ) (a : ℤ) → 0 < m → Within (m * n) a → Within n (floor_div a (pos m))
 floor-within n m a m>0 h =

@@ -15,7 +15,7 @@ use Rattle.exact_math.specs.Rounding.{floor_div, ceil_div}
 use Rattle.exact_math.proofs.Ring.{int_ring}
 use Rattle.exact_math.proofs.RingTactic.{int_quotes, ring2, ring3}
 use Rattle.exact_math.proofs.Integers as Z
-use Rattle.exact_math.proofs.Binomials.{choose}
+use Rattle.exact_math.specs.Binomials.{choose}
 use Rattle.exact_math.proofs.Enclosures.{floor_div_le, ceil_div_ge}
 use Rattle.kernel_table.specs.Kernel.{IsKernelDistance, conj_multiple, kernel_power, kernel_entry, alternate_box}
 use Rattle.kernel_table.specs.Narrow.{EndsNarrow, BoxEndsNarrow}
@@ -105,7 +105,7 @@ widths (suc n) = next_width (widths n)
 abbrev pub norm_count : Gaussian → ℕ
 norm_count e = unsigned_abs e.re * unsigned_abs e.re + unsigned_abs e.im * unsigned_abs e.im
 
-square_abs : (a : ℤ) → pos (unsigned_abs a * unsigned_abs a) ≡ a *ℤ a
+pub square_abs : (a : ℤ) → pos (unsigned_abs a * unsigned_abs a) ≡ a *ℤ a
 square_abs (pos n) = omega (arith, ints)
 square_abs (negsuc n) = omega (arith, ints)
 

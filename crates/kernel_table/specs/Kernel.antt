@@ -4,7 +4,8 @@ use Rattle.exact_math.specs.Ends.{BoxEnds, point_box, neg_box, scale_box, quot_b
 use Rattle.exact_math.specs.Gaussian.{Gaussian, gaussian, norm_gaussian}
 use Rattle.exact_math.specs.Ratio.{ComplexRatio, neg_complex, mul_complex}
 use Rattle.exact_math.specs.Sums.{count, pow_complex}
-use Rattle.exact_math.proofs.Binomials.{choose}
+use Rattle.exact_math.specs.Binomials.{choose}
+use Rattle.truncation.specs.CutTerms.{reciprocal}
 
 -- the centre of the target's cell less that of the source's, in sides: the greater of the sizes of its parts is 2 or 3
 pub record IsKernelDistance (e : Gaussian) : Type 0 where
@@ -33,10 +34,6 @@ unfoldable pub kernel_entry : Gaussian → ℕ → ℕ → BoxEnds
 kernel_entry e k l = alternate_box l (quot_box (scale_box (pos (choose (k + l) k)) (kernel_power e (k + l))) (pos (2 ^ (k + l + 20))))
 
 -- ---- the exact kernel
--- 1/e, as conj e over norm e
-abbrev pub reciprocal : Gaussian → ComplexRatio
-reciprocal e = record { re = e.re; im = neg_ℤ e.im; denominator = norm_gaussian e }
-
 -- (-1)^l z
 abbrev pub alternate_complex : ℕ → ComplexRatio → ComplexRatio
 alternate_complex zero z = z

@@ -1,6 +1,6 @@
 //! Binomial coefficients.
 ghost use Rattle.std.specs.Prelude.{◌≡◌, ◌≤◌};
-ghost use Rattle.exact_math.proofs.Binomials.{choose};
+ghost use Rattle.exact_math.specs.Binomials.{choose};
 
 /// `C(n, k)`, the number of ways to choose `k` of `n`. Condition: `k <= n <= 62`.
 ///

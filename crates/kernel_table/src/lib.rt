@@ -5,5 +5,9 @@
 #![tactic(auto)]
 
 mod binomials;
+mod distances;
+mod powers;
+mod table;
 
 pub use binomials::binomial;
+pub use table::Kernel;

@@ -1,5 +1,5 @@
 use Rattle.std.proofs.Common.{◌≡◌}
-use Rattle.exact_math.proofs.Binomials.{choose}
+use Rattle.exact_math.specs.Binomials.{choose}
 use Rattle.kernel_table.proofs.binomials.binomial.Given as goal
 
 abbrev pub invariant-loop-chosen : goal.invariant-loop-chosen

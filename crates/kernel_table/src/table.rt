@@ -1,0 +1,2 @@
+//! E
+pub struct Kernel {}
