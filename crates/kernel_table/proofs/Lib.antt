@@ -4,4 +4,5 @@ mod Contained
 mod Widths
 mod Sizes
 mod Norms
+mod Pushed
 mod Signs

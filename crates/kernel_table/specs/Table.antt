@@ -1,5 +1,6 @@
 -- How the kernel's table lies in memory.
 use Rattle.std.specs.Prelude.{ℕ, ◌≡◌, ◌+◌, ◌-◌, ◌/◌, ◌%◌, ◌<◌, List, length, slice_index_or, nat_lt, if◌then◌else◌, ℤ, pos, ◌-ℤ◌}
+use Rattle.exact_math.specs.Binomials.{choose}
 use Rattle.exact_math.specs.Gaussian.{Gaussian, gaussian}
 use Rattle.complex_box.specs.Box.{box_ends}
 use Rattle.complex_box.specs.declared.CBox.{CBox}
@@ -16,6 +17,10 @@ distance_at n = if nat_lt n 28 then gaussian (far_part (n / 7)) (pos (n % 7) -�
 -- the boxes are the powers of the kernel at e, from the first on
 abbrev pub ArePowers : Gaussian → List CBox → Type 0
 ArePowers e powers = (n : ℕ) (other : CBox) → n < length powers → box_ends (slice_index_or powers n other) ≡ kernel_power e n
+
+-- C(k + l, k) at the index l P + k
+abbrev pub AreWays : ℕ → List ℤ → Type 0
+AreWays P ways = (i : ℕ) (other : ℤ) → i < length ways → slice_index_or ways i other ≡ pos (choose (i % P + i / P) (i % P))
 
 -- at each distance in turn, for each l in turn, the entries over k: the entry (k, l) of the distance n has the index (n P + l) P + k
 abbrev pub IsKernelTable : ℕ → List CBox → Type 0
