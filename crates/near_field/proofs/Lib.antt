@@ -1,3 +1,4 @@
 pub mod PairContains
-pub mod TermSizes
 pub mod PairSizes
+pub mod PairWidths
+pub mod TermSizes

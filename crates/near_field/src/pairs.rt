@@ -32,11 +32,19 @@ pub fn pair(p: &Point, x: i64, y: i64, work: &mut Work) -> CBox
     ensures not_counted { is_at (gaussian x y) p.now ≡ true → work.new.pairs ≡ work.old.pairs }
     ensures translations { work.new.translations ≡ work.old.translations }
 {
-    if p.x == x && p.y == y {
+    if stands_at(p, x, y) {
         return CBox::zero();
     }
     work.raise_pairs();
     rounded(contribution(p, x - p.x, y - p.y))
+}
+
+/// Whether `p` is at the place `(x, y)`.
+#[inline]
+fn stands_at(p: &Point, x: i64, y: i64) -> bool
+    ensures { result ≡ is_at (gaussian x y) p.now }
+{
+    p.x == x && p.y == y
 }
 
 /// A fraction in units of 2^-40, rounded outward. Condition: its denominator is at least 1.
@@ -45,5 +53,5 @@ fn rounded(term: Term) -> CBox
     requires { pos 1 ≤ℤ term.denominator }
     ensures { box_ends result ≡ outward (ratio_of term) }
 {
-    CBox::point(i128::from(term.re) * UNIT, i128::from(term.im) * UNIT).quot(term.denominator)
+    CBox::point(UNIT * i128::from(term.re), UNIT * i128::from(term.im)).quot(term.denominator)
 }
