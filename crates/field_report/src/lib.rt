@@ -4,6 +4,7 @@
 mod counts;
 mod decimal;
 mod front;
+mod line;
 
 pub use counts::to_count;
 pub use decimal::Decimal;

@@ -1,4 +1,4 @@
 pub mod PairContains
-pub mod PairSizes
-pub mod PairWidths
 pub mod TermSizes
+pub mod PairSizes
+pub mod PairCall

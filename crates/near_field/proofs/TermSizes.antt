@@ -24,7 +24,7 @@ pole_re a b x y = ring4 int_ring a b x y (λ a b x y. search int_quotes depth 9)
 pub pole_im : (a b x y : ℤ) → b *ℤ x -ℤ a *ℤ y ≡ (mul_gaussian (gaussian a b) (conj (gaussian x y))).im
 pole_im a b x y = ring4 int_ring a b x y (λ a b x y. search int_quotes depth 9) tt
 
-abbrev squared : ℤ → ℤ → Gaussian
+abbrev pub squared : ℤ → ℤ → Gaussian
 squared x y = mul_gaussian (conj (gaussian x y)) (conj (gaussian x y))
 
 pub dipole_re : (a b x y : ℤ) → a *ℤ (x *ℤ x -ℤ y *ℤ y) +ℤ b *ℤ (x *ℤ y +ℤ x *ℤ y) ≡ (mul_gaussian (gaussian a b) (squared x y)).re

@@ -4,10 +4,15 @@ ghost use Rattle.exact_math.specs.Gaussian.{gaussian, norm_gaussian};
 ghost use Rattle.exact_math.specs.Within.{Within};
 ghost use Rattle.particle_text.specs.Limits.{InRange, weight64};
 ghost use Rattle.exact_math.specs.Terms.{pole_term, dipole_term};
-ghost use Rattle.near_field.specs.Pair.{term_at};
+ghost use Rattle.complex_box.specs.Box.{box_ends};
+ghost use Rattle.near_field.specs.Pair.{outward, term_at};
 ghost use Rattle.near_field.specs.Term.{ratio_of};
 
+use complex_box::CBox;
 use particle_text::{Kind, Point};
+
+/// How many units a box counts in 1.
+const UNIT: i128 = 1_099_511_627_776;
 
 /// The fraction `(re + i im)/denominator`.
 #[derive(Clone, Copy)]
@@ -91,4 +96,14 @@ pub(crate) fn contribution(p: &Point, dx: i64, dy: i64) -> Term
             denominator: 1,
         },
     }
+}
+
+/// A fraction in units of 2^-40, both parts rounded outward.
+pub(crate) fn enclosed(term: Term) -> CBox
+    requires { pos 1 ≤ℤ term.denominator }
+    ensures { box_ends result ≡ outward (ratio_of term) }
+{
+    let re = i128::from(term.re) * UNIT;
+    let im = i128::from(term.im) * UNIT;
+    CBox::point(re, im).quot(term.denominator)
 }

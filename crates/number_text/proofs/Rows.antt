@@ -1,8 +1,7 @@
 -- Numbers in a row, and casts of what is read.
-use Rattle.std.proofs.Common.{◌≡◌, ◌<◌, ◌≤ℤ◌, List, [], ◌∷◌, ◌++◌, length, ℕ, suc, ℤ, pos, negsuc, neg_ℤ, refl, sym, ap, ◌∙◌, subst, arith, to_z, of_z, w64, ◌⊎◌, ⊎_elim, inl, inr}
-use Rattle.std.proofs.lemmas.Int.{ints, to_z-of_z}
-use mir.Val.{SFits}
-use Rattle.number_text.specs.Numbers.{IsDigit, IsPlainNumber, IsInt, AreInts, value_after, nearest_uint, nearest_int, most_read}
+use Rattle.std.proofs.Common.{◌≡◌, ◌<◌, ◌≤ℤ◌, List, [], ◌∷◌, ◌++◌, length, ℕ, suc, ℤ, pos, negsuc, neg_ℤ, refl, sym, ap, ◌∙◌, subst, arith, to_z, of_z, w64, inl, inr}
+use Rattle.std.proofs.lemmas.Int.{ints}
+use Rattle.number_text.specs.Numbers.{IsDigit, IsPlainNumber, IsInt, AreInts, value_after, nearest_int, most_read}
 use Rattle.std.specs.List.{AllByRecursion}
 use Rattle.number_text.specs.Parts.{IsCut, IsFreeOf}
 use Rattle.number_text.proofs.Spelling.{one_word}
@@ -65,8 +64,9 @@ digits_free byte (c ∷ cs) below all = ((λ same. omega (arith, same, all.0)), 
 plain_free : (byte : ℕ) (word : List ℕ) → byte < 48 → IsPlainNumber word → IsFreeOf byte word
 plain_free byte [] below form = absurd form
 plain_free byte (c ∷ cs) below form = elim form [
-    inl alone ↦ ((λ same. omega (arith, same, alone.0)), subst (IsFreeOf byte) (sym alone.1) tt)
-  | inr plain ↦ ((λ same. omega (arith, same)), digits_free byte cs below plain.2) ]
+  | inl alone ↦ ((λ same. omega (arith, same, alone.0)), subst (IsFreeOf byte) (sym alone.1) tt)
+  | inr plain ↦ ((λ same. omega (arith, same)), digits_free byte cs below plain.2)
+]
 
 pub int_free : (byte : ℕ) (word : List ℕ) (z : ℤ) → byte < 45 → IsInt word z → IsFreeOf byte word
 int_free byte word (pos n) below int = plain_free byte word (omega arith) int.form

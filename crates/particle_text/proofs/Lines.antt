@@ -91,3 +91,29 @@ at_fault bytes rest mode points weight kind far more fault = inr (mode, points, 
   more = more;
   fault = subst (λ w. IsFirstKind (LineFault mode (length points) w rest) kind) far.weight_is fault;
 })
+
+-- The bytes up to the rest spell some points, of which the number and the total weight are given.
+pub record SomeSoFar (bytes rest : List ℕ) (mode : Mode) (live weight : ℕ) : Type 0 where
+  pub points : List Point
+  pub far : SoFar bytes rest mode points weight
+  pub live_is : live ≡ length points
+  pub few : live ≤ 65536
+  pub light : weight ≤ 4294967296
+
+pub some_start : (bytes rest : List ℕ) (mode : Mode) → bytes ≡ head_line mode ++ 10 ∷ rest → SomeSoFar bytes rest mode 0 0
+some_start bytes rest mode whole = record { points = []; far = start bytes rest mode whole; live_is = refl; few = omega arith; light = omega arith }
+
+pub some_step : (bytes rest : List ℕ) (mode : Mode) (live weight : ℕ) (p : Point) (more : List ℕ) → SomeSoFar bytes rest mode live weight → BeginsWith rest p more → InRange p → CanJoin mode live weight p
+    → SomeSoFar bytes more mode (live + 1) (weight + weight64 p)
+some_step bytes rest mode live weight p more some begins range joins = record {
+  points = some.points ++ p ∷ [];
+  far = step bytes rest mode some.points weight p more some.far begins range (subst (λ n. CanJoin mode n weight p) some.live_is joins);
+  live_is = omega (arith, some.live_is, length_push some.points p);
+  few = omega (arith, joins.room);
+  light = omega (arith, joins.light);
+}
+
+pub some_fault : (bytes rest : List ℕ) (mode : Mode) (live weight : ℕ) (kind : TextKind) → SomeSoFar bytes rest mode live weight → rest ≢ [] → IsFirstKind (LineFault mode live weight rest) kind → FirstFault bytes (live + 2) kind
+some_fault bytes rest mode live weight kind some more fault =
+    let first = at_fault bytes rest mode some.points weight kind some.far more (subst (λ n. IsFirstKind (LineFault mode n weight rest) kind) some.live_is fault) in
+    subst (λ n. FirstFault bytes (n + 2) kind) (sym some.live_is) first

@@ -17,7 +17,7 @@ pub use admission::{admit, in_grid};
 pub use law::{one_reading, one_text};
 pub use line::parse_point;
 pub use printer::print;
-pub use reader::parse;
+pub use reader::{first_fault, parse};
 
 use io_ports::Memory;
 use std::alloc::Global;
@@ -175,3 +175,6 @@ pub struct Points {
     pub mode: Mode,
     pub list: PointList,
 }
+
+#[cfg(test)]
+mod tests;

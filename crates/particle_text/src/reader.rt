@@ -96,3 +96,28 @@ pub fn parse(alloc: Global, bytes: &[u8]) -> Result<Points, ParseFault>
     }
     Ok(Points { mode, list })
 }
+
+/// The first line at fault, counted from 1, and what is wrong with it; `None` where the bytes are a text.
+///
+/// So bytes are either a text or have a first fault. It takes no memory.
+pub fn first_fault(bytes: &[u8]) -> Option<(u64, TextKind)>
+    ensures some { IfSome result (λ found. FirstFault bytes.now found.0 found.1) }
+    ensures none { IfNone result ((mode : Mode) × (points : List Point) × Spells bytes.now mode points) }
+{
+    let Some((mode, mut rest)) = read_head(bytes) else {
+        return Some((1, TextKind::Syntax));
+    };
+    let mut live = 0;
+    let mut weight = 0;
+    while !rest.is_empty() {
+        match next_point(mode, live, weight, rest) {
+            Ok((point, more)) => {
+                live += 1;
+                weight += point.weight64();
+                rest = more;
+            }
+            Err(what) => return Some((live + 2, what)),
+        }
+    }
+    None
+}

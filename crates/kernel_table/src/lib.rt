@@ -1,0 +1,13 @@
+//! The kernel that turns a multipole row into a local row, as a table of boxes.
+//!
+//! For two cells of one side whose centres are `e` sides apart, the kernel is `K_(k,l) = (-1)^l C(k + l, k)/e^(k + l + 1)`:
+//! the multipole to local formula of the method's papers of 1987 and 1988, in sides. Boxes count units of 2^-40.
+#![tactic(auto)]
+
+mod binomials;
+mod distances;
+mod powers;
+mod table;
+
+pub use binomials::binomial;
+pub use table::Kernel;
