@@ -1,14 +1,17 @@
 -- Counts keep the bounds of the ends that they come from.
-use Rattle.std.proofs.Common.{◌≡◌, ℕ, ◌^◌, ℤ, pos, neg_ℤ, ◌+ℤ◌, ◌-ℤ◌, ◌*ℤ◌, ◌≤ℤ◌, ◌<ℤ◌, Bool, true, false, arith}
+use Rattle.std.proofs.Common.{◌≡◌, ◌^◌, ℤ, pos, ◌*ℤ◌, ◌≤ℤ◌, ◌<ℤ◌, Bool, true, false, arith}
 use borrow.Author.Differences.{ints}
+use Rattle.exact_math.proofs.Bridges.{contains-neg}
 use Rattle.exact_math.proofs.Enclosures.{floor_div_le, ceil_div_ge}
 use Rattle.exact_math.proofs.Ring.{int_ring}
 use Rattle.exact_math.proofs.RingTactic.{int_quotes, ring3}
 use Rattle.exact_math.proofs.Integers.{*-mono_left, *-cancel_≤, ≤-from_<}
 use Rattle.exact_math.specs.Contains.{Contains}
-use Rattle.exact_math.specs.Ratio.{Ratio}
-use Rattle.exact_math.specs.Rounding.{floor_div, ceil_div}
-use Rattle.field_report.specs.Counts.{count_below, count_above, KeepsBound}
+use Rattle.exact_math.specs.Ends.{BoxEnds, BoxEndsContain}
+use Rattle.exact_math.specs.Ratio.{Ratio, ComplexRatio, re_part, im_part}
+use Rattle.field_report.specs.Counts.{count_below, count_above, KeepsBound, CountsContain, target_counts}
+use Rattle.particle_text.specs.declared.Mode.{Mode}
+use Rattle.particle_text.specs.declared.Mode.TheVariants.{Field, Velocity}
 
 -- products of three, with the first factor in the second place, or in the third
 swapped : (a b c : ℤ) → a *ℤ (b *ℤ c) ≡ b *ℤ (a *ℤ c)
@@ -60,3 +63,8 @@ KeepsBound-down true n count h e = absurd (cc)
 pub KeepsBound-up : (up : Bool) (n count : ℤ) → up ≡ true → count ≡ count_above n → KeepsBound up n count
 KeepsBound-up true n count h e = λ x hd b. rw e (count_above-bound n x hd b)
 KeepsBound-up false n count h e = absurd (cc)
+
+-- the counts of a target line contain what the box contains
+pub CountsContain-box : (mode : Mode) (b : BoxEnds) (z : ComplexRatio) → BoxEndsContain (pos (2 ^ 40)) b z → CountsContain mode (target_counts mode b) z
+CountsContain-box Field b z h = record { first = contains-counts b.re.lo b.re.hi (re_part z) h.re; second = contains-counts b.im.lo b.im.hi (im_part z) h.im }
+CountsContain-box Velocity b z h = record { first = contains-counts b.re.lo b.re.hi (re_part z) h.re; second = contains-neg (contains-counts b.im.lo b.im.hi (im_part z) h.im) }

@@ -31,12 +31,12 @@ pub record TargetCounts : Type 0 where
   pub second : Ends
 
 -- A field line prints both parts. In a velocity line `u` is the real part and `v` the negative of the imaginary part.
+abbrev pub second_ends : Mode → Ends → Ends
+second_ends Field im = count_ends im
+second_ends Velocity im = neg_ends (count_ends im)
+
 abbrev pub target_counts : Mode → BoxEnds → TargetCounts
-target_counts Field b = record { first = count_ends b.re; second = count_ends b.im }
-target_counts Velocity b = record {
-  first = count_ends b.re;
-  second = neg_ends (count_ends b.im);
-}
+target_counts mode b = record { first = count_ends b.re; second = second_ends mode b.im }
 
 -- the second number of a target line
 abbrev pub second_part : Mode → ComplexRatio → Ratio

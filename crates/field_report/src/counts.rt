@@ -4,7 +4,12 @@ ghost use Rattle.exact_math.specs.Contains.{Contains};
 ghost use Rattle.exact_math.specs.Ratio.{Ratio, neg_ratio};
 ghost use Rattle.exact_math.specs.Rounding.{floor_div};
 ghost use Rattle.exact_math.specs.Within.{Within};
-ghost use Rattle.field_report.specs.Counts.{count_below, count_above, KeepsBound};
+ghost use Rattle.exact_math.specs.Ends.{Ends, BoxEnds};
+ghost use Rattle.fixed_interval.specs.Interval.{IntervalWithin, ends_of};
+ghost use Rattle.field_report.specs.Counts.{second_ends, count_below, count_above, KeepsBound};
+
+use fixed_interval::Interval;
+use particle_text::Mode;
 
 /// The bits of the unit of boxes.
 const UNIT_BITS: u32 = 40;
@@ -63,16 +68,15 @@ pub(crate) struct CountEnds {
 
 impl CountEnds {
     /// The count of the lower end rounded down, and that of the upper end rounded up.
-    pub(crate) fn of(lo: i128, hi: i128) -> CountEnds
-        requires low_size { Within (2 ^ 84) lo }
-        requires high_size { Within (2 ^ 84) hi }
-        ensures lo { result.lo ≡ count_below lo }
-        ensures hi { result.hi ≡ count_above hi }
-        ensures contains { (x : Ratio) → Contains (pos (2 ^ 40)) lo hi x → Contains (pos (10 ^ 12)) result.lo result.hi x }
+    pub(crate) fn of(i: Interval) -> CountEnds
+        requires { IntervalWithin (2 ^ 84) i }
+        ensures lo { result.lo ≡ count_below i.lo }
+        ensures hi { result.hi ≡ count_above i.hi }
+        ensures contains { (x : Ratio) → Contains (pos (2 ^ 40)) i.lo i.hi x → Contains (pos (10 ^ 12)) result.lo result.hi x }
     {
         CountEnds {
-            lo: count_down(lo),
-            hi: count_up(hi),
+            lo: count_down(i.lo),
+            hi: count_up(i.hi),
         }
     }
 
@@ -86,5 +90,18 @@ impl CountEnds {
             lo: -self.hi,
             hi: -self.lo,
         }
+    }
+}
+
+/// The counts of the second pair of a target line: those of the imaginary part, or of its negative in a velocity line.
+pub(crate) fn second_counts(mode: Mode, im: Interval) -> CountEnds
+    requires { IntervalWithin (2 ^ 84) im }
+    ensures lo { result.lo ≡ (second_ends mode (ends_of im)).lo }
+    ensures hi { result.hi ≡ (second_ends mode (ends_of im)).hi }
+{
+    let counts = CountEnds::of(im);
+    match mode {
+        Mode::Field => counts,
+        Mode::Velocity => counts.neg(),
     }
 }

@@ -8,3 +8,7 @@ mod line;
 
 pub use counts::to_count;
 pub use decimal::Decimal;
+pub use line::write_target;
+
+#[cfg(test)]
+mod tests;

@@ -1,4 +1,4 @@
-use Rattle.std.proofs.Common.{◌≡◌, ◌+◌, ◌≤◌, ◌<◌, ◌^◌, ◌++◌, ◌∷◌, ◌∙◌, sym, length, arith, rules, decimal}
+use Rattle.std.proofs.Common.{◌<◌, ◌^◌, ◌∙◌, sym, length, arith, rules}
 use Rattle.field_report.proofs.Digits.{decimal-last, decimal-one, decimal_room}
 use Rattle.field_report.proofs.front.FrontText.prepend_decimal.Goals as goal
 

@@ -1,4 +1,4 @@
-use Rattle.std.proofs.Common.{◌≡◌, suc, ◌+◌, ◌-◌, ◌/◌, ◌%◌, ◌++◌, ◌∷◌, ◌∙◌, ap, sym, length, arith}
+use Rattle.std.proofs.Common.{◌≡◌, suc, ◌+◌, ◌-◌, ◌++◌, ◌∙◌, ap, sym, arith}
 use Rattle.field_report.proofs.Digits.{digits_in-last, digits_in-none}
 use Rattle.field_report.specs.Decimals.{digits_in}
 use Rattle.field_report.proofs.front.FrontText.prepend_places.Goals as goal
