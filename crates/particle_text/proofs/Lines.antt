@@ -83,14 +83,19 @@ whole bytes rest mode points weight far none =
 -- something is left, and its first line is at fault
 pub at_fault : (bytes rest : List ℕ) (mode : Mode) (points : List Point) (weight : ℕ) (kind : TextKind) → SoFar bytes rest mode points weight → rest ≢ [] → IsFirstKind (LineFault mode (length points) weight rest) kind
     → FirstFault bytes (length points + 2) kind
-at_fault bytes rest mode points weight kind far more fault = inr (mode, points, refl, record {
-  good = far.good;
-  rest = rest;
-  parts = far.parts;
-  spelled = far.spelled;
-  more = more;
-  fault = subst (λ w. IsFirstKind (LineFault mode (length points) w rest) kind) far.weight_is fault;
-})
+at_fault bytes rest mode points weight kind far more fault = inr (
+  mode,
+  points,
+  refl,
+  record {
+    good = far.good;
+    rest = rest;
+    parts = far.parts;
+    spelled = far.spelled;
+    more = more;
+    fault = subst (λ w. IsFirstKind (LineFault mode (length points) w rest) kind) far.weight_is fault;
+  },
+)
 
 -- The bytes up to the rest spell some points, of which the number and the total weight are given.
 pub record SomeSoFar (bytes rest : List ℕ) (mode : Mode) (live weight : ℕ) : Type 0 where

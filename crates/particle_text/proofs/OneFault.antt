@@ -21,8 +21,8 @@ stops rest other mode before after kind on limits fault = go on.tail refl
   where
     go : (tail : List Point) → on.tail ≡ tail → (after ≡ before) × (rest ≡ other)
     go [] shape =
-      let lines : on.lines ≡ [] = subst (AreLines on.lines) shape on.spelled in
-      (on.points ∙ ap (λ ps. before ++ ps) shape ∙ append-nil before, on.bytes ∙ ap (λ front. front ++ other) lines)
+        let lines : on.lines ≡ [] = subst (AreLines on.lines) shape on.spelled in
+        (on.points ∙ ap (λ ps. before ++ ps) shape ∙ append-nil before, on.bytes ∙ ap (λ front. front ++ other) lines)
     go (p ∷ tail) shape = absurd (no_fault_inside rest other mode before after on p tail shape limits kind fault)
 
 pub never_both : (bytes : List ℕ) (mode : Mode) (points : List Point) (line : ℕ) (kind : TextKind) → Spells bytes mode points → FirstFault bytes line kind → ⊥
@@ -32,8 +32,9 @@ never_both bytes mode points line kind spells (inr later) =
     let before = later.1 in
     let two = fronts bytes fault.good fault.rest bytes [] later.0 mode before points fault.parts fault.spelled (sym (append-nil bytes)) spells in
     elim two.either [
-        inl on ↦ fault.more (stops fault.rest [] later.0 before points kind on (subst (λ m. WithinLimits m points) (sym two.modes) spells.limits) fault.fault.here).1
-      | inr on ↦ fault.more (empty on.lines fault.rest on.bytes) ]
+      | inl on ↦ fault.more (stops fault.rest [] later.0 before points kind on (subst (λ m. WithinLimits m points) (sym two.modes) spells.limits) fault.fault.here).1
+      | inr on ↦ fault.more (empty on.lines fault.rest on.bytes)
+    ]
   where
     empty : (lines rest : List ℕ) → [] ≡ lines ++ rest → rest ≡ []
     empty [] rest e = sym e
@@ -87,8 +88,8 @@ same_front bytes mode other before after a b first second modes points rests = r
   where
     moved : IsFirstKind (LineFault mode (length before) (total_weight before) first.rest) a → IsFirstKind (LineFault other (length after) (total_weight after) second.rest) a
     moved fault = subst (λ m. IsFirstKind (LineFault m (length after) (total_weight after) second.rest) a) modes
-      (subst (λ ps. IsFirstKind (LineFault mode (length ps) (total_weight ps) second.rest) a) points
-      (subst (λ r. IsFirstKind (LineFault mode (length before) (total_weight before) r) a) rests fault))
+        (subst (λ ps. IsFirstKind (LineFault mode (length ps) (total_weight ps) second.rest) a) points
+        (subst (λ r. IsFirstKind (LineFault mode (length before) (total_weight before) r) a) rests fault))
 
 pub one_fault : (bytes : List ℕ) (line other : ℕ) (a b : TextKind) → FirstFault bytes line a → FirstFault bytes other b → OneFault line other a b
 one_fault bytes line other a b (inl head) (inl top) = record { lines = head.0 ∙ sym top.0; kinds = head.1 ∙ sym top.1 }
@@ -97,10 +98,11 @@ one_fault bytes line other a b (inr later) (inl head) = absurd (has_head bytes l
 one_fault bytes line other a b (inr first) (inr second) =
     let two = fronts bytes first.3.good first.3.rest second.3.good second.3.rest first.0 second.0 first.1 second.1 first.3.parts first.3.spelled second.3.parts second.3.spelled in
     let one : OneFault (length first.1 + 2) (length second.1 + 2) a b = elim two.either [
-        inl on ↦
+      | inl on ↦
           let same = stops first.3.rest second.3.rest first.0 first.1 second.1 a on (subst (λ m. WithinLimits m second.1) (sym two.modes) second.3.spelled.limits) first.3.fault.here in
           same_front bytes first.0 second.0 first.1 second.1 a b first.3 second.3 two.modes (sym same.0) same.1
       | inr on ↦
           let same = stops second.3.rest first.3.rest second.0 second.1 first.1 b on (subst (λ m. WithinLimits m first.1) two.modes first.3.spelled.limits) second.3.fault.here in
-          same_front bytes first.0 second.0 first.1 second.1 a b first.3 second.3 two.modes same.0 (sym same.1) ] in
+          same_front bytes first.0 second.0 first.1 second.1 a b first.3 second.3 two.modes same.0 (sym same.1)
+    ] in
     record { lines = first.2 ∙ one.lines ∙ sym second.2; kinds = one.kinds }

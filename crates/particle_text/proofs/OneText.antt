@@ -42,8 +42,9 @@ compare lines more rest other (p ∷ before) (q ∷ after) a b e =
     let second = subst (λ text. BeginsWith text q (b.0 ++ other)) (sym e) (longer more q b.0 other b.1) in
     let same = one_line (lines ++ rest) p q (a.0 ++ rest) (b.0 ++ other) first second in
     elim (compare a.0 b.0 rest other before after a.2 b.2 same.rests) [
-        inl on ↦ inl (one_more rest other p q before after same.points on)
-      | inr on ↦ inr (one_more other rest q p after before (sym same.points) on) ]
+      | inl on ↦ inl (one_more rest other p q before after same.points on)
+      | inr on ↦ inr (one_more other rest q p after before (sym same.points) on)
+    ]
 
 -- the mode of a text, and where its lines begin
 pub record SameStart (a b : Mode) (rest other : List ℕ) : Type 0 where
@@ -113,8 +114,8 @@ ends other before after on = go on.tail refl
     go : (tail : List Point) → on.tail ≡ tail → after ≡ before
     go [] shape = on.points ∙ ap (λ ps. before ++ ps) shape ∙ append-nil before
     go (p ∷ tail) shape =
-      let lines = subst (AreLines on.lines) shape on.spelled in
-      absurd (nothing_begins p lines.0 (subst (λ text. BeginsWith text p lines.0) (front_nil on.lines other on.bytes) lines.1))
+        let lines = subst (AreLines on.lines) shape on.spelled in
+        absurd (nothing_begins p lines.0 (subst (λ text. BeginsWith text p lines.0) (front_nil on.lines other on.bytes) lines.1))
 
 pub record OneList (a b : Mode) (before after : List Point) : Type 0 where
   pub modes : a ≡ b

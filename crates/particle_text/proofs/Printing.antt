@@ -65,12 +65,12 @@ body_free (z ∷ zs) all = ((λ same. omega (arith, same)), free_of_both 10 (sig
 row_spelled : (z : ℤ) (zs : List ℤ) → IsSmall z → AllByRecursion IsSmall zs → AreInts (signed_decimal z ++ body zs) (z ∷ zs)
 row_spelled z [] small all = subst (λ word. IsInt word z) (sym (append-nil (signed_decimal z))) (int_of_decimal z small)
 row_spelled z (y ∷ zs) small all = (
-    signed_decimal z,
-    signed_decimal y ++ body zs,
-    record { whole = refl; first = number_free 32 z (omega arith) small },
-    int_of_decimal z small,
-    row_spelled y zs all.0 all.1
-  )
+  signed_decimal z,
+  signed_decimal y ++ body zs,
+  record { whole = refl; first = number_free 32 z (omega arith) small },
+  int_of_decimal z small,
+  row_spelled y zs all.0 all.1,
+)
 
 name_free_of_space : (kind : Kind) → IsFreeOf 32 (name_of kind)
 name_free_of_space (Charge q) = free_by_test 32 (name_of (Charge q)) refl

@@ -58,7 +58,7 @@ pub record FaultsAfter (bytes : List ℕ) (mode : Mode) (before : List Point) (k
 abbrev pub FirstFault : List ℕ → ℕ → TextKind → Type 0
 FirstFault bytes line kind =
     ((line ≡ 1) × (kind ≡ Syntax) × HasNoHead bytes)
-  ⊎ ((mode : Mode) × (before : List Point) × (line ≡ length before + 2) × FaultsAfter bytes mode before kind)
+    ⊎ ((mode : Mode) × (before : List Point) × (line ≡ length before + 2) × FaultsAfter bytes mode before kind)
 
 -- what a reader may answer in place of the points
 abbrev pub IsFaultOf : List ℕ → ParseFault → Type 0

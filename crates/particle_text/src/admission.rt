@@ -6,9 +6,13 @@ ghost use Rattle.particle_text.specs.Limits.{CanJoin, InGrid, InRange, HasStreng
 use crate::{Kind, Mode, Point, TextKind};
 
 const LEAST_COORDINATE: i64 = -32_768;
+
 const GREATEST_COORDINATE: i64 = 32_767;
+
 const MOST_STRENGTH: u64 = 1_048_576;
+
 const MOST_POINTS: u64 = 65_536;
+
 const MOST_WEIGHT: u64 = 4_294_967_296;
 
 /// Whether the place is in the grid.
@@ -25,7 +29,8 @@ pub fn has_strength(kind: &Kind) -> bool
 {
     match *kind {
         Kind::Charge(q) => q.unsigned_abs() <= MOST_STRENGTH,
-        Kind::Dipole(re, im) => re.unsigned_abs() <= MOST_STRENGTH && im.unsigned_abs() <= MOST_STRENGTH,
+        Kind::Dipole(re, im) => re.unsigned_abs() <= MOST_STRENGTH
+            && im.unsigned_abs() <= MOST_STRENGTH,
         Kind::Vortex(g) => g.unsigned_abs() <= MOST_STRENGTH,
         Kind::Target => true,
     }

@@ -14,12 +14,10 @@ pub fn one_reading()
     ensures line { (bytes : List ℕ) (line other : ℕ) (kind what : TextKind) → FirstFault bytes line kind → FirstFault bytes other what → line ≡ other }
     ensures kind { (bytes : List ℕ) (line other : ℕ) (kind what : TextKind) → FirstFault bytes line kind → FirstFault bytes other what → kind ≡ what }
     ensures never_both { (bytes : List ℕ) (mode : Mode) (points : List Point) (line : ℕ) (kind : TextKind) → Spells bytes mode points → FirstFault bytes line kind → ⊥ }
-{
-}
+{}
 
 /// A list within the limits has one text: `text_of` gives it.
 pub fn one_text()
     ensures text { (mode : Mode) (points : List Point) → WithinLimits mode points → Spells (text_of mode points) mode points }
     ensures only { (bytes : List ℕ) (mode : Mode) (points : List Point) → Spells bytes mode points → bytes ≡ text_of mode points }
-{
-}
+{}

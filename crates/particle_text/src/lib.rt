@@ -14,12 +14,11 @@ mod reader;
 
 use admission::has_strength;
 pub use admission::{admit, in_grid};
+use io_ports::Memory;
 pub use law::{one_reading, one_text};
 pub use line::parse_point;
 pub use printer::print;
 pub use reader::{first_fault, parse};
-
-use io_ports::Memory;
 use std::alloc::Global;
 use std::marker::Model;
 use thiserror::Error;

@@ -10,7 +10,11 @@ const FAULTS: [(&[u8], u64, TextKind); 28] = [
     (b"fmm 1 field\ncharge 0 0 1048577\n", 2, TextKind::Range),
     (b"fmm 1 field\ncharge 0 0\n", 2, TextKind::Syntax),
     (b"fmm 1 field\nvortex 0 0 1\n", 2, TextKind::Mixed),
-    (b"fmm 1 velocity\ntarget 0 0\ncharge 0 0 1\n", 3, TextKind::Mixed),
+    (
+        b"fmm 1 velocity\ntarget 0 0\ncharge 0 0 1\n",
+        3,
+        TextKind::Mixed,
+    ),
     (b"fmm 1 field\nvortex 0 0 1048577\n", 2, TextKind::Range),
     (b"fmm 1 field\ncharge 00 0 1\n", 2, TextKind::Syntax),
     (b"fmm 1 field\ncharge 01 0 1\n", 2, TextKind::Syntax),
@@ -24,19 +28,34 @@ const FAULTS: [(&[u8], u64, TextKind); 28] = [
     (b"fmm 1 field\ncharge 0 0 1\r\n", 2, TextKind::Syntax),
     (b"fmm 1 field\ncharge 0 0 1\0\n", 2, TextKind::Syntax),
     (b"fmm 1 field\ncharge 0 0 \xC2\xB2\n", 2, TextKind::Syntax),
-    (b"fmm 1 field\ntarget 0 0\ncharge 0 0 1", 3, TextKind::Syntax),
+    (
+        b"fmm 1 field\ntarget 0 0\ncharge 0 0 1",
+        3,
+        TextKind::Syntax,
+    ),
     (b"fmm 1 field\n\n", 2, TextKind::Syntax),
-    (b"fmm 1 field\ntarget 0 0\nTarget 0 0\n", 3, TextKind::Syntax),
+    (
+        b"fmm 1 field\ntarget 0 0\nTarget 0 0\n",
+        3,
+        TextKind::Syntax,
+    ),
     (b"fmm 1 field\ntarget 32768 0\n", 2, TextKind::Range),
     (b"fmm 1 field\ntarget 0 -32769\n", 2, TextKind::Range),
     (b"fmm 1 field\ndipole 0 0 0 -1048577\n", 2, TextKind::Range),
-    (b"fmm 1 field\ntarget 0 1234567890123456789012345678901234567890\n", 2, TextKind::Range),
+    (
+        b"fmm 1 field\ntarget 0 1234567890123456789012345678901234567890\n",
+        2,
+        TextKind::Range,
+    ),
 ];
 
 const TEXTS: [(&[u8], usize); 4] = [
     (b"fmm 1 field\n", 0),
     (b"fmm 1 field\ncharge 0 0 1\ntarget 3 4\n", 2),
-    (b"fmm 1 velocity\nvortex 0 0 1\ndipole -32768 32767 -1048576 1048576\ntarget 1 0\n", 3),
+    (
+        b"fmm 1 velocity\nvortex 0 0 1\ndipole -32768 32767 -1048576 1048576\ntarget 1 0\n",
+        3,
+    ),
     (b"fmm 1 field\ncharge 5 5 0\ncharge 5 5 -7\n", 2),
 ];
 
@@ -72,7 +91,10 @@ fn the_weight_has_a_limit(rt: HostRuntime) -> Result<(), Fail> {
     }
     assert_eq!(rt; first_fault(text.as_slice()), None);
     text.extend_from_slice(b"charge 0 0 1\n")?;
-    assert_eq!(rt; first_fault(text.as_slice()), Some((34, TextKind::Strength)));
+    assert_eq!(rt;
+        first_fault(text.as_slice()),
+        Some((34, TextKind::Strength))
+    );
     Ok(())
 }
 
@@ -85,7 +107,10 @@ fn the_list_has_a_limit(rt: HostRuntime) -> Result<(), Fail> {
     let points = parse(rt.alloc(), text.as_slice())?;
     assert_eq!(rt; points.list.points().len(), 65_536);
     text.extend_from_slice(b"target 0 0\n")?;
-    assert_eq!(rt; first_fault(text.as_slice()), Some((65_538, TextKind::Many)));
+    assert_eq!(rt;
+        first_fault(text.as_slice()),
+        Some((65_538, TextKind::Many))
+    );
     Ok(())
 }
 
@@ -96,17 +121,35 @@ fn points_have_poles_and_weights(rt: HostRuntime) -> Result<(), Fail> {
     assert_eq!(rt; charge, Point { x: 1, y: -2, kind });
     let dipole = parse_point(b"dipole 0 0 5 -6").ok().ok_or("a dipole")?;
     let vortex = parse_point(b"vortex 0 0 7").ok().ok_or("a vortex")?;
-    assert_eq!(rt; (charge.pole(), charge.dipole(), charge.weight64()), ((-3, 0), (0, 0), 3));
-    assert_eq!(rt; (dipole.pole(), dipole.dipole(), dipole.weight64()), ((0, 0), (5, -6), 704));
-    assert_eq!(rt; (vortex.pole(), vortex.dipole(), vortex.weight64()), ((0, -7), (0, 0), 7));
+    assert_eq!(rt;
+        (charge.pole(), charge.dipole(), charge.weight64()),
+        ((-3, 0), (0, 0), 3)
+    );
+    assert_eq!(rt;
+        (dipole.pole(), dipole.dipole(), dipole.weight64()),
+        ((0, 0), (5, -6), 704)
+    );
+    assert_eq!(rt;
+        (vortex.pole(), vortex.dipole(), vortex.weight64()),
+        ((0, -7), (0, 0), 7)
+    );
     assert_eq!(rt; parse_point(b"target 0 32768"), Err(TextKind::Range));
     assert_eq!(rt; parse_point(b"target 0"), Err(TextKind::Syntax));
 
     let heavy = 4_294_967_296 - 3;
     assert_eq!(rt; admit(Mode::Field, 65_535, heavy, &charge), None);
-    assert_eq!(rt; admit(Mode::Field, 65_535, heavy + 1, &charge), Some(TextKind::Strength));
-    assert_eq!(rt; admit(Mode::Field, 65_536, heavy + 1, &charge), Some(TextKind::Many));
-    assert_eq!(rt; admit(Mode::Velocity, 65_536, heavy + 1, &charge), Some(TextKind::Mixed));
+    assert_eq!(rt;
+        admit(Mode::Field, 65_535, heavy + 1, &charge),
+        Some(TextKind::Strength)
+    );
+    assert_eq!(rt;
+        admit(Mode::Field, 65_536, heavy + 1, &charge),
+        Some(TextKind::Many)
+    );
+    assert_eq!(rt;
+        admit(Mode::Velocity, 65_536, heavy + 1, &charge),
+        Some(TextKind::Mixed)
+    );
     assert!(rt; charge.is_in_range() && in_grid(-32_768, 32_767) && !in_grid(0, 32_768));
     one_reading();
     one_text();

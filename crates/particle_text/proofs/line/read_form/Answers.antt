@@ -41,11 +41,10 @@ returns-in_ok-x-in-Charge-clause-some c =
     let found = c.in_ok-x-in-Charge.ensures.some in
     let name = c.in_ok-form_of.ensures.some ∙ ap word_of c.in-Charge.is in
     let numbers = c.in_ok-name.numbers.now in
-    let cut = subst (λ word. IsCut 32 c.args.line.now word numbers) name c.in_ok-name.ensures.some in
-    (
+    let cut = subst (λ word. IsCut 32 c.args.line.now word numbers) name c.in_ok-name.ensures.some in (
       record { x = found.0; y = found.1; kind = Charge found.2 },
       record { numbers = numbers; cut = cut; spelled = found.3 },
-      same_point _ _ _ _ _ _ (kept _ found.0 found.4) (kept _ found.1 found.5) (ap Charge (kept _ found.2 found.6))
+      same_point _ _ _ _ _ _ (kept _ found.0 found.4) (kept _ found.1 found.5) (ap Charge (kept _ found.2 found.6)),
     )
 
 pub returns-in_ok-x-in-Dipole-clause-some : goal.returns-in_ok-x-in-Dipole-clause-some
@@ -53,11 +52,10 @@ returns-in_ok-x-in-Dipole-clause-some c =
     let found = c.in_ok-x-in-Dipole.ensures.some in
     let name = c.in_ok-form_of.ensures.some ∙ ap word_of c.in-Dipole.is in
     let numbers = c.in_ok-name.numbers.now in
-    let cut = subst (λ word. IsCut 32 c.args.line.now word numbers) name c.in_ok-name.ensures.some in
-    (
+    let cut = subst (λ word. IsCut 32 c.args.line.now word numbers) name c.in_ok-name.ensures.some in (
       record { x = found.0; y = found.1; kind = Dipole found.2 found.3 },
       record { numbers = numbers; cut = cut; spelled = found.4 },
-      same_point _ _ _ _ _ _ (kept _ found.0 found.5) (kept _ found.1 found.6) (λ i. Dipole ((kept _ found.2 found.7) i) ((kept _ found.3 found.8) i))
+      same_point _ _ _ _ _ _ (kept _ found.0 found.5) (kept _ found.1 found.6) (λ i. Dipole ((kept _ found.2 found.7) i) ((kept _ found.3 found.8) i)),
     )
 
 pub returns-in_ok-x-in-Vortex-clause-some : goal.returns-in_ok-x-in-Vortex-clause-some
@@ -65,11 +63,10 @@ returns-in_ok-x-in-Vortex-clause-some c =
     let found = c.in_ok-x-in-Vortex.ensures.some in
     let name = c.in_ok-form_of.ensures.some ∙ ap word_of c.in-Vortex.is in
     let numbers = c.in_ok-name.numbers.now in
-    let cut = subst (λ word. IsCut 32 c.args.line.now word numbers) name c.in_ok-name.ensures.some in
-    (
+    let cut = subst (λ word. IsCut 32 c.args.line.now word numbers) name c.in_ok-name.ensures.some in (
       record { x = found.0; y = found.1; kind = Vortex found.2 },
       record { numbers = numbers; cut = cut; spelled = found.3 },
-      same_point _ _ _ _ _ _ (kept _ found.0 found.4) (kept _ found.1 found.5) (ap Vortex (kept _ found.2 found.6))
+      same_point _ _ _ _ _ _ (kept _ found.0 found.4) (kept _ found.1 found.5) (ap Vortex (kept _ found.2 found.6)),
     )
 
 pub returns-in_ok-x-in-Target-clause-some : goal.returns-in_ok-x-in-Target-clause-some
@@ -77,9 +74,8 @@ returns-in_ok-x-in-Target-clause-some c =
     let found = c.in_ok-x-in-Target.ensures.some in
     let name = c.in_ok-form_of.ensures.some ∙ ap word_of c.in-Target.is in
     let numbers = c.in_ok-name.numbers.now in
-    let cut = subst (λ word. IsCut 32 c.args.line.now word numbers) name c.in_ok-name.ensures.some in
-    (
+    let cut = subst (λ word. IsCut 32 c.args.line.now word numbers) name c.in_ok-name.ensures.some in (
       record { x = found.0; y = found.1; kind = Target },
       record { numbers = numbers; cut = cut; spelled = found.2 },
-      same_point _ _ _ _ _ _ (kept _ found.0 found.3) (kept _ found.1 found.4) (refl)
+      same_point _ _ _ _ _ _ (kept _ found.0 found.3) (kept _ found.1 found.4) (refl),
     )
