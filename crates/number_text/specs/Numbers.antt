@@ -1,0 +1,40 @@
+-- Whole numbers as text, in base ten. Each number has one spelling.
+use Rattle.std.specs.Prelude.{◌≡◌, ℕ, suc, ◌+◌, ◌-◌, ◌*◌, ◌^◌, ◌≤◌, ◌⊎◌, min, List, [], ◌∷◌, ℤ, pos, negsuc, neg_ℤ}
+use Rattle.std.specs.List.{AllByRecursion}
+
+-- a digit, `0` to `9`
+abbrev pub IsDigit : ℕ → Type 0
+IsDigit c = (48 ≤ c) × (c ≤ 57)
+
+-- `0`, or a digit from 1 to 9 followed by any number of digits
+abbrev pub IsPlainNumber : List ℕ → Type 0
+IsPlainNumber [] = ⊥
+IsPlainNumber (c ∷ cs) = ((c ≡ 48) × (cs ≡ [])) ⊎ ((49 ≤ c) × (c ≤ 57) × AllByRecursion IsDigit cs)
+
+-- what the digits stand for, where those before them stand for n
+abbrev pub value_after : ℕ → List ℕ → ℕ
+value_after n [] = n
+value_after n (c ∷ cs) = value_after (10 * n + (c - 48)) cs
+
+-- the word spells n
+pub record IsUint (word : List ℕ) (n : ℕ) : Type 0 where
+  pub form : IsPlainNumber word
+  pub value : value_after 0 word ≡ n
+
+-- the word spells z: a number below 0 as `-` and its size, so that `-0` spells nothing
+abbrev pub IsInt : List ℕ → ℤ → Type 0
+IsInt word (pos n) = IsUint word n
+IsInt word (negsuc n) = (digits : List ℕ) × (word ≡ 45 ∷ digits) × IsUint digits (suc n)
+
+-- the greatest size of a number that is read as it is: 10^18
+abbrev pub most_read : ℕ
+most_read = 1_000_000_000_000_000_000
+
+-- n, or the greatest size that is read where n is greater
+abbrev pub nearest_uint : ℕ → ℕ
+nearest_uint n = min n most_read
+
+-- z, or the number of its sign and of the greatest size that is read where z is greater in size
+abbrev pub nearest_int : ℤ → ℤ
+nearest_int (pos n) = pos (nearest_uint n)
+nearest_int (negsuc n) = neg_ℤ (pos (nearest_uint (suc n)))

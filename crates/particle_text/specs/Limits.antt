@@ -1,0 +1,72 @@
+-- Which places, strengths and lists the text allows.
+use Rattle.std.specs.Prelude.{ℕ, ◌+◌, ◌*◌, ◌-◌, ◌^◌, ◌≤◌, ℤ, pos, neg_ℤ, ◌≤ℤ◌, ◌<ℤ◌, List, [], ◌∷◌, length, unsigned_abs, All, sum_by}
+use Rattle.exact_math.specs.Gaussian.{Gaussian}
+use Rattle.exact_math.specs.Within.{Within}
+use Rattle.particle_text.specs.declared.Kind.{Kind}
+use Rattle.particle_text.specs.declared.Kind.TheVariants.{Charge, Dipole, Vortex, Target}
+use Rattle.particle_text.specs.declared.Mode.{Mode}
+use Rattle.particle_text.specs.declared.Mode.TheVariants.{Field, Velocity}
+use Rattle.particle_text.specs.declared.Point.{Point}
+use Rattle.particle_text.specs.Points.{pole, dipole}
+
+-- the grid has 2^grid_bits places in a row
+abbrev pub grid_bits : ℕ
+grid_bits = 16
+
+-- the greatest size of a strength component
+abbrev pub most_strength : ℕ
+most_strength = 1048576
+
+-- the greatest number of points in a list
+abbrev pub most_points : ℕ
+most_points = 65536
+
+-- the greatest total weight of a list
+abbrev pub most_weight : ℕ
+most_weight = 2 ^ 32
+
+-- a coordinate of a grid of 2^bits places in a row, which has its middle at 0
+pub record IsCoordinate (bits : ℕ) (x : ℤ) : Type 0 where
+  pub above : neg_ℤ (pos (2 ^ (bits - 1))) ≤ℤ x
+  pub below : x <ℤ pos (2 ^ (bits - 1))
+
+-- the place (x, y) is in the grid
+pub record InGrid (x y : ℤ) : Type 0 where
+  pub across : IsCoordinate grid_bits x
+  pub up : IsCoordinate grid_bits y
+
+-- each strength component is within its limit
+abbrev pub HasStrength : Kind → Type 0
+HasStrength (Charge q) = Within most_strength q
+HasStrength (Dipole re im) = Within most_strength re × Within most_strength im
+HasStrength (Vortex g) = Within most_strength g
+HasStrength Target = Unit {0}
+
+-- the place is in the grid and each strength component is within its limit
+pub record InRange (p : Point) : Type 0 where
+  pub grid : InGrid p.x p.y
+  pub strength : HasStrength p.kind
+
+-- abs(re) + abs(im)
+abbrev pub size_of_gaussian : Gaussian → ℕ
+size_of_gaussian g = unsigned_abs g.re + unsigned_abs g.im
+
+-- abs(a) + 64 abs(b) of the pole a and the dipole b
+abbrev pub weight64 : Point → ℕ
+weight64 p = size_of_gaussian (pole p.kind) + 64 * size_of_gaussian (dipole p.kind)
+
+abbrev pub total_weight : List Point → ℕ
+total_weight points = sum_by weight64 points
+
+-- no charge stands in a velocity list, and no vortex in a field list
+abbrev pub FitsMode : Mode → Kind → Type 0
+FitsMode Velocity (Charge q) = ⊥
+FitsMode Field (Vortex g) = ⊥
+FitsMode _ _ = Unit {0}
+
+-- the list can be written in a text of this mode
+pub record WithinLimits (mode : Mode) (points : List Point) : Type 0 where
+  pub range : All InRange points
+  pub mode_fits : All (λ p. FitsMode mode p.kind) points
+  pub count : length points ≤ most_points
+  pub weight : total_weight points ≤ most_weight
