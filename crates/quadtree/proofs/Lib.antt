@@ -1,0 +1,2 @@
+-- Lemmas on the tree.
+pub mod Searches

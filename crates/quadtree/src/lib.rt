@@ -1,0 +1,9 @@
+//! The adaptive quadtree of a list of points.
+#![tactic(auto)]
+
+mod build;
+mod fault;
+mod tree;
+
+pub use fault::TreeFault;
+pub use tree::Tree;
