@@ -1,2 +1,7 @@
 -- Lemmas on the tree.
+pub mod Counts
+pub mod LeafLevel
+pub mod Members
+pub mod Parents
+pub mod Positions
 pub mod Searches

@@ -70,16 +70,20 @@ pub record IsLeafOf (grid : ℕ) (tree : TreeModel) (points : List Point) (cap n
   pub leaf : IsLeaf grid points cap (square_of tree n)
   pub held : Holds (square_of tree n) p.x p.y
 
--- the tree of a list of points and a capacity: exactly its cells, ascending by level, column and row, with what is kept of each
+-- exactly the cells of the tree, ascending by level, column and row
+pub record AreTreeCells (grid : ℕ) (points : List Point) (cap : ℕ) (cells : List Square) : Type 0 where
+  pub in_tree : All (IsTreeCell grid points cap) cells
+  pub whole : (c : Square) → IsTreeCell grid points cap c → Contains cells c
+  pub ascending : AllPairs IsBefore cells
+
+-- the tree of a list of points and a capacity: its cells, what is kept of each, and the leaf of each point
 pub record IsTreeOf (grid : ℕ) (tree : TreeModel) (points : List Point) (cap : ℕ) : Type 0 where
-  pub as_many_nodes : length tree.nodes ≡ size tree
-  pub in_tree : All (IsTreeCell grid points cap) (squares tree)
-  pub whole : (c : Square) → IsTreeCell grid points cap c → Contains (squares tree) c
-  pub ascending : AllPairs IsBefore (squares tree)
+  pub cells_are : AreTreeCells grid points cap (squares tree)
   pub few : size tree ≤ most_cells
-  pub nodes : (n : ℕ) → n < size tree → IsNode grid tree points cap n
+  pub as_many_nodes : length tree.nodes ≡ size tree
+  pub nodes_are : (n : ℕ) → n < size tree → IsNode grid tree points cap n
   pub as_many_leaves : length tree.leaves ≡ length points
-  pub leaf_is : (k : ℕ) (p : Point) → slice_get points k ≡ Some p → IsLeafOf grid tree points cap (leaf_of tree k) p
+  pub leaves_are : (k : ℕ) (p : Point) → slice_get points k ≡ Some p → IsLeafOf grid tree points cap (leaf_of tree k) p
 
 -- the tree of some list within the grid: what each value of the type is
 pub record IsTree (tree : TreeModel) : Type 0 where

@@ -12,4 +12,4 @@ returns c =
     let e : c.deref.result.now ≡ cells = c.deref.ensures.value in
     let p : IsBinarySearchResult (λ y. cell_cmp y c.args.c) c.deref.result.now c.binary_search.result = c.binary_search.ensures.position in
     let b = c.binary_search.ensures.bound in
-    rw (← c.self.view_is) (found cells c.args.c c.self.invariant.is_tree.is_tree.ascending c.binary_search.result c.ok.result c.ok.ensures.value (rw e at b) (rw e at p))
+    rw (← c.self.view_is) (found cells c.args.c c.self.invariant.is_tree.is_tree.cells_are.ascending c.binary_search.result c.ok.result c.ok.ensures.value (rw e at b) (rw e at p))
