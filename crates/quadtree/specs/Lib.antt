@@ -2,5 +2,6 @@
 pub mod Faults
 pub mod Fields
 pub mod Members
+pub mod Splitting
 pub mod Tree
 pub mod TreeModel

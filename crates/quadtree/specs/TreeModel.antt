@@ -60,8 +60,8 @@ pub record IsNode (grid : ℕ) (tree : TreeModel) (points : List Point) (cap n :
   pub parent_is : HasParent tree n
   pub count_is : (node_of tree n).count ≡ count_in points (square_of tree n)
   pub leaf : IsTrue (node_of tree n).is_leaf ↔ IsLeaf grid points cap (square_of tree n)
-  pub source : IsTrue ((node_of tree n).has_source) ↔ HasSource points (square_of tree n)
-  pub target : IsTrue ((node_of tree n).has_target) ↔ HasTarget points (square_of tree n)
+  pub source : IsTrue (node_of tree n).has_source ↔ HasSource points (square_of tree n)
+  pub target : IsTrue (node_of tree n).has_target ↔ HasTarget points (square_of tree n)
   pub members_are : (node_of tree n).members ≡ members_of points (square_of tree n)
 
 -- the leaf of a point

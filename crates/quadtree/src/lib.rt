@@ -3,6 +3,7 @@
 
 mod build;
 mod fault;
+mod split;
 mod tree;
 
 pub use fault::TreeFault;
