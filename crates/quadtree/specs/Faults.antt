@@ -1,8 +1,11 @@
 -- Why a list has no tree: too many points at one place, or too many cells.
 use Rattle.std.specs.Prelude.{ℕ, ◌≡◌, ◌≢◌, ◌<◌, List, length, All, AllPairs}
 use Rattle.particle_text.specs.declared.Point.{Point}
+use Rattle.cell_name.specs.Cell.{square}
 use Rattle.cell_name.specs.Square.{Square}
 use Rattle.cell_name.specs.Order.{IsBefore}
+use Rattle.quadtree.specs.declared.fault.TreeFault.{TreeFault}
+use Rattle.quadtree.specs.declared.fault.TreeFault.TheVariants.{Crowded, Cells, Memory}
 use Rattle.quadtree.specs.Tree.{count_in, IsTreeCell}
 
 -- the greatest number of points at one place
@@ -40,3 +43,9 @@ pub record HasMoreCells (grid : ℕ) (points : List Point) (cap most : ℕ) : Ty
 pub record HasTooManyCells (grid : ℕ) (points : List Point) (cap : ℕ) : Type 0 where
   pub none_crowded : NoneIsCrowded grid points
   pub too_many : HasMoreCells grid points cap most_cells
+
+-- what an answer without a tree says of the list and the capacity; want of memory says nothing of them
+abbrev pub IsFaultOf : ℕ → List Point → ℕ → TreeFault → Type 0
+IsFaultOf grid points cap (Crowded cell count) = IsFirstCrowded grid points (square cell) count
+IsFaultOf grid points cap Cells = HasTooManyCells grid points cap
+IsFaultOf grid points cap Memory = Unit {0}

@@ -1,11 +1,12 @@
 -- The steps by which a tree is built: what splitting the cells of one level makes. No public contract cites them.
-use Rattle.std.specs.Prelude.{ℕ, ◌≡◌, ◌+◌, ◌<◌, ◌≤◌, zero, suc, cond, nat_lt, List, [], ◌∷◌, ◌++◌, length, map, filter, slice_range, All}
+use Rattle.std.specs.Prelude.{ℕ, ◌≡◌, ◌+◌, ◌-◌, ◌<◌, ◌≤◌, zero, suc, cond, nat_lt, List, [], ◌∷◌, ◌++◌, length, map, filter, slice_range, slice_index_or, All}
 use Rattle.std.specs.List.{flat_map}
 use Rattle.particle_text.specs.declared.Point.{Point}
 use Rattle.cell_name.specs.declared.cell.Quadrant.{Quadrant}
 use Rattle.cell_name.specs.Cell.{square, half_number}
 use Rattle.cell_name.specs.Square.{Square, root, child}
 use Rattle.quadtree.specs.declared.split.Run.{Run}
+use Rattle.quadtree.specs.Faults.{most_at_a_place}
 use Rattle.quadtree.specs.Members.{members_of}
 use Rattle.quadtree.specs.Tree.{count_in}
 
@@ -49,3 +50,16 @@ pub record IsRun (points : List Point) (positions : List ℕ) (run : Run) : Type
 pub record AreRuns (points : List Point) (positions : List ℕ) (runs : List Run) : Type 0 where
   pub positions_below : All (λ k. k < length points) positions
   pub each : All (IsRun points positions) runs
+
+-- a run of a place with too many points
+pub record IsCrowdedRun (run : Run) : Type 0 where
+  pub last_level : run.cell.level ≡ 16
+  pub over : most_at_a_place < run.to - run.from
+
+-- the first such run
+pub record IsFirstCrowdedRun (runs : List Run) (run : Run) : Type 0 where
+  pub at : ℕ
+  pub inside : at < length runs
+  pub here : slice_index_or runs at run ≡ run
+  pub crowded : IsCrowdedRun run
+  pub none_before : (k : ℕ) (d : Run) → k < at → IsCrowdedRun (slice_index_or runs k d) → ⊥

@@ -1,7 +1,8 @@
 -- The adaptive quadtree of a list of points with a leaf capacity, as a predicate on each cell by itself.
-use Rattle.std.specs.Prelude.{ℕ, ◌≡◌, ◌<◌, ◌≤◌, ◌⊎◌, List, count_by, All, Contains}
+use Rattle.std.specs.Prelude.{ℕ, ◌≡◌, ◌<◌, ◌≤◌, ◌⊎◌, List, count_by, All, AllPairs, Contains}
 use Rattle.particle_text.specs.declared.Point.{Point}
 use Rattle.particle_text.specs.Points.{IsTarget, IsSource}
+use Rattle.cell_name.specs.Order.{IsBefore}
 use Rattle.cell_name.specs.Square.{Square, root, parent, IsInGrid, Holds, holds_test}
 
 -- each point lies in the grid
@@ -44,3 +45,9 @@ pub record HasSource (points : List Point) (c : Square) : Type 0 where
   pub source : Point
   pub here : HasPoint points c source
   pub is_source : IsSource source.kind
+
+-- exactly the cells of the tree, ascending by level, column and row
+pub record AreTreeCells (grid : ℕ) (points : List Point) (cap : ℕ) (cells : List Square) : Type 0 where
+  pub in_tree : All (IsTreeCell grid points cap) cells
+  pub whole : (c : Square) → IsTreeCell grid points cap c → Contains cells c
+  pub ascending : AllPairs IsBefore cells

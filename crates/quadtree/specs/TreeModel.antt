@@ -1,14 +1,13 @@
 -- A tree as callers see it, and what it is for a list of points and a capacity.
-use Rattle.std.specs.Prelude.{ℕ, ◌≡◌, ◌<◌, ◌≤◌, ◌↔◌, Bool, false, IsTrue, List, [], length, map, Some, slice_get, slice_index, slice_index_or, All, AllPairs, Contains}
+use Rattle.std.specs.Prelude.{ℕ, ◌≡◌, ◌<◌, ◌≤◌, ◌↔◌, Bool, false, IsTrue, List, [], length, map, Some, slice_get, slice_index, slice_index_or}
 use Rattle.particle_text.specs.declared.Point.{Point}
 use Rattle.particle_text.specs.Limits.{most_points}
 use Rattle.cell_name.specs.declared.cell.Cell.{Cell}
 use Rattle.cell_name.specs.Cell.{square}
-use Rattle.cell_name.specs.Order.{IsBefore}
 use Rattle.cell_name.specs.Square.{Square, root, parent, Holds}
 use Rattle.quadtree.specs.Faults.{most_cells}
 use Rattle.quadtree.specs.Members.{members_of}
-use Rattle.quadtree.specs.Tree.{AreInGrid, count_in, IsTreeCell, IsLeaf, HasSource, HasTarget}
+use Rattle.quadtree.specs.Tree.{AreInGrid, count_in, AreTreeCells, IsLeaf, HasSource, HasTarget}
 
 -- What is kept of a cell: its parent's number, how many points it has, what kind of cell it is, and the positions of its points.
 pub record NodeModel : Type 0 where
@@ -69,12 +68,6 @@ pub record IsLeafOf (grid : ℕ) (tree : TreeModel) (points : List Point) (cap n
   pub in_range : n < size tree
   pub leaf : IsLeaf grid points cap (square_of tree n)
   pub held : Holds (square_of tree n) p.x p.y
-
--- exactly the cells of the tree, ascending by level, column and row
-pub record AreTreeCells (grid : ℕ) (points : List Point) (cap : ℕ) (cells : List Square) : Type 0 where
-  pub in_tree : All (IsTreeCell grid points cap) cells
-  pub whole : (c : Square) → IsTreeCell grid points cap c → Contains cells c
-  pub ascending : AllPairs IsBefore cells
 
 -- the tree of a list of points and a capacity: its cells, what is kept of each, and the leaf of each point
 pub record IsTreeOf (grid : ℕ) (tree : TreeModel) (points : List Point) (cap : ℕ) : Type 0 where

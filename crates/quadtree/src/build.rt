@@ -1,16 +1,60 @@
 //! Building the tree of a list of points.
 
-ghost use Rattle.std.specs.Prelude.{◌≡◌, ◌≤◌, IfOk, OnOk, Err};
-ghost use Rattle.cell_name.specs.Cell.{square};
-ghost use Rattle.particle_text.specs.Limits.{WithinLimits};
+ghost use Rattle.std.specs.Prelude.{◌≤◌, length, All, IfErr, IfNone, IfOk, IfSome, OnOk};
+ghost use Rattle.particle_text.specs.Limits.{WithinLimits, most_points};
+ghost use Rattle.quadtree.specs.Faults.{most_cells, NoneIsCrowded, IsFaultOf};
+ghost use Rattle.quadtree.specs.Splitting.{squares_of, AreRuns, IsCrowdedRun, IsFirstCrowdedRun};
+ghost use Rattle.quadtree.specs.Tree.{AreInGrid, AreTreeCells};
 ghost use Rattle.quadtree.specs.TreeModel.{IsTreeOf};
-ghost use Rattle.quadtree.specs.Faults.{NoneIsCrowded, IsFirstCrowded, HasTooManyCells};
-ghost use Rattle.quadtree.specs.declared.fault.TreeFault.TheVariants.{Crowded, Cells};
 
 use crate::fault::TreeFault;
+use crate::split::{Run, Splits};
 use crate::tree::Tree;
-use particle_text::Points;
+use cell_name::GRID;
+use particle_text::{Point, Points};
 use std::alloc::Global;
+
+/// The greatest number of points at one place.
+const MOST_AT_A_PLACE: usize = 4096;
+
+/// The greatest number of cells of a tree.
+const MOST_CELLS: usize = 65536;
+
+/// The first run of a place with too many points.
+fn first_crowded(runs: &[Run]) -> Option<Run>
+    requires { All (λ r. r.from ≤ r.to) runs.now }
+    ensures none { IfNone result (All (λ r. IsCrowdedRun r → ⊥) runs.now) }
+    ensures found { IfSome result (IsFirstCrowdedRun runs.now) }
+{
+    for run in runs {
+        if run.cell.level == GRID && run.to - run.from > MOST_AT_A_PLACE {
+            return Some(*run);
+        }
+    }
+    None
+}
+
+/// The cells of the tree in their order, unless a place is crowded or the cells are too many.
+fn accepted(alloc: Global, points: &[Point], cap: u32) -> Result<Splits, TreeFault>
+    requires in_grid { AreInGrid 16 points.now }
+    requires few { length points.now ≤ most_points }
+    requires cap { cap ≤ 1024 }
+    ensures cells { IfOk result (λ s. AreTreeCells 16 points.now cap (squares_of s.runs.items)) }
+    ensures runs { IfOk result (λ s. AreRuns points.now s.positions.items s.runs.items) }
+    ensures few { IfOk result (λ s. length s.runs.items ≤ most_cells) }
+    ensures none_crowded { OnOk result (NoneIsCrowded 16 points.now) }
+    ensures fault { IfErr result (IsFaultOf 16 points.now cap) }
+{
+    let splits = Splits::sorted(alloc, points, cap)?;
+    if let Some(run) = first_crowded(&splits.runs) {
+        let count = (run.to - run.from) as u64;
+        return Err(TreeFault::Crowded { cell: run.cell, count });
+    }
+    if splits.runs.len() > MOST_CELLS {
+        return Err(TreeFault::Cells);
+    }
+    Ok(splits)
+}
 
 impl Tree {
     /// The tree of a list of points with a leaf capacity.
@@ -26,10 +70,10 @@ impl Tree {
         // Every answer but `Memory` is the one that the list and the capacity determine.
         ensures tree { IfOk result (λ tree. IsTreeOf 16 tree points.now.list cap) }
         ensures none_crowded { OnOk result (NoneIsCrowded 16 points.now.list) }
-        ensures crowded { (cell : _) → (count : _) → result ≡ Err (Crowded cell count) → IsFirstCrowded 16 points.now.list (square cell) count }
-        ensures cells { result ≡ Err Cells → HasTooManyCells 16 points.now.list cap }
+        ensures fault { IfErr result (IsFaultOf 16 points.now.list cap) }
     {
-        let _first = Vec::<u32>::with_capacity(alloc, points.list.points().len() + cap as usize);
+        let list = points.list.points();
+        let _splits = accepted(alloc, list, cap)?;
         Err(TreeFault::Memory)
     }
 }

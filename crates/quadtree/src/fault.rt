@@ -1,6 +1,9 @@
 //! Why a list has no tree.
 
+ghost use Rattle.std.specs.Prelude.{◌≡◌};
+
 use cell_name::Cell;
+use std::alloc::AllocError;
 use thiserror::Error;
 
 /// Why a list has no tree.
@@ -14,4 +17,14 @@ pub enum TreeFault {
     Cells,
     #[error("out of memory")]
     Memory,
+}
+
+impl From<AllocError> for TreeFault {
+    ghost use Rattle.quadtree.specs.declared.fault.TreeFault.TheVariants.{Memory};
+
+    ghost from_gives = { λ _ e. e ≡ Memory };
+
+    fn from(_e: AllocError) -> TreeFault {
+        TreeFault::Memory
+    }
 }

@@ -7,7 +7,7 @@ ghost use Rattle.cell_name.specs.Square.{Square, holds_test};
 ghost use Rattle.particle_text.specs.Limits.{most_points};
 ghost use Rattle.quadtree.specs.Members.{holds_position, members_among};
 ghost use Rattle.quadtree.specs.Splitting.{squares_of, occupied, quarter, quarters, below, cells_to_level, IsRun, AreRuns};
-ghost use Rattle.quadtree.specs.Tree.{AreInGrid};
+ghost use Rattle.quadtree.specs.Tree.{AreInGrid, AreTreeCells};
 
 use cell_name::{Cell, GRID, Quadrant};
 use particle_text::Point;
@@ -202,6 +202,18 @@ impl Splits {
             splits.split_level(points, cap, start)?;
             start = end;
         }
+        Ok(splits)
+    }
+
+    /// The cells of the tree in their order, and the positions of their points.
+    pub(crate) fn sorted(alloc: Global, points: &[Point], cap: u32) -> Result<Splits, AllocError>
+        requires in_grid { AreInGrid 16 points.now }
+        requires few { length points.now ≤ most_points }
+        ensures cells { IfOk result (λ s. AreTreeCells 16 points.now cap (squares_of s.runs.items)) }
+        ensures runs { IfOk result (λ s. AreRuns points.now s.positions.items s.runs.items) }
+    {
+        let mut splits = Splits::of(alloc, points, cap)?;
+        splits.runs.sort()?;
         Ok(splits)
     }
 }
