@@ -1,9 +1,10 @@
 -- Lists of different elements, joined end to end and put in another order.
-use Rattle.std.proofs.Common.{ℕ, ◌≡◌, ◌≢◌, ◌+◌, ◌<◌, ◌≤◌, zero, suc, List, [], ◌∷◌, ◌++◌, length, get_or, Bool, true, false, cond, Decides, inl, inr, refl, sym, ap, ◌∙◌, subst, arith}
+use Rattle.std.proofs.Common.{ℕ, ◌≡◌, ◌≢◌, ◌+◌, ◌<◌, ◌≤◌, zero, suc, List, [], ◌∷◌, ◌++◌, length, get_or, Bool, true, false, cond, filter, Decides, inl, inr, refl, sym, ap, ◌∙◌, subst, arith}
 use Rattle.std.specs.Prelude.{All, AllPairs, Contains}
 use Rattle.std.specs.List.{flat_map, IsDistinct}
 use Rattle.std.specs.List.Sorted.{IsPermutation}
-use Rattle.std.proofs.lemmas.List.Elements.{All-append, All-from_get_or, Contains-get_or, Contains-append_left, Contains-append_right, Contains-append_cases}
+use Rattle.std.proofs.lemmas.Bool.{false≢true}
+use Rattle.std.proofs.lemmas.List.Elements.{All-append, All-contains, All-contains_itself, All-filter, filter_passes, Contains-get_or, Contains-append_left, Contains-append_right, Contains-append_cases}
 use Rattle.std.proofs.lemmas.List.Kept.{AllPairs-cons}
 use Rattle.std.proofs.lemmas.Map.Keys.{IsDistinct-IsPermutation}
 use Rattle.std.proofs.lemmas.Map.Made.{AllPairs-from_IsDistinct, IsDistinct-from_AllPairs}
@@ -61,6 +62,27 @@ different-flat_map {X} {A} f of (x ∷ xs) p each owner =
     let other : of b ≡ c.source = owner c.source b (suc c.listed.0, omega (arith, c.listed.1), c.listed.2) c.inside in
     let apart : x ≢ get_or xs c.listed.0 c.source = AllPairs-head (λ x y. x ≢ y) x xs p c.listed.0 c.source c.listed.1 in
     apart (sym mine ∙ ap of e ∙ other ∙ sym c.listed.2)))
+
+-- what a filter keeps
+pub Contains-filter : {X : Type 0} (p : X → Bool) (xs : List X) (a : X) → Contains (filter p xs) a → Contains xs a × (p a ≡ true)
+Contains-filter p xs a h =
+    (All-contains (Contains xs) (filter p xs) a (All-filter p (Contains xs) xs (All-contains_itself xs)) h, All-contains (λ x. p x ≡ true) (filter p xs) a (filter_passes p xs) h)
+
+pub Contains-into_filter : {X : Type 0} (p : X → Bool) (xs : List X) (a : X) → Contains xs a → p a ≡ true → Contains (filter p xs) a
+Contains-into_filter {X} p xs a h t = at xs h.0 h.1 h.2
+  where
+    further : (b : Bool) (x : X) (ys : List X) → Contains ys a → Contains (cond b (x ∷ ys) ys) a
+    further true x ys h = (suc h.0, omega (arith, h.1), h.2)
+    further false x ys h = h
+
+    first : (b : Bool) (x : X) (ys : List X) → b ≡ true → x ≡ a → Contains (cond b (x ∷ ys) ys) a
+    first true x ys e f = (0, omega arith, f)
+    first false x ys e f = absurd (false≢true e)
+
+    at : (xs : List X) (k : ℕ) → k < length xs → get_or xs k a ≡ a → Contains (filter p xs) a
+    at [] k lt e = absurd (omega arith)
+    at (x ∷ xs) zero lt e = first (p x) x (filter p xs) (ap p e ∙ t) e
+    at (x ∷ xs) (suc k) lt e = further (p x) x (filter p xs) (at xs k (omega arith) e)
 
 -- in another order they are different still
 pub different-permutation : {X : Type 0} (same : X → X → Bool) → ((a b : X) → Decides (same a b) (a ≡ b)) → (xs ys : List X) → IsPermutation xs ys → AllPairs (λ a b. a ≢ b) xs → AllPairs (λ a b. a ≢ b) ys

@@ -38,11 +38,11 @@ below-whole points cap c h = let e : ltb cap (count_in points c) ≡ false = gri
 pub below_more : (points : List Point) (cap : ℕ) (cells : List Square) (start at : ℕ) (was now ks : List Square) (c : Square) → start ≤ at → at < length cells → get_or cells at (root 16) ≡ c → was ≡ cells ++ flat_map (below points cap) (slice_range cells start at) → now ≡ was ++ ks → below points cap c ≡ ks → now ≡ cells ++ flat_map (below points cap) (slice_range cells start (at + 1))
 below_more points cap cells start at was now ks c le lt here e f g =
     let next : flat_map (below points cap) (slice_range cells start (at + 1)) ≡ flat_map (below points cap) (slice_range cells start at) ++ ks =
-        ap (flat_map (below points cap)) (between_more cells start at (root 16) le lt) ∙
-        flat_map-append (below points cap) (slice_range cells start at) (get_or cells at (root 16) ∷ []) ∙
-        ap (λ v. flat_map (below points cap) (slice_range cells start at) ++ (below points cap v ++ [])) here ∙
-        ap (λ l. flat_map (below points cap) (slice_range cells start at) ++ (l ++ [])) g ∙
-        ap (λ l. flat_map (below points cap) (slice_range cells start at) ++ l) (append-nil ks) in
+    ap (flat_map (below points cap)) (between_more cells start at (root 16) le lt) ∙
+    flat_map-append (below points cap) (slice_range cells start at) (get_or cells at (root 16) ∷ []) ∙
+    ap (λ v. flat_map (below points cap) (slice_range cells start at) ++ (below points cap v ++ [])) here ∙
+    ap (λ l. flat_map (below points cap) (slice_range cells start at) ++ (l ++ [])) g ∙
+    ap (λ l. flat_map (below points cap) (slice_range cells start at) ++ l) (append-nil ks) in
     f ∙ ap (λ l. l ++ ks) e ∙ append_assoc cells (flat_map (below points cap) (slice_range cells start at)) ks ∙ ap (λ l. cells ++ l) (sym next)
 
 -- and its run

@@ -2,6 +2,7 @@
 pub mod Counts
 pub mod Distinct
 pub mod Faults
+pub mod PointKinds
 pub mod LeafLevel
 pub mod Levels
 pub mod Limits

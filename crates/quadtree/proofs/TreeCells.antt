@@ -12,7 +12,7 @@ use Rattle.cell_name.proofs.Cells.{same_square}
 use Rattle.cell_name.proofs.Quarters.{parent-child}
 use Rattle.quadtree.specs.Splitting.{quarters, occupied, below, cells_of_level, cells_to_level}
 use Rattle.quadtree.specs.Tree.{AreInGrid, count_in, IsSplit, IsTreeCell}
-use Rattle.quadtree.proofs.Distinct.{AllPairs-append, Contains-flat_map, All-flat_map, different-flat_map}
+use Rattle.quadtree.proofs.Distinct.{Contains-filter, Contains-into_filter, Contains-flat_map, All-flat_map, different-flat_map}
 use Rattle.quadtree.proofs.Levels.{below-split, below-whole}
 use Rattle.quadtree.proofs.Parents.{IsTreeCell-parent}
 
@@ -69,26 +69,6 @@ quarters_differ c =
     columns top top' e = let n : 2 * c.i + 0 ≡ 2 * c.i + 1 = ap (λ (s : Square). s.i) e in omega arith
 
 -- ---- the cells below a cell
-
-Contains-filter : (p : Square → Bool) (xs : List Square) (a : Square) → Contains (filter p xs) a → Contains xs a × (p a ≡ true)
-Contains-filter p xs a h =
-    (All-contains (Contains xs) (filter p xs) a (All-filter p (Contains xs) xs (All-contains_itself xs)) h, All-contains (λ x. p x ≡ true) (filter p xs) a (filter_passes p xs) h)
-
-Contains-into_filter : (p : Square → Bool) (xs : List Square) (a : Square) → Contains xs a → p a ≡ true → Contains (filter p xs) a
-Contains-into_filter p xs a h t = at xs h.0 h.1 h.2
-  where
-    further : (b : Bool) (x : Square) (ys : List Square) → Contains ys a → Contains (cond b (x ∷ ys) ys) a
-    further true x ys h = (suc h.0, omega (arith, h.1), h.2)
-    further false x ys h = h
-
-    first : (b : Bool) (x : Square) (ys : List Square) → b ≡ true → x ≡ a → Contains (cond b (x ∷ ys) ys) a
-    first true x ys e f = (0, omega arith, f)
-    first false x ys e f = absurd (false≢true e)
-
-    at : (xs : List Square) (k : ℕ) → k < length xs → get_or xs k a ≡ a → Contains (filter p xs) a
-    at [] k lt e = absurd (omega arith)
-    at (x ∷ xs) zero lt e = first (p x) x (filter p xs) (ap p e ∙ t) e
-    at (x ∷ xs) (suc k) lt e = further (p x) x (filter p xs) (at xs k (omega arith) e)
 
 has_point : (points : List Point) (c : Square) → ltb 0 (count_in points c) ≡ true → 1 ≤ count_in points c
 has_point points c e = grind (arith, nat_tests)

@@ -2,6 +2,7 @@
 pub mod Faults
 pub mod Fields
 pub mod Members
+pub mod Nodes
 pub mod Splitting
 pub mod Tree
 pub mod TreeModel

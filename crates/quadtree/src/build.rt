@@ -48,7 +48,10 @@ fn accepted(alloc: Global, points: &[Point], cap: u32) -> Result<Splits, TreeFau
     let splits = Splits::sorted(alloc, points, cap)?;
     if let Some(run) = first_crowded(&splits.runs) {
         let count = (run.to - run.from) as u64;
-        return Err(TreeFault::Crowded { cell: run.cell, count });
+        return Err(TreeFault::Crowded {
+            cell: run.cell,
+            count,
+        });
     }
     if splits.runs.len() > MOST_CELLS {
         return Err(TreeFault::Cells);

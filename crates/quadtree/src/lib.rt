@@ -3,6 +3,7 @@
 
 mod build;
 mod fault;
+mod nodes;
 mod split;
 mod tree;
 
