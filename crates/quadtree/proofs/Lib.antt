@@ -15,3 +15,4 @@ pub mod Searches
 pub mod Sorted
 pub mod TreeCells
 pub mod TreeLevels
+pub mod Whole

@@ -1,6 +1,6 @@
 //! Building the tree of a list of points.
 
-ghost use Rattle.std.specs.Prelude.{◌≤◌, length, All, IfErr, IfNone, IfOk, IfSome, OnOk};
+ghost use Rattle.std.specs.Prelude.{◌≡◌, ◌≤◌, length, map, All, IfErr, IfNone, IfOk, IfSome, OnOk};
 ghost use Rattle.particle_text.specs.Limits.{WithinLimits, most_points};
 ghost use Rattle.quadtree.specs.Faults.{most_cells, NoneIsCrowded, IsFaultOf};
 ghost use Rattle.quadtree.specs.Splitting.{squares_of, AreRuns, IsCrowdedRun, IsFirstCrowdedRun};
@@ -8,11 +8,12 @@ ghost use Rattle.quadtree.specs.Tree.{AreInGrid, AreTreeCells};
 ghost use Rattle.quadtree.specs.TreeModel.{IsTreeOf};
 
 use crate::fault::TreeFault;
+use crate::nodes::{leaves_of, nodes_of};
 use crate::split::{Run, Splits};
 use crate::tree::Tree;
-use cell_name::GRID;
+use cell_name::{Cell, GRID};
 use particle_text::{Point, Points};
-use std::alloc::Global;
+use std::alloc::{AllocError, Global};
 
 /// The greatest number of points at one place.
 const MOST_AT_A_PLACE: usize = 4096;
@@ -59,6 +60,34 @@ fn accepted(alloc: Global, points: &[Point], cap: u32) -> Result<Splits, TreeFau
     Ok(splits)
 }
 
+/// The cells of runs.
+fn cells_of(alloc: Global, runs: &[Run]) -> Result<Vec<Cell>, AllocError>
+    ensures { IfOk result (λ v. v.items ≡ map (λ r. r.cell) runs.now) }
+{
+    runs.iter().map(|run| run.cell).collect(alloc)
+}
+
+/// The tree of the cells and the positions that were found.
+fn assembled(alloc: Global, points: &[Point], cap: u32, splits: Splits) -> Result<Tree, AllocError>
+    requires in_grid { AreInGrid 16 points.now }
+    requires few_points { length points.now ≤ most_points }
+    requires cells { AreTreeCells 16 points.now cap (squares_of splits.runs.items) }
+    requires few_cells { length splits.runs.items ≤ most_cells }
+    requires runs { AreRuns points.now splits.positions.items splits.runs.items }
+    ensures { IfOk result (λ tree. IsTreeOf 16 tree points.now cap) }
+{
+    let Splits { positions, runs } = splits;
+    let cells = cells_of(alloc, &runs)?;
+    let nodes = nodes_of(alloc, points, cap, &cells, &positions, &runs)?;
+    let leaves = leaves_of(alloc, points.len(), &nodes, &positions)?;
+    Ok(Tree {
+        cells,
+        nodes,
+        positions,
+        leaves,
+    })
+}
+
 impl Tree {
     /// The tree of a list of points with a leaf capacity.
     ///
@@ -76,7 +105,7 @@ impl Tree {
         ensures fault { IfErr result (IsFaultOf 16 points.now.list cap) }
     {
         let list = points.list.points();
-        let _splits = accepted(alloc, list, cap)?;
-        Err(TreeFault::Memory)
+        let splits = accepted(alloc, list, cap)?;
+        Ok(assembled(alloc, list, cap, splits)?)
     }
 }

@@ -45,13 +45,13 @@ loop-n-preserved c =
           record {
             as_many = omega (arith, ap length e);
             leaves_are = let P : List ℕ → Type 0 = λ l. LeavesAreTo c.args.positions.now c.args.nodes.now l (c.loop-n.n + 1) in
-            subst P (sym e) (leaf_more c.args.positions.now c.args.nodes.now c.loop-n.leaves.items w.mark.new.leaves c.loop-n.n c.requires.apart c.loop-n-test.true w.if-node.true w.mark.ensures.marked (λ k n. w.mark.ensures.others k n ∙ ap (λ l. get_or l k 0) w.deref_mut.ensures.value) c.loop-n.invariant.leaves_are);
+                subst P (sym e) (leaf_more c.args.positions.now c.args.nodes.now c.loop-n.leaves.items w.mark.new.leaves c.loop-n.n c.requires.apart c.loop-n-test.true w.if-node.true w.mark.ensures.marked (λ k n. w.mark.ensures.others k n ∙ ap (λ l. get_or l k 0) w.deref_mut.ensures.value) c.loop-n.invariant.leaves_are);
           }
       | else-node w ↦
           let e : c.if-node.leaves.items ≡ c.loop-n.leaves.items = rw w.leaves-is refl in
           record {
             as_many = ap length e ∙ c.loop-n.invariant.as_many;
             leaves_are = let P : List ℕ → Type 0 = λ l. LeavesAreTo c.args.positions.now c.args.nodes.now l (c.loop-n.n + 1) in
-            subst P (sym e) (no_leaf_more c.args.positions.now c.args.nodes.now c.loop-n.leaves.items c.loop-n.n w.if-node.false c.loop-n.invariant.leaves_are);
+                subst P (sym e) (no_leaf_more c.args.positions.now c.args.nodes.now c.loop-n.leaves.items c.loop-n.n w.if-node.false c.loop-n.invariant.leaves_are);
           }
     ]
