@@ -1,6 +1,7 @@
 -- Whole numbers as text, in base ten. Each number has one spelling.
-use Rattle.std.specs.Prelude.{◌≡◌, ℕ, suc, ◌+◌, ◌-◌, ◌*◌, ◌^◌, ◌≤◌, ◌⊎◌, min, List, [], ◌∷◌, ℤ, pos, negsuc, neg_ℤ}
+use Rattle.std.specs.Prelude.{◌≡◌, ℕ, suc, ◌+◌, ◌-◌, ◌*◌, ◌≤◌, ◌⊎◌, min, List, [], ◌∷◌, ℤ, pos, negsuc, neg_ℤ}
 use Rattle.std.specs.List.{AllByRecursion}
+use Rattle.number_text.specs.Parts.{IsCut}
 
 -- a digit, `0` to `9`
 abbrev pub IsDigit : ℕ → Type 0
@@ -38,3 +39,9 @@ nearest_uint n = min n most_read
 abbrev pub nearest_int : ℤ → ℤ
 nearest_int (pos n) = pos (nearest_uint n)
 nearest_int (negsuc n) = neg_ℤ (pos (nearest_uint (suc n)))
+
+-- the words of the text spell these numbers, with one space between each two of them
+abbrev pub AreInts : List ℕ → List ℤ → Type 0
+AreInts text [] = text ≡ []
+AreInts text (z ∷ []) = IsInt text z
+AreInts text (z ∷ y ∷ zs) = (word rest : List ℕ) × IsCut 32 text word rest × IsInt word z × AreInts rest (y ∷ zs)

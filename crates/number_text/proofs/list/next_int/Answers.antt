@@ -1,8 +1,8 @@
-use Rattle.std.proofs.Common.{◌≡◌, List, ℕ, subst, sym}
+use Rattle.std.proofs.Common.{subst}
 use Rattle.number_text.specs.Numbers.{IsInt}
 use Rattle.number_text.specs.Parts.{IsFreeOf}
 use Rattle.number_text.proofs.Cuts.{no_cut, same_cut}
-use Rattle.number_text.proofs.part.next_int.Goals as goal
+use Rattle.number_text.proofs.list.next_int.Goals as goal
 
 pub returns-in_err-word-clause-none : goal.returns-in_err-word-clause-none
 returns-in_err-word-clause-none c =

@@ -1,0 +1,31 @@
+//! The answers other than Ok.
+use thiserror::Error;
+
+/// A call of the outside failed.
+#[derive(Clone, Copy, Debug, PartialEq, Eq, Error)]
+#[error("a read or a write failed")]
+pub struct Failed;
+
+/// Memory ran out.
+#[derive(Clone, Copy, Debug, PartialEq, Eq, Error)]
+#[error("out of memory")]
+pub struct Memory;
+
+/// Why an input wasn't read whole.
+#[derive(Clone, Copy, Debug, PartialEq, Eq, Error)]
+pub enum InFault {
+    /// A read failed.
+    #[error("a read failed")]
+    ReadFault,
+    /// The input has more bytes than its limit.
+    #[error("the input is too long")]
+    Long,
+    /// Memory ran out.
+    #[error("out of memory")]
+    Memory,
+}
+
+/// A write failed.
+#[derive(Clone, Copy, Debug, PartialEq, Eq, Error)]
+#[error("a write failed")]
+pub struct WriteFault;
