@@ -5,4 +5,5 @@ pub mod Cells
 pub mod Levels
 pub mod Comparisons
 pub mod Distances
+pub mod Order
 pub mod Quarters

@@ -4,7 +4,7 @@
 pub mod cell;
 pub mod law;
 
-pub use cell::{Cell, Quadrant};
+pub use cell::{Cell, GRID, Quadrant};
 
 #[cfg(test)]
 mod tests;

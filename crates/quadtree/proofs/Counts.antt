@@ -1,0 +1,63 @@
+-- How many points cells have.
+use Rattle.std.proofs.Common.{ℕ, ◌≡◌, ◌<◌, ◌≤◌, suc, zero, Bool, true, false, cond, List, [], ◌∷◌, length, get_or, arith, refl, sym, ap, ◌∙◌, subst}
+use Rattle.std.specs.Prelude.{ℤ, ◌≤ℤ◌, ◌<ℤ◌, int_le, int_lt, count_by, Contains}
+use Rattle.std.proofs.lemmas.Int.{ints}
+use Rattle.std.proofs.lemmas.Bool.{and_from, and_parts}
+use Rattle.std.proofs.lemmas.List.Sums.{sum_by-cons}
+use Rattle.particle_text.specs.declared.Point.{Point}
+use Rattle.cell_name.specs.Square.{Square, Holds, holds_test, parent}
+use Rattle.cell_name.proofs.Cells.{Holds-parent}
+use Rattle.quadtree.specs.Tree.{count_in}
+
+-- a test that passes wherever another does counts at least as many
+pub count_by-weaker : {A : Type 0} (p q : A → Bool) → ((x : A) → p x ≡ true → q x ≡ true) → (xs : List A) → count_by p xs ≤ count_by q xs
+count_by-weaker p q h [] = omega arith
+count_by-weaker p q h (x ∷ xs) = rw (sum_by-cons (λ y. cond (p y) 1 0) x xs, sum_by-cons (λ y. cond (q y) 1 0) x xs) (omega (arith, one_weaker (p x) (q x) (h x), count_by-weaker p q h xs))
+  where
+    one_weaker : (a b : Bool) → (a ≡ true → b ≡ true) → cond a 1 0 ≤ cond b 1 0
+    one_weaker false b h = omega arith
+    one_weaker true b h = let e : true ≡ b = sym (h refl) in let P : Bool → Type 0 = λ v. 1 ≤ cond v 1 0 in subst P e (omega arith)
+
+-- a listed element that passes is counted
+count_by-at : {A : Type 0} (p : A → Bool) (xs : List A) (k : ℕ) (x : A) → k < length xs → get_or xs k x ≡ x → p x ≡ true → 1 ≤ count_by p xs
+count_by-at p [] k x h e t = absurd (omega arith)
+count_by-at p (y ∷ xs) zero x h e t = let here : p y ≡ true = ap p e ∙ t in let one : cond {A = ℕ} (p y) 1 0 ≡ 1 = ap (λ (b : Bool). cond {A = ℕ} b 1 0) here in rw (sum_by-cons (λ z. cond (p z) 1 0) y xs) (omega arith)
+count_by-at p (y ∷ xs) (suc k) x h e t = rw (sum_by-cons (λ z. cond (p z) 1 0) y xs) (omega (arith, count_by-at p xs k x (omega arith) e t))
+
+pub count_by-listed : {A : Type 0} (p : A → Bool) (xs : List A) (x : A) → Contains xs x → p x ≡ true → 1 ≤ count_by p xs
+count_by-listed p xs x h t = count_by-at p xs h.0 x h.1 h.2 t
+
+le_from_test : (a b : ℤ) → int_le a b ≡ true → a ≤ℤ b
+le_from_test a b e = grind (arith, ints)
+
+lt_from_test : (a b : ℤ) → int_lt a b ≡ true → a <ℤ b
+lt_from_test a b e = grind (arith, ints)
+
+test-from_le : (a b : ℤ) → a ≤ℤ b → int_le a b ≡ true
+test-from_le a b h = grind (arith, ints)
+
+test-from_lt : (a b : ℤ) → a <ℤ b → int_lt a b ≡ true
+test-from_lt a b h = grind (arith, ints)
+
+-- the test by which points are counted says whether a cell holds them
+pub Holds-from_test : (c : Square) (x y : ℤ) → holds_test c x y ≡ true → Holds c x y
+Holds-from_test c x y e =
+    let three = and_parts _ _ e in
+    let two = and_parts _ _ three.0 in
+    let one = and_parts _ _ two.0 in
+    record {
+      west = le_from_test _ _ one.0;
+      east = lt_from_test _ _ one.1;
+      south = le_from_test _ _ two.1;
+      north = lt_from_test _ _ three.1;
+    }
+
+pub test-from_Holds : (c : Square) (x y : ℤ) → Holds c x y → holds_test c x y ≡ true
+test-from_Holds c x y h =
+    and_from _ _ (and_from _ _ (and_from _ _ (test-from_le _ _ h.west) (test-from_lt _ _ h.east)) (test-from_le _ _ h.south)) (test-from_lt _ _ h.north)
+
+-- a parent has at least as many points as its child
+pub count_in-parent : (points : List Point) (c : Square) → 0 < c.level → c.level ≤ c.grid → count_in points c ≤ count_in points (parent c)
+count_in-parent points c lo hi =
+    count_by-weaker (λ p. holds_test c p.x p.y) (λ p. holds_test (parent c) p.x p.y)
+    (λ p t. test-from_Holds (parent c) p.x p.y (Holds-parent c p.x p.y lo hi (Holds-from_test c p.x p.y t))) points

@@ -1,0 +1,11 @@
+-- A list within the limits lies in the grid.
+use Rattle.std.proofs.Common.{ℕ, ◌≡◌, ◌≤◌, List, length, refl}
+use Rattle.std.specs.Prelude.{All}
+use Rattle.std.proofs.lemmas.List.Elements.{All-weaker}
+use Rattle.particle_text.specs.declared.Point.{Point}
+use Rattle.particle_text.specs.Limits.{InRange}
+use Rattle.cell_name.specs.Square.{IsInGrid}
+use Rattle.quadtree.specs.Tree.{AreInGrid}
+
+pub in_grid : (points : List Point) → All InRange points → AreInGrid 16 points
+in_grid points h = All-weaker InRange (λ p. IsInGrid 16 p.x p.y) (λ p r. record { west = r.grid.across.above; east = r.grid.across.below; south = r.grid.up.above; north = r.grid.up.below }) points h

@@ -1,0 +1,31 @@
+-- The positions that a cell holds, one more at a time.
+use Rattle.std.proofs.Common.{ℕ, ◌≡◌, ◌+◌, ◌<◌, Bool, true, false, cond, List, [], ◌∷◌, ◌++◌, length, get_or, take, ap, ◌∙◌, sym, refl, append-nil}
+use Rattle.std.specs.Prelude.{ℤ, Some, IsTrue, ◌↔◌}
+use Rattle.std.proofs.lemmas.List.Elements.{filter_more}
+use Rattle.std.proofs.lemmas.Option.{slice_get-get_or}
+use Rattle.particle_text.specs.declared.Point.{Point}
+use Rattle.cell_name.specs.Square.{Square, Holds, holds_test}
+use Rattle.quadtree.specs.Members.{holds_point, holds_position, members_among}
+use Rattle.quadtree.proofs.Counts.{Holds-from_test, test-from_Holds}
+
+-- the answer of a test of the cell is the test by which points are counted
+pub holds_test-answer : (c : Square) (x y : ℤ) (r : Bool) → (IsTrue r ↔ Holds c x y) → r ≡ holds_test c x y
+holds_test-answer c x y r h = same_bool r (holds_test c x y) (λ t. test-from_Holds c x y (h.0 t)) (λ t. h.1 (Holds-from_test c x y t))
+  where
+    same_bool : (a b : Bool) → (a ≡ true → b ≡ true) → (b ≡ true → a ≡ true) → a ≡ b
+    same_bool true b f g = sym (f refl)
+    same_bool false true f g = g refl
+    same_bool false false f g = refl
+
+pub holds_position-at : (c : Square) (points : List Point) (k : ℕ) (p : Point) → k < length points → p ≡ get_or points k p → holds_position c points k ≡ holds_test c p.x p.y
+holds_position-at c points k p lt e = ap (holds_point c) (slice_get-get_or points k p lt ∙ ap Some (sym e))
+
+pub members_more_yes : (points : List Point) (c : Square) (order : List ℕ) (i : ℕ) → i < length order → holds_position c points (get_or order i 0) ≡ true → members_among points c (take (i + 1) order) ≡ members_among points c (take i order) ++ get_or order i 0 ∷ []
+members_more_yes points c order i lt held =
+    filter_more (λ k. holds_position c points k) order i 0 lt ∙
+    ap (λ b. members_among points c (take i order) ++ cond b (get_or order i 0 ∷ []) []) held
+
+pub members_more_no : (points : List Point) (c : Square) (order : List ℕ) (i : ℕ) → i < length order → holds_position c points (get_or order i 0) ≡ false → members_among points c (take (i + 1) order) ≡ members_among points c (take i order)
+members_more_no points c order i lt apart =
+    filter_more (λ k. holds_position c points k) order i 0 lt ∙
+    ap (λ b. members_among points c (take i order) ++ cond b (get_or order i 0 ∷ []) []) apart ∙ append-nil (members_among points c (take i order))

@@ -1,0 +1,87 @@
+-- A tree as callers see it, and what it is for a list of points and a capacity.
+use Rattle.std.specs.Prelude.{ℕ, ◌≡◌, ◌<◌, ◌≤◌, ◌↔◌, Bool, false, IsTrue, List, [], length, map, Some, slice_get, slice_index, slice_index_or}
+use Rattle.particle_text.specs.declared.Point.{Point}
+use Rattle.particle_text.specs.Limits.{most_points}
+use Rattle.cell_name.specs.declared.cell.Cell.{Cell}
+use Rattle.cell_name.specs.Cell.{square}
+use Rattle.cell_name.specs.Square.{Square, root, parent, Holds}
+use Rattle.quadtree.specs.Faults.{most_cells}
+use Rattle.quadtree.specs.Members.{members_of}
+use Rattle.quadtree.specs.Tree.{AreInGrid, count_in, AreTreeCells, IsLeaf, HasSource, HasTarget}
+
+-- What is kept of a cell: its parent's number, how many points it has, what kind of cell it is, and the positions of its points.
+pub record NodeModel : Type 0 where
+  pub parent : ℕ
+  pub count : ℕ
+  pub is_leaf : Bool
+  pub has_source : Bool
+  pub has_target : Bool
+  pub members : List ℕ
+
+-- The cells in their order, what is kept of each, and the number of the leaf of each point.
+pub record TreeModel : Type 0 where
+  pub cells : List Cell
+  pub nodes : List NodeModel
+  pub leaves : List ℕ
+
+-- the cells as the definitions see them
+abbrev pub squares : TreeModel → List Square
+squares tree = map square tree.cells
+
+-- how many cells there are
+abbrev pub size : TreeModel → ℕ
+size tree = length tree.cells
+
+-- the cell of a number
+abbrev pub square_of : TreeModel → ℕ → Square
+square_of tree n = slice_index_or (squares tree) n (root 16)
+
+-- what stands past the last cell
+abbrev pub no_node : NodeModel
+no_node = record { parent = 0; count = 0; is_leaf = false; has_source = false; has_target = false; members = [] }
+
+-- what is kept of the cell of a number
+abbrev pub node_of : TreeModel → ℕ → NodeModel
+node_of tree n = slice_index_or tree.nodes n no_node
+
+-- the number of the leaf of the point at a position
+abbrev pub leaf_of : TreeModel → ℕ → ℕ
+leaf_of tree k = slice_index tree.leaves k
+
+-- cell 0 is named as its own parent, and each other cell's parent by its number
+pub record HasParent (tree : TreeModel) (n : ℕ) : Type 0 where
+  pub in_range : (node_of tree n).parent < size tree
+  pub of_first : n ≡ 0 → (node_of tree n).parent ≡ 0
+  pub of_others : 0 < n → square_of tree (node_of tree n).parent ≡ parent (square_of tree n)
+
+-- what is kept of a cell is right
+pub record IsNode (grid : ℕ) (tree : TreeModel) (points : List Point) (cap n : ℕ) : Type 0 where
+  pub parent_is : HasParent tree n
+  pub count_is : (node_of tree n).count ≡ count_in points (square_of tree n)
+  pub leaf : IsTrue (node_of tree n).is_leaf ↔ IsLeaf grid points cap (square_of tree n)
+  pub source : IsTrue (node_of tree n).has_source ↔ HasSource points (square_of tree n)
+  pub target : IsTrue (node_of tree n).has_target ↔ HasTarget points (square_of tree n)
+  pub members_are : (node_of tree n).members ≡ members_of points (square_of tree n)
+
+-- the leaf of a point
+pub record IsLeafOf (grid : ℕ) (tree : TreeModel) (points : List Point) (cap n : ℕ) (p : Point) : Type 0 where
+  pub in_range : n < size tree
+  pub leaf : IsLeaf grid points cap (square_of tree n)
+  pub held : Holds (square_of tree n) p.x p.y
+
+-- the tree of a list of points and a capacity: its cells, what is kept of each, and the leaf of each point
+pub record IsTreeOf (grid : ℕ) (tree : TreeModel) (points : List Point) (cap : ℕ) : Type 0 where
+  pub cells_are : AreTreeCells grid points cap (squares tree)
+  pub few : size tree ≤ most_cells
+  pub as_many_nodes : length tree.nodes ≡ size tree
+  pub nodes_are : (n : ℕ) → n < size tree → IsNode grid tree points cap n
+  pub as_many_leaves : length tree.leaves ≡ length points
+  pub leaves_are : (k : ℕ) (p : Point) → slice_get points k ≡ Some p → IsLeafOf grid tree points cap (leaf_of tree k) p
+
+-- the tree of some list within the grid: what each value of the type is
+pub record IsTree (tree : TreeModel) : Type 0 where
+  pub points : List Point
+  pub cap : ℕ
+  pub in_grid : AreInGrid 16 points
+  pub few_points : length points ≤ most_points
+  pub is_tree : IsTreeOf 16 tree points cap

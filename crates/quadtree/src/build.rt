@@ -1,0 +1,111 @@
+//! Building the tree of a list of points.
+
+ghost use Rattle.std.specs.Prelude.{◌≡◌, ◌≤◌, length, map, All, IfErr, IfNone, IfOk, IfSome, OnOk};
+ghost use Rattle.particle_text.specs.Limits.{WithinLimits, most_points};
+ghost use Rattle.quadtree.specs.Faults.{most_cells, NoneIsCrowded, IsFaultOf};
+ghost use Rattle.quadtree.specs.Splitting.{squares_of, AreRuns, IsCrowdedRun, IsFirstCrowdedRun};
+ghost use Rattle.quadtree.specs.Tree.{AreInGrid, AreTreeCells};
+ghost use Rattle.quadtree.specs.TreeModel.{IsTreeOf};
+
+use crate::fault::TreeFault;
+use crate::nodes::{leaves_of, nodes_of};
+use crate::split::{Run, Splits};
+use crate::tree::Tree;
+use cell_name::{Cell, GRID};
+use particle_text::{Point, Points};
+use std::alloc::{AllocError, Global};
+
+/// The greatest number of points at one place.
+const MOST_AT_A_PLACE: usize = 4096;
+
+/// The greatest number of cells of a tree.
+const MOST_CELLS: usize = 65536;
+
+/// The first run of a place with too many points.
+fn first_crowded(runs: &[Run]) -> Option<Run>
+    requires { All (λ r. r.from ≤ r.to) runs.now }
+    ensures none { IfNone result (All (λ r. IsCrowdedRun r → ⊥) runs.now) }
+    ensures found { IfSome result (IsFirstCrowdedRun runs.now) }
+{
+    for run in runs {
+        if run.cell.level == GRID && run.to - run.from > MOST_AT_A_PLACE {
+            return Some(*run);
+        }
+    }
+    None
+}
+
+/// The cells of the tree in their order, unless a place is crowded or the cells are too many.
+fn accepted(alloc: Global, points: &[Point], cap: u32) -> Result<Splits, TreeFault>
+    requires in_grid { AreInGrid 16 points.now }
+    requires few { length points.now ≤ most_points }
+    requires cap { cap ≤ 1024 }
+    ensures cells { IfOk result (λ s. AreTreeCells 16 points.now cap (squares_of s.runs.items)) }
+    ensures runs { IfOk result (λ s. AreRuns points.now s.positions.items s.runs.items) }
+    ensures few { IfOk result (λ s. length s.runs.items ≤ most_cells) }
+    ensures none_crowded { OnOk result (NoneIsCrowded 16 points.now) }
+    ensures fault { IfErr result (IsFaultOf 16 points.now cap) }
+{
+    let splits = Splits::sorted(alloc, points, cap)?;
+    if let Some(run) = first_crowded(&splits.runs) {
+        let count = (run.to - run.from) as u64;
+        return Err(TreeFault::Crowded {
+            cell: run.cell,
+            count,
+        });
+    }
+    if splits.runs.len() > MOST_CELLS {
+        return Err(TreeFault::Cells);
+    }
+    Ok(splits)
+}
+
+/// The cells of runs.
+fn cells_of(alloc: Global, runs: &[Run]) -> Result<Vec<Cell>, AllocError>
+    ensures { IfOk result (λ v. v.items ≡ map (λ r. r.cell) runs.now) }
+{
+    runs.iter().map(|run| run.cell).collect(alloc)
+}
+
+/// The tree of the cells and the positions that were found.
+fn assembled(alloc: Global, points: &[Point], cap: u32, splits: Splits) -> Result<Tree, AllocError>
+    requires in_grid { AreInGrid 16 points.now }
+    requires few_points { length points.now ≤ most_points }
+    requires cells { AreTreeCells 16 points.now cap (squares_of splits.runs.items) }
+    requires few_cells { length splits.runs.items ≤ most_cells }
+    requires runs { AreRuns points.now splits.positions.items splits.runs.items }
+    ensures { IfOk result (λ tree. IsTreeOf 16 tree points.now cap) }
+{
+    let Splits { positions, runs } = splits;
+    let cells = cells_of(alloc, &runs)?;
+    let nodes = nodes_of(alloc, points, cap, &cells, &positions, &runs)?;
+    let leaves = leaves_of(alloc, points.len(), &nodes, &positions)?;
+    Ok(Tree {
+        cells,
+        nodes,
+        positions,
+        leaves,
+    })
+}
+
+impl Tree {
+    /// The tree of a list of points with a leaf capacity.
+    ///
+    /// The list is within the limits of its text, and the capacity is 8 to 1024. Where more than 4,096 points stand
+    /// at one place, `Crowded` has the first such place by column and row. Otherwise, where the tree has more than 65,536
+    /// cells, it is `Cells`.
+    pub fn build(alloc: Global, points: &Points, cap: u32) -> Result<Tree, TreeFault>
+        requires list { WithinLimits points.now.mode points.now.list }
+        requires cap_low { 8 ≤ cap }
+        requires cap_high { cap ≤ 1024 }
+
+        // Every answer but `Memory` is the one that the list and the capacity determine.
+        ensures tree { IfOk result (λ tree. IsTreeOf 16 tree points.now.list cap) }
+        ensures none_crowded { OnOk result (NoneIsCrowded 16 points.now.list) }
+        ensures fault { IfErr result (IsFaultOf 16 points.now.list cap) }
+    {
+        let list = points.list.points();
+        let splits = accepted(alloc, list, cap)?;
+        Ok(assembled(alloc, list, cap, splits)?)
+    }
+}
