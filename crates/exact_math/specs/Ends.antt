@@ -128,3 +128,12 @@ pub record EndsInside (inner outer : Ends) : Type 0 where
 pub record BoxEndsInside (inner outer : BoxEnds) : Type 0 where
   pub re : EndsInside inner.re outer.re
   pub im : EndsInside inner.im outer.im
+
+-- the ends are in order, and at most w apart
+pub record EndsNarrow (w : ℕ) (i : Ends) : Type 0 where
+  pub ordered : i.lo ≤ℤ i.hi
+  pub width : (i.hi -ℤ i.lo) ≤ℤ pos w
+
+pub record BoxEndsNarrow (w : ℕ) (b : BoxEnds) : Type 0 where
+  pub re : EndsNarrow w b.re
+  pub im : EndsNarrow w b.im

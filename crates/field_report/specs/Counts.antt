@@ -1,5 +1,5 @@
 -- The printed counts of a box: whole numbers of 10^-12.
-use Rattle.std.specs.Prelude.{ℤ, pos, ◌*ℤ◌, ◌^◌}
+use Rattle.std.specs.Prelude.{ℤ, pos, ◌*ℤ◌, ◌≤ℤ◌, ◌<ℤ◌, ◌^◌, Bool, true, false}
 use Rattle.exact_math.specs.Contains.{Contains}
 use Rattle.exact_math.specs.Ends.{Ends, BoxEnds, neg_ends}
 use Rattle.exact_math.specs.Ratio.{Ratio, ComplexRatio, re_part, im_part, neg_ratio}
@@ -13,6 +13,13 @@ count_below n = floor_div (pos (10 ^ 12) *ℤ n) (pos (2 ^ 40))
 
 abbrev pub count_above : ℤ → ℤ
 count_above n = ceil_div (pos (10 ^ 12) *ℤ n) (pos (2 ^ 40))
+
+-- a count that was rounded down is at most 10^12 x, and one that was rounded up at least, for each fraction x on that side of the end
+abbrev pub KeepsBound : Bool → ℤ → ℤ → Type 0
+KeepsBound false n count = (x : Ratio) → pos 0 <ℤ x.denominator → (n *ℤ x.denominator) ≤ℤ (pos (2 ^ 40) *ℤ x.numerator)
+    → (count *ℤ x.denominator) ≤ℤ (pos (10 ^ 12) *ℤ x.numerator)
+KeepsBound true n count = (x : Ratio) → pos 0 <ℤ x.denominator → (pos (2 ^ 40) *ℤ x.numerator) ≤ℤ (n *ℤ x.denominator)
+    → (pos (10 ^ 12) *ℤ x.numerator) ≤ℤ (count *ℤ x.denominator)
 
 -- the counts of both ends of an interval
 abbrev pub count_ends : Ends → Ends

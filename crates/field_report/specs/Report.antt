@@ -37,6 +37,14 @@ target_line mode t =
     ++ second_word mode ++ decimal_text t.counts.second.lo ++ codes " " ++ decimal_text t.counts.second.hi
     ++ line_feed
 
+-- the line of these numbers
+abbrev pub line_of : Mode → ℤ → ℤ → ℤ → ℤ → ℤ → ℤ → List ℕ
+line_of mode x y first_lo first_hi second_lo second_hi = target_line mode (record {
+  x = x;
+  y = y;
+  counts = record { first = record { lo = first_lo; hi = first_hi }; second = record { lo = second_lo; hi = second_hi } };
+})
+
 -- `fmm report 1 MODE order P cap CAP`
 abbrev pub head_line : Mode → ℕ → ℕ → List ℕ
 head_line mode order cap = codes "fmm report 1 " ++ mode_word mode ++ codes " order " ++ decimal order ++ codes " cap " ++ decimal cap ++ line_feed

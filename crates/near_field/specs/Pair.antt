@@ -1,7 +1,7 @@
 -- What one source contributes at a place, exactly and as a box.
 use Rattle.std.specs.Prelude.{pos, ◌*ℤ◌, Bool, ◌&&◌, if◌then◌else◌, ◌^◌}
 use Rattle.std.specs.Ordering.{int_eq}
-use Rattle.exact_math.specs.Ends.{BoxEnds, zero_box}
+use Rattle.exact_math.specs.Ends.{BoxEnds, zero_box, point_box, quot_box}
 use Rattle.exact_math.specs.Gaussian.{Gaussian, sub_gaussian}
 use Rattle.exact_math.specs.Ratio.{ComplexRatio, zero_complex}
 use Rattle.exact_math.specs.Terms.{pole_term, dipole_term}

@@ -1,7 +1,7 @@
 -- A text is cut at the first place of a byte in one way alone.
-use Rattle.std.proofs.Common.{◌≡◌, ◌≢◌, ℕ, ◌+◌, ◌-◌, ◌<◌, ◌≤◌, Bool, true, false, List, [], ◌∷◌, ◌++◌, length, take, drop, get_or, eqb, refl, sym, ap, ◌∙◌, subst, arith, rules}
+use Rattle.std.proofs.Common.{◌≡◌, ◌≢◌, ℕ, ◌+◌, ◌<◌, ◌≤◌, false, List, [], ◌∷◌, ◌++◌, length, take, drop, get_or, refl, sym, ap, ◌∙◌, arith}
 use Rattle.std.specs.Prelude.{Some, None, position, ◌==◌}
-use Rattle.std.specs.List.{AllByRecursion, All, position_or_len}
+use Rattle.std.specs.List.{position_or_len}
 use Rattle.std.proofs.lemmas.List.Sums.{fails_before_first}
 use Rattle.std.proofs.lemmas.Bool.Decides.{nat_tests}
 use Rattle.std.proofs.lemmas.List.{take-append-drop, drop_more, get_or-take, length-take}
@@ -13,10 +13,10 @@ pub record Same (front other back rest : List ℕ) : Type 0 where
   pub fronts : front ≡ other
   pub backs : back ≡ rest
 
-head_of : (a b : ℕ) (xs ys : List ℕ) → a ∷ xs ≡ b ∷ ys → a ≡ b
+pub head_of : (a b : ℕ) (xs ys : List ℕ) → a ∷ xs ≡ b ∷ ys → a ≡ b
 head_of a b xs ys e = cc
 
-tail_of : (a b : ℕ) (xs ys : List ℕ) → a ∷ xs ≡ b ∷ ys → xs ≡ ys
+pub tail_of : (a b : ℕ) (xs ys : List ℕ) → a ∷ xs ≡ b ∷ ys → xs ≡ ys
 tail_of a b xs ys e = cc
 
 pub one_cut : (byte : ℕ) (front back other rest : List ℕ) → IsFreeOf byte front → IsFreeOf byte other → front ++ byte ∷ back ≡ other ++ byte ∷ rest → Same front other back rest
@@ -43,10 +43,10 @@ cut_at_position byte text at e =
     let found = position-Some (λ b. b == byte) text at 0 e in
     let here : get_or text at 0 ≡ byte = grind (arith, nat_tests, found.1) in
     let before : (k : ℕ) → k < length (take at text) → get_or (take at text) k 0 ≢ byte = λ k within.
-      let small : k < at = omega (arith, length-take at text, found.0) in
-      let other : get_or text k 0 == byte ≡ false = found.2 k small in
-      let apart : get_or text k 0 ≢ byte = grind (arith, nat_tests, other) in
-      λ same. apart (sym (get_or-take at text k 0 small) ∙ same) in
+    let small : k < at = omega (arith, length-take at text, found.0) in
+    let other : get_or text k 0 == byte ≡ false = found.2 k small in
+    let apart : get_or text k 0 ≢ byte = grind (arith, nat_tests, other) in
+    λ same. apart (sym (get_or-take at text k 0 small) ∙ same) in
     record {
       whole = sym (take-append-drop at text) ∙ ap (λ xs. take at text ++ xs) (drop_more text at 0 found.0 ∙ ap (λ b. b ∷ drop (at + 1) text) here);
       first = recursion_from_All (λ b. b ≢ byte) _ (All-from_get_or (λ b. b ≢ byte) _ 0 before);
@@ -57,6 +57,6 @@ pub free_of_none : (byte : ℕ) (text : List ℕ) → position (λ b. b == byte)
 free_of_none byte text e =
     let past : length text ≤ position_or_len (λ b. b == byte) text = grind (arith, nat_tests, e) in
     let apart : (k : ℕ) → k < length text → get_or text k 0 ≢ byte = λ k within.
-      let other : get_or text k 0 == byte ≡ false = fails_before_first (λ b. b == byte) text k 0 (omega arith) in
-      grind (arith, nat_tests, other) in
+    let other : get_or text k 0 == byte ≡ false = fails_before_first (λ b. b == byte) text k 0 (omega arith) in
+    grind (arith, nat_tests, other) in
     recursion_from_All (λ b. b ≢ byte) text (All-from_get_or (λ b. b ≢ byte) text 0 apart)

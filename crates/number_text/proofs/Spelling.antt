@@ -1,5 +1,5 @@
 -- The one spelling of each whole number: the digits of its size, the highest first.
-use Rattle.std.proofs.Common.{◌≡◌, ◌≢◌, ℕ, zero, suc, ◌+◌, ◌-◌, ◌*◌, ◌/◌, ◌%◌, ◌^◌, ◌<◌, ◌≤◌, List, [], ◌∷◌, ◌++◌, map, get_or, ℤ, pos, negsuc, refl, sym, ap, ◌∙◌, subst, inl, inr, arith}
+use Rattle.std.proofs.Common.{◌≡◌, ℕ, zero, suc, ◌+◌, ◌-◌, ◌*◌, ◌/◌, ◌%◌, ◌^◌, ◌<◌, ◌≤◌, List, [], ◌∷◌, ◌++◌, map, get_or, ℤ, pos, negsuc, refl, sym, ap, ◌∙◌, subst, inl, inr, arith}
 use Rattle.std.specs.List.{AllByRecursion}
 use Rattle.std.specs.Int.Digits.{digits_of, number_from_digits_after, AllBelowBase}
 use Rattle.std.specs.Fmt.{decimal, signed_decimal}
@@ -27,7 +27,7 @@ spelled_after n (c ∷ cs) above all =
     let more = one_more n (c - 48) next above (omega (arith, all.0)) refl in
     let byte : ascii (c - 48) ≡ c = omega (arith, all.0) in
     let texts : map ascii (digits_of 10 next) ≡ map ascii (digits_of 10 n) ++ c ∷ [] =
-      ap (map ascii) more ∙ map-append ascii (digits_of 10 n) ((c - 48) ∷ []) ∙ ap (λ b. map ascii (digits_of 10 n) ++ b ∷ []) byte in
+    ap (map ascii) more ∙ map-append ascii (digits_of 10 n) ((c - 48) ∷ []) ∙ ap (λ b. map ascii (digits_of 10 n) ++ b ∷ []) byte in
     spelled_after next cs (omega arith) all.1 ∙ ap (λ front. front ++ cs) texts ∙ append_assoc (map ascii (digits_of 10 n)) (c ∷ []) cs
 
 one_digit : (d n : ℕ) → 0 < d → d < 10 → n ≡ d → digits_of 10 n ≡ d ∷ []
@@ -43,12 +43,13 @@ not_zero c cs n head tail value = sym value ∙ ap (λ b. value_after 0 (b ∷ c
 pub uint_spelling : (word : List ℕ) (n : ℕ) → IsUint word n → 0 < n → word ≡ map ascii (digits_of 10 n)
 uint_spelling [] n uint above = absurd uint.form
 uint_spelling (c ∷ cs) n uint above = elim uint.form [
-    inl alone ↦ absurd (let e = not_zero c cs n alone.0 alone.1 uint.value in omega arith)
+  | inl alone ↦ absurd (let e = not_zero c cs n alone.0 alone.1 uint.value in omega arith)
   | inr plain ↦
       let first = one_digit (c - 48) (10 * 0 + (c - 48)) (omega arith) (omega arith) (omega arith) in
       let text = spelled_after (10 * 0 + (c - 48)) cs (omega arith) plain.2 in
       let byte : ascii (c - 48) ≡ c = omega arith in
-      sym (ap (λ v. map ascii (digits_of 10 v)) (sym uint.value) ∙ text ∙ ap (λ ds. map ascii ds ++ cs) first ∙ ap (λ b. b ∷ cs) byte) ]
+      sym (ap (λ v. map ascii (digits_of 10 v)) (sym uint.value) ∙ text ∙ ap (λ ds. map ascii ds ++ cs) first ∙ ap (λ b. b ∷ cs) byte)
+]
 
 value_grows : (n : ℕ) (cs : List ℕ) → n ≤ value_after n cs
 value_grows n [] = omega arith
@@ -57,8 +58,9 @@ value_grows n (c ∷ cs) = omega (arith, value_grows (10 * n + (c - 48)) cs)
 zero_spelling : (word : List ℕ) → IsUint word 0 → word ≡ 48 ∷ []
 zero_spelling [] uint = absurd uint.form
 zero_spelling (c ∷ cs) uint = elim uint.form [
-    inl alone ↦ ap (λ b. b ∷ cs) alone.0 ∙ ap (λ bs. 48 ∷ bs) alone.1
-  | inr plain ↦ absurd (omega (arith, value_grows (10 * 0 + (c - 48)) cs, uint.value)) ]
+  | inl alone ↦ ap (λ b. b ∷ cs) alone.0 ∙ ap (λ bs. 48 ∷ bs) alone.1
+  | inr plain ↦ absurd (omega (arith, value_grows (10 * 0 + (c - 48)) cs, uint.value))
+]
 
 pub one_uint : (word other : List ℕ) (n : ℕ) → IsUint word n → IsUint other n → word ≡ other
 one_uint word other zero a b = zero_spelling word a ∙ sym (zero_spelling other b)

@@ -1,3 +1,8 @@
--- What the contracts cite: particles, limits, and the text of a list of particles.
+-- What the contracts cite: particles, limits, the text of a list of particles, and its faults.
+pub mod Answers
+pub mod Faults
+pub mod Forms
 pub mod Limits
+pub mod Nearest
 pub mod Points
+pub mod Text

@@ -1,14 +1,25 @@
 //! Particles, lists of them, and their text.
 #![tactic(auto)]
 
-ghost use Rattle.std.specs.Prelude.{◌≡◌, List, [], ◌∷◌, ◌++◌, OnOk, OnErr};
+ghost use Rattle.std.specs.Prelude.{◌≡◌, List, [], ◌∷◌, ◌++◌, ◌↔◌, IsTrue, OnOk, OnErr};
 ghost use Rattle.exact_math.specs.Gaussian.{gaussian};
 ghost use Rattle.particle_text.specs.Limits.{InRange, weight64};
 ghost use Rattle.particle_text.specs.Points.{pole, dipole};
 
-mod memory;
+mod admission;
+mod law;
+mod line;
+mod printer;
+mod reader;
 
-pub use memory::Memory;
+use admission::has_strength;
+pub use admission::{admit, in_grid};
+pub use law::{one_reading, one_text};
+pub use line::parse_point;
+pub use printer::print;
+pub use reader::{first_fault, parse};
+
+use io_ports::Memory;
 use std::alloc::Global;
 use std::marker::Model;
 use thiserror::Error;
@@ -67,6 +78,13 @@ pub enum ParseFault {
 }
 
 impl Point {
+    /// Whether the place is in the grid and each strength component is within its limit.
+    pub fn is_in_range(&self) -> bool
+        ensures { IsTrue result ↔ InRange self.now }
+    {
+        in_grid(self.x, self.y) && has_strength(&self.kind)
+    }
+
     /// The pole `a` as its two parts: `(q, 0)` for a charge `q`, `(0, -g)` for a vortex `g`, else zero.
     ///
     /// The point is in range.
@@ -157,3 +175,6 @@ pub struct Points {
     pub mode: Mode,
     pub list: PointList,
 }
+
+#[cfg(test)]
+mod tests;

@@ -13,12 +13,18 @@ ghost use Rattle.truncation.specs.Truncation.{PairTruncation, SingleTruncation};
 /// Two cells of one side `s`, their centres `e` sides apart with a part of `e` at least 2 in size: the term of one source minus its cut
 /// term of order `P >= 1` is, in each part, at most weight times `TV(P)/s` in size. It holds at all doubled offsets whose parts are at
 /// most `s`, whatever their parity.
+///
+/// Where 17/31 comes from: an offset is at most `s/sqrt 2` and the centres are at least `2 s` apart, so both ratios of the expansion are
+/// at most `sqrt 2/4 < 17/48`, and `17/48` over `1 - 17/48` is `17/31`. The remainder of the truncated kernel is at most `2 (17/31)^P`.
 pub fn pair_truncation()
     ensures bound { PairTruncation }
 {}
 
 /// A cell of side `s` and a place whose doubled offset from its centre has a part of at least `3 s`: the same with `TW(P)`, at every
 /// order from 2 on, for a far target (multipole) and for a far source (local).
+///
+/// Where 17/36 comes from: the far place is at least `3 s/2` from the centre and an offset at most `s/sqrt 2`, so the ratio of the
+/// geometric sum is at most `sqrt 2/3 < 17/36`.
 pub fn single_truncation()
     ensures bound { SingleTruncation }
 {}

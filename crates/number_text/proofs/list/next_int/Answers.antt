@@ -1,4 +1,4 @@
-use Rattle.std.proofs.Common.{◌≡◌, List, ℕ, subst, sym}
+use Rattle.std.proofs.Common.{subst}
 use Rattle.number_text.specs.Numbers.{IsInt}
 use Rattle.number_text.specs.Parts.{IsFreeOf}
 use Rattle.number_text.proofs.Cuts.{no_cut, same_cut}

@@ -1,4 +1,4 @@
-use Rattle.std.proofs.Common.{◌≡◌, ◌+◌, ◌-◌, ◌*◌, ◌<◌, length, take, get_or, min, sym, ap, ◌∙◌, arith, rules}
+use Rattle.std.proofs.Common.{◌+◌, ◌-◌, ◌*◌, ◌<◌, length, take, get_or, min, sym, ap, ◌∙◌, arith, rules}
 use Rattle.number_text.specs.Numbers.{IsDigit, value_after, nearest_uint, most_read}
 use Rattle.number_text.proofs.Digits.{value_more, nearest_more, digits_more}
 use Rattle.number_text.proofs.number.read_digits.Goals as goal

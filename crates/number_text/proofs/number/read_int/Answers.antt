@@ -1,4 +1,4 @@
-use Rattle.std.proofs.Common.{◌≡◌, ◌<◌, ◌≢◌, List, ◌∷◌, length, drop, get_or, pos, neg_ℤ, sym, ap, ◌∙◌, subst, arith, to_z, of_z, w64, ◌-ℤ◌}
+use Rattle.std.proofs.Common.{◌≡◌, ◌≢◌, ◌∷◌, drop, get_or, pos, neg_ℤ, sym, ap, ◌∙◌, subst, arith, to_z, of_z, w64, ◌-ℤ◌}
 use Rattle.std.proofs.lemmas.Int.{ints}
 use Rattle.std.proofs.lemmas.List.{take_rest, drop_more}
 use Rattle.number_text.specs.Numbers.{IsUint}

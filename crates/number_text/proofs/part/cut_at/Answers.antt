@@ -1,4 +1,4 @@
-use Rattle.std.proofs.Common.{◌≡◌, ℕ, ◌+◌, List, take, drop, sym, subst}
+use Rattle.std.proofs.Common.{◌≡◌, ◌+◌, take, sym, subst}
 use Rattle.std.specs.Prelude.{Some, position, ◌==◌}
 use Rattle.std.proofs.lemmas.List.{take_rest}
 use Rattle.number_text.specs.Parts.{IsCut}

@@ -1,16 +1,14 @@
-//! Ports over memory, with short and failing calls where a test wants them.
-ghost use Rattle.std.specs.Prelude.{◌≡◌, ◌+◌, ◌≤◌, ◌<◌, ◌↔◌, ◌⊎◌, ℕ, List, [], ◌++◌, Some, Ok, Err, length, take, drop, min, Contains, IfOk, OnErr, IsErr, IsOk, vec_len, vec_capacity};
+//! Sources in memory, with short and failing reads where a test wants them, and one that fails
+//! always.
+ghost use Rattle.std.specs.Prelude.{◌≡◌, ◌≤◌, ◌↔◌, ℕ, List, None, Some, Ok, Err, length, take, drop, min, Contains, IfOk, OnErr, IsErr, vec_len};
 ghost use Rattle.std.specs.Io.{ReadsAtMost};
-ghost use Rattle.std.specs.Io.KnownBytes.{ReadConsumes, WriteAppends};
-ghost use Rattle.io_ports.specs.Bytes.{TakesSome};
+ghost use Rattle.std.specs.Io.KnownBytes.{ReadConsumes};
 ghost use Rattle.io_ports.specs.Faults.{HasCause, next_count};
-ghost use Rattle.io_ports.specs.Memory.{Feed, given_count, after_read, after_failed_read, Store, taken_count, after_write, after_failed_write};
+ghost use Rattle.io_ports.specs.Memory.{Feed, given_count, after_read, after_failed_read};
 
-use std::alloc::Global;
+use crate::answers::Failed;
+use crate::ports::Source;
 use std::marker::Model;
-
-use crate::answers::{Failed, Memory};
-use crate::ports::{Sink, Source};
 
 // Copies the next bytes, at most that many, and says how many they are.
 fn copy_next(bytes: &[u8], into: &mut [u8], most: usize) -> usize
@@ -81,8 +79,7 @@ impl Source for MemSource {
     {
         self.reads = self.reads.saturating_add(1);
         if self.failing.contains(&self.reads) {
-            self.faults = self.faults.saturating_add(1);
-            return Err(Failed);
+            return Err(Failed::counted(&mut self.faults));
         }
         let count = copy_next(&self.bytes[self.at..], into, self.step);
         self.at += count;
@@ -135,83 +132,38 @@ impl Source for SureSource {
     }
 }
 
-/// Takes bytes in short writes while it has room, and fails at the writes that it is told to
-/// fail at. A clause sees it as a `Store`.
-#[derive(Drop)]
-pub struct MemSink {
-    bytes: Vec<u8>,
-    room: usize,
-    step: usize,
-    failing: Vec<u64>,
-    writes: u64,
+/// Fails every read. It stands for an input that can't be opened; a clause sees the count of
+/// its faults.
+#[derive(Debug, Drop)]
+pub struct BrokenSource {
     faults: u64,
 }
 
-impl Model for MemSink {
-    ghost Value = { Store };
+impl Model for BrokenSource {
+    ghost Value = { ℕ };
 
-    ghost view = { λ s. record { bytes = s.bytes.items; room = s.room; step = s.step; failing = s.failing.items; writes = s.writes; faults = s.faults } };
-
-    ghost invariant = { λ s. (vec_len s.bytes + s.room ≤ vec_capacity s.bytes) × (1 ≤ s.step) };
+    ghost view = { λ s. s.faults };
 }
 
-impl MemSink {
-    /// An empty sink for `room` bytes, whose memory is taken here. A write takes at most `step`
-    /// bytes and at most the room that is left. The k-th write, counted from 1, fails exactly
-    /// where `failing` holds k, or where no room is left and the piece isn't empty.
-    ///
-    /// # Errors
-    ///
-    /// `Memory` for want of memory.
-    pub fn with_room(alloc: Global, room: usize, step: usize, failing: Vec<u64>) -> Result<MemSink, Memory>
-        requires { 1 ≤ step }
-        ensures { IfOk result (λ sink. sink ≡ record { bytes = []; room = room; step = step; failing = failing.items; writes = 0; faults = 0 }) }
+impl BrokenSource {
+    pub fn new() -> BrokenSource
+        ensures { result ≡ 0 }
     {
-        let bytes = Vec::with_capacity(alloc, room).map_err(|_| Memory)?;
-        Ok(MemSink {
-            bytes,
-            room,
-            step,
-            failing,
-            writes: 0,
-            faults: 0,
-        })
-    }
-
-    /// The bytes taken so far.
-    pub fn held(&self) -> &[u8]
-        ensures { result.now ≡ self.now.bytes }
-    {
-        &self.bytes
+        BrokenSource { faults: 0 }
     }
 }
 
-impl Sink for MemSink {
-    ghost held = { λ store. Some store.bytes };
+impl Source for BrokenSource {
+    ghost left = { λ _. None };
 
-    ghost faults = { λ store. store.faults };
+    ghost faults = { λ count. count };
 
-    fn write(&mut self, piece: &[u8]) -> Result<usize, Failed>
-        // Which writes fail, and what each leaves.
-        ensures fails { IsErr result ↔ (Contains self.old.failing (next_count self.old.writes) ⊎ ((self.old.room ≡ 0) × (0 < length piece.now))) }
-        ensures failed { OnErr result (self.new ≡ after_failed_write self.old) }
-        ensures count { IfOk result (λ n. n ≡ taken_count self.old (length piece.now)) }
-        ensures after { IfOk result (λ n. self.new ≡ after_write self.old piece.now n) }
-
-        // The clauses of the trait.
-        ensures bound { TakesSome result piece.now }
-        ensures bytes { WriteAppends (Some self.old.bytes) (Some self.new.bytes) result piece.now }
-        ensures cause { HasCause self.old.faults self.new.faults result }
+    fn read(&mut self, into: &mut [u8]) -> Result<usize, Failed>
+        ensures fails { result ≡ Err (record {}) }
+        ensures counted { self.new ≡ next_count self.old }
+        ensures bound { ReadsAtMost result into.new }
+        ensures cause { HasCause self.old self.new result }
     {
-        self.writes = self.writes.saturating_add(1);
-        let is_full = self.room == 0 && !piece.is_empty();
-        if is_full || self.failing.contains(&self.writes) {
-            self.faults = self.faults.saturating_add(1);
-            return Err(Failed);
-        }
-        let count = self.step.min(piece.len()).min(self.room);
-        self.bytes.extend_from_slice(&piece[..count]).unwrap();
-        self.room -= count;
-        Ok(count)
+        Err(Failed::counted(&mut self.faults))
     }
 }

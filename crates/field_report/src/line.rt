@@ -1,0 +1,82 @@
+//! The lines of targets.
+ghost use Rattle.std.specs.Prelude.{◌≡◌, ◌+◌, ◌≤◌, ◌++◌, OnOk, OnErr, codes, length};
+ghost use Rattle.std.specs.Io.KnownBytes.{Appends};
+ghost use Rattle.field_report.specs.Decimals.{decimal_text};
+ghost use Rattle.field_report.specs.Report.{first_word, second_word, line_of};
+ghost use Rattle.io_ports.specs.Bytes.{AppendsPrefix};
+ghost use Rattle.io_ports.specs.Faults.{HasCause};
+
+use crate::counts::CountEnds;
+use crate::front::FrontText;
+use io_ports::{Sink, WriteFault, put};
+use particle_text::Mode;
+
+// The text of a line grows from its end to its front, in at most this many bytes.
+const LINE: usize = 256;
+
+// Appends the line of a target at (x, y) with these two pairs of counts, put at once.
+fn put_line<S: Sink>(
+    mode: Mode,
+    x: i64,
+    y: i64,
+    first: CountEnds,
+    second: CountEnds,
+    sink: &mut S,
+) -> Result<(), WriteFault>
+    ensures done { OnOk result (Appends (S.held sink.old) (S.held sink.new) (line_of mode x y first.lo first.hi second.lo second.hi)) }
+    ensures part { OnErr result (AppendsPrefix (S.held sink.old) (S.held sink.new) (line_of mode x y first.lo first.hi second.lo second.hi)) }
+    ensures cause { HasCause (S.faults sink.old) (S.faults sink.new) result }
+{
+    let line = line_text(mode, x, y, first, second);
+    put(sink, line.as_bytes())
+}
+
+// The line of a target.
+fn line_text(mode: Mode, x: i64, y: i64, first: CountEnds, second: CountEnds) -> FrontText<LINE>
+    ensures { result ≡ line_of mode x y first.lo first.hi second.lo second.hi }
+{
+    let mut line = FrontText::new();
+    line.prepend(b'\n');
+    prepend_counts(&mut line, second);
+    line.prepend_word(second_label(mode));
+    prepend_counts(&mut line, first);
+    line.prepend_word(first_label(mode));
+    line.prepend_int(y);
+    line.prepend(b' ');
+    line.prepend_int(x);
+    line.prepend_word(b"target ");
+    line
+}
+
+// Puts `L H` before the line.
+fn prepend_counts(line: &mut FrontText<LINE>, counts: CountEnds)
+    requires { 69 + length line.old ≤ LINE }
+    ensures text { line.new ≡ decimal_text counts.lo ++ codes " " ++ decimal_text counts.hi ++ line.old }
+    ensures room { length line.new ≤ 69 + length line.old }
+{
+    line.prepend_count(counts.hi);
+    line.prepend(b' ');
+    line.prepend_count(counts.lo);
+}
+
+// The words before the first pair of counts.
+fn first_label(mode: Mode) -> &'static [u8]
+    ensures word { result.now ≡ first_word mode }
+    ensures room { length result.now ≤ 4 }
+{
+    match mode {
+        Mode::Field => b" re ",
+        Mode::Velocity => b" u ",
+    }
+}
+
+// The words before the second pair of counts.
+fn second_label(mode: Mode) -> &'static [u8]
+    ensures word { result.now ≡ second_word mode }
+    ensures room { length result.now ≤ 4 }
+{
+    match mode {
+        Mode::Field => b" im ",
+        Mode::Velocity => b" v ",
+    }
+}

@@ -1,0 +1,85 @@
+-- Of what is wrong with the first line of some bytes, one kind is the first.
+use Rattle.std.proofs.Common.{◌≡◌, ◌<◌, ℕ, List, [], ◌∷◌, ◌++◌, sym, ap, ◌∙◌, subst, refl, arith}
+use Rattle.number_text.specs.Parts.{IsCut, IsFreeOf}
+use Rattle.number_text.proofs.Cuts.{Same, same_cut, no_cut}
+use Rattle.particle_text.specs.declared.Mode.{Mode}
+use Rattle.particle_text.specs.declared.Point.{Point}
+use Rattle.particle_text.specs.declared.TextKind.{TextKind}
+use Rattle.particle_text.specs.declared.TextKind.TheVariants.{Syntax, Range, Mixed, Many, Strength}
+use Rattle.particle_text.specs.Faults.{IsFirstKind, PointFault, FormFault, LineFault, rank}
+use Rattle.particle_text.specs.Limits.{InRange, CanJoin}
+use Rattle.particle_text.specs.Text.{LineSpells, BeginsWith}
+use Rattle.particle_text.proofs.OneForm.{one_form}
+
+-- the first line is that of one point
+pub record SameLine (p q : Point) (rest other : List ℕ) : Type 0 where
+  pub points : p ≡ q
+  pub rests : rest ≡ other
+
+pub one_line : (bytes : List ℕ) (p q : Point) (rest other : List ℕ) → BeginsWith bytes p rest → BeginsWith bytes q other → SameLine p q rest other
+one_line bytes p q rest other a b =
+    let same = same_cut 10 bytes _ rest _ other a.cut b.cut in
+    record { points = one_form _ p q (subst (λ line. LineSpells line p) same.fronts a.spelled) b.spelled; rests = same.backs }
+
+pub begins_with : (bytes line rest : List ℕ) (p : Point) → IsCut 10 bytes line rest → LineSpells line p → BeginsWith bytes p rest
+begins_with bytes line rest p cut spells = record { line = line; cut = cut; spelled = spells }
+
+-- bytes with no line feed begin with no line
+pub no_line : (bytes : List ℕ) (p : Point) (rest : List ℕ) → IsFreeOf 10 bytes → BeginsWith bytes p rest → ⊥
+no_line bytes p rest free begins = no_cut 10 begins.line rest (subst (IsFreeOf 10) begins.cut.whole free)
+
+pub syntax_first : (mode : Mode) (live weight : ℕ) (bytes : List ℕ) → ((p : Point) (rest : List ℕ) → BeginsWith bytes p rest → ⊥) → IsFirstKind (LineFault mode live weight bytes) Syntax
+syntax_first mode live weight bytes none = record { here = none; earlier = λ other lower fault. omega (arith, lower) }
+
+-- what is wrong with a line by itself
+pub form_fault_first : (mode : Mode) (live weight : ℕ) (bytes line rest : List ℕ) → IsCut 10 bytes line rest → (kind : TextKind) → FormFault line kind → IsFirstKind (LineFault mode live weight bytes) kind
+form_fault_first mode live weight bytes line rest cut Syntax fault = syntax_first mode live weight bytes (λ p other begins.
+    let same = same_cut 10 bytes _ other line rest begins.cut cut in
+    fault p (subst (λ t. LineSpells t p) same.fronts begins.spelled))
+form_fault_first mode live weight bytes line rest cut Range fault =
+    let begins = begins_with bytes line rest fault.0 cut fault.1 in
+    record { here = (fault.0, rest, begins, fault.2); earlier = before }
+  where
+    before : (other : TextKind) → rank other < 1 → LineFault mode live weight bytes other → ⊥
+    before Syntax lower none = none fault.0 rest (begins_with bytes line rest fault.0 cut fault.1)
+    before Range lower _ = omega (arith, lower)
+    before Mixed lower _ = omega (arith, lower)
+    before Many lower _ = omega (arith, lower)
+    before Strength lower _ = omega (arith, lower)
+form_fault_first mode live weight bytes line rest cut Mixed fault = absurd fault
+form_fault_first mode live weight bytes line rest cut Many fault = absurd fault
+form_fault_first mode live weight bytes line rest cut Strength fault = absurd fault
+
+-- what is wrong with the point of a line, as a fault of the line, and back
+to_line : (mode : Mode) (live weight : ℕ) (bytes : List ℕ) (p : Point) (rest : List ℕ) → BeginsWith bytes p rest → (kind : TextKind) → PointFault mode live weight p kind → LineFault mode live weight bytes kind
+to_line mode live weight bytes p rest begins Syntax fault = absurd fault
+to_line mode live weight bytes p rest begins Range fault = (p, rest, begins, fault)
+to_line mode live weight bytes p rest begins Mixed fault = (p, rest, begins, fault)
+to_line mode live weight bytes p rest begins Many fault = (p, rest, begins, fault)
+to_line mode live weight bytes p rest begins Strength fault = (p, rest, begins, fault)
+
+pub of_line : (mode : Mode) (live weight : ℕ) (bytes : List ℕ) (p : Point) (rest : List ℕ) → BeginsWith bytes p rest → (kind : TextKind) → LineFault mode live weight bytes kind → PointFault mode live weight p kind
+of_line mode live weight bytes p rest begins Syntax fault = absurd (fault p rest begins)
+of_line mode live weight bytes p rest begins Range fault = subst (λ q. PointFault mode live weight q Range) (one_line bytes fault.0 p fault.1 rest fault.2 begins).points fault.3
+of_line mode live weight bytes p rest begins Mixed fault = subst (λ q. PointFault mode live weight q Mixed) (one_line bytes fault.0 p fault.1 rest fault.2 begins).points fault.3
+of_line mode live weight bytes p rest begins Many fault = fault.3
+of_line mode live weight bytes p rest begins Strength fault = subst (λ q. PointFault mode live weight q Strength) (one_line bytes fault.0 p fault.1 rest fault.2 begins).points fault.3
+
+pub point_fault_first : (mode : Mode) (live weight : ℕ) (bytes : List ℕ) (p : Point) (rest : List ℕ) → BeginsWith bytes p rest → (kind : TextKind) → IsFirstKind (PointFault mode live weight p) kind
+    → IsFirstKind (LineFault mode live weight bytes) kind
+point_fault_first mode live weight bytes p rest begins kind first = record {
+  here = to_line mode live weight bytes p rest begins kind first.here;
+  earlier = λ other lower fault. first.earlier other lower (of_line mode live weight bytes p rest begins other fault);
+}
+
+-- nothing is wrong with a point in range that can join
+no_point_fault : (mode : Mode) (live weight : ℕ) (p : Point) → InRange p → CanJoin mode live weight p → (kind : TextKind) → PointFault mode live weight p kind → ⊥
+no_point_fault mode live weight p range joins Syntax fault = fault
+no_point_fault mode live weight p range joins Range fault = fault range
+no_point_fault mode live weight p range joins Mixed fault = fault joins.mode_fits
+no_point_fault mode live weight p range joins Many fault = omega (arith, fault, joins.room)
+no_point_fault mode live weight p range joins Strength fault = omega (arith, fault, joins.light)
+
+pub no_line_fault : (mode : Mode) (live weight : ℕ) (bytes : List ℕ) (p : Point) (rest : List ℕ) → BeginsWith bytes p rest → InRange p → CanJoin mode live weight p → (kind : TextKind) → LineFault mode live weight bytes kind → ⊥
+no_line_fault mode live weight bytes p rest begins range joins kind fault =
+    no_point_fault mode live weight p range joins kind (of_line mode live weight bytes p rest begins kind fault)

@@ -1,0 +1,127 @@
+-- A text spells one list, or has one first fault, and never both.
+use Rattle.std.proofs.Common.{◌≡◌, ◌≢◌, ◌+◌, ◌<◌, ◌≤◌, ◌⊎◌, ℕ, suc, List, [], ◌∷◌, ◌++◌, length, sym, ap, ◌∙◌, subst, refl, inl, inr, arith}
+use Rattle.std.specs.List.{All}
+use Rattle.std.proofs.lemmas.List.{append_assoc, append-nil, length-append}
+use Rattle.std.proofs.lemmas.List.Elements.{All-head, All-tail, recursion_from_All}
+use Rattle.std.proofs.lemmas.List.Sums.{sum_by-append, sum_by-cons}
+use Rattle.std.specs.List.{AllByRecursion}
+use Rattle.number_text.proofs.Cuts.{same_cut}
+use Rattle.particle_text.specs.declared.Mode.{Mode}
+use Rattle.particle_text.specs.declared.Point.{Point}
+use Rattle.particle_text.specs.declared.TextKind.{TextKind}
+use Rattle.particle_text.specs.declared.TextKind.TheVariants.{Syntax, Range, Mixed, Many, Strength}
+use Rattle.particle_text.specs.Faults.{FaultsAfter, FirstFault, HasNoHead, IsFirstKind, LineFault, rank}
+use Rattle.particle_text.specs.Limits.{InRange, FitsMode, WithinLimits, CanJoin, weight64, total_weight}
+use Rattle.particle_text.specs.Text.{BeginsWith, AreLines, Spells, head_line}
+use Rattle.particle_text.proofs.Heads.{head_cut, one_head}
+use Rattle.particle_text.proofs.LineFaults.{one_line, no_line_fault}
+use Rattle.particle_text.proofs.Lines.{longer}
+
+-- of two readings of one text, the second goes on where the first ends
+pub record GoesOn (rest other : List ℕ) (before after : List Point) : Type 0 where
+  pub tail : List Point
+  pub lines : List ℕ
+  pub points : after ≡ before ++ tail
+  pub bytes : rest ≡ lines ++ other
+  pub spelled : AreLines lines tail
+
+one_more : (rest other : List ℕ) (p q : Point) (before after : List Point) → p ≡ q → GoesOn rest other before after → GoesOn rest other (p ∷ before) (q ∷ after)
+one_more rest other p q before after same on = record {
+  tail = on.tail;
+  lines = on.lines;
+  points = ap (λ ps. q ∷ ps) on.points ∙ ap (λ r. r ∷ (before ++ on.tail)) (sym same);
+  bytes = on.bytes;
+  spelled = on.spelled;
+}
+
+compare : (lines more rest other : List ℕ) (before after : List Point) → AreLines lines before → AreLines more after → lines ++ rest ≡ more ++ other → GoesOn rest other before after ⊎ GoesOn other rest after before
+compare lines more rest other [] after a b e = inl (record { tail = after; lines = more; points = refl; bytes = ap (λ front. front ++ rest) (sym a) ∙ e; spelled = b })
+compare lines more rest other (p ∷ before) [] a b e = inr (record { tail = p ∷ before; lines = lines; points = refl; bytes = ap (λ front. front ++ other) (sym b) ∙ sym e; spelled = a })
+compare lines more rest other (p ∷ before) (q ∷ after) a b e =
+    let first = longer lines p a.0 rest a.1 in
+    let second = subst (λ text. BeginsWith text q (b.0 ++ other)) (sym e) (longer more q b.0 other b.1) in
+    let same = one_line (lines ++ rest) p q (a.0 ++ rest) (b.0 ++ other) first second in
+    elim (compare a.0 b.0 rest other before after a.2 b.2 same.rests) [
+        inl on ↦ inl (one_more rest other p q before after same.points on)
+      | inr on ↦ inr (one_more other rest q p after before (sym same.points) on) ]
+
+-- the mode of a text, and where its lines begin
+pub record SameStart (a b : Mode) (rest other : List ℕ) : Type 0 where
+  pub modes : a ≡ b
+  pub rests : rest ≡ other
+
+same_start : (bytes rest other : List ℕ) (a b : Mode) → bytes ≡ head_line a ++ 10 ∷ rest → bytes ≡ head_line b ++ 10 ∷ other → SameStart a b rest other
+same_start bytes rest other a b e f =
+    let same = same_cut 10 bytes _ rest _ other (head_cut bytes rest a e) (head_cut bytes other b f) in
+    record { modes = one_head a b same.fronts; rests = same.backs }
+
+-- behind a good front
+pub behind : (bytes good rest lines : List ℕ) (mode : Mode) → bytes ≡ good ++ rest → good ≡ head_line mode ++ 10 ∷ lines → bytes ≡ head_line mode ++ 10 ∷ (lines ++ rest)
+behind bytes good rest lines mode parts head = parts ∙ ap (λ front. front ++ rest) head ∙ append_assoc (head_line mode) (10 ∷ lines) rest
+
+-- two good fronts of one text
+pub record Fronts (a b : Mode) (rest other : List ℕ) (before after : List Point) : Type 0 where
+  pub modes : a ≡ b
+  pub either : GoesOn rest other before after ⊎ GoesOn other rest after before
+
+pub fronts : (bytes good rest fine other : List ℕ) (a b : Mode) (before after : List Point) → bytes ≡ good ++ rest → Spells good a before → bytes ≡ fine ++ other → Spells fine b after → Fronts a b rest other before after
+fronts bytes good rest fine other a b before after parts spells cuts reads =
+    let start = same_start bytes _ _ a b (behind bytes good rest spells.lines a parts spells.head) (behind bytes fine other reads.lines b cuts reads.head) in
+    record { modes = start.modes; either = compare spells.lines reads.lines rest other before after spells.body reads.body start.rests }
+
+-- a point that stands in a list within the limits is in range and could join those before it
+all_of_append : {X : Type 0} (P : X → Type 0) (xs ys : List X) → All P (xs ++ ys) → All P ys
+all_of_append P [] ys all = all
+all_of_append P (x ∷ xs) ys all = all_of_append P xs ys (All-tail P x (xs ++ ys) all)
+
+pub member_in_range : (mode : Mode) (before : List Point) (p : Point) (tail : List Point) → WithinLimits mode (before ++ p ∷ tail) → InRange p
+member_in_range mode before p tail limits = All-head InRange p tail (all_of_append InRange before (p ∷ tail) limits.range)
+
+pub member_joins : (mode : Mode) (before : List Point) (p : Point) (tail : List Point) → WithinLimits mode (before ++ p ∷ tail) → CanJoin mode (length before) (total_weight before) p
+member_joins mode before p tail limits = record {
+  mode_fits = All-head (λ q. FitsMode mode q.kind) p tail (all_of_append (λ q. FitsMode mode q.kind) before (p ∷ tail) limits.mode_fits);
+  room = omega (arith, limits.count, length-append before (p ∷ tail));
+  light = omega (arith, limits.weight, sum_by-append weight64 before (p ∷ tail), sum_by-cons weight64 p tail);
+}
+
+-- a line that another reading goes on with is not at fault
+pub no_fault_inside : (rest other : List ℕ) (mode : Mode) (before after : List Point) (on : GoesOn rest other before after) (p : Point) (tail : List Point) → on.tail ≡ p ∷ tail → WithinLimits mode after
+    → (kind : TextKind) → LineFault mode (length before) (total_weight before) rest kind → ⊥
+no_fault_inside rest other mode before after on p tail shape limits kind fault =
+    let points = on.points ∙ ap (λ ps. before ++ ps) shape in
+    let within = subst (WithinLimits mode) points limits in
+    let lines = subst (AreLines on.lines) shape on.spelled in
+    let begins = subst (λ text. BeginsWith text p (lines.0 ++ other)) (sym on.bytes) (longer on.lines p lines.0 other lines.1) in
+    no_line_fault mode (length before) (total_weight before) rest p (lines.0 ++ other) begins (member_in_range mode before p tail within) (member_joins mode before p tail within) kind fault
+
+-- no line begins with nothing
+nothing_begins : (p : Point) (rest : List ℕ) → BeginsWith [] p rest → ⊥
+nothing_begins p rest begins = let n : 0 ≡ length (begins.line ++ 10 ∷ rest) = ap length begins.cut.whole in omega (arith, n, length-append begins.line (10 ∷ rest))
+
+front_nil : (xs ys : List ℕ) → [] ≡ xs ++ ys → xs ≡ []
+front_nil [] ys e = refl
+front_nil (x ∷ xs) ys e = absurd (cc)
+
+back_nil : (xs ys : List ℕ) → [] ≡ xs ++ ys → ys ≡ []
+back_nil [] ys e = sym e
+back_nil (x ∷ xs) ys e = absurd (cc)
+
+-- where nothing is left, a reading that goes on goes on with nothing
+ends : (other : List ℕ) (before after : List Point) → GoesOn [] other before after → after ≡ before
+ends other before after on = go on.tail refl
+  where
+    go : (tail : List Point) → on.tail ≡ tail → after ≡ before
+    go [] shape = on.points ∙ ap (λ ps. before ++ ps) shape ∙ append-nil before
+    go (p ∷ tail) shape =
+      let lines = subst (AreLines on.lines) shape on.spelled in
+      absurd (nothing_begins p lines.0 (subst (λ text. BeginsWith text p lines.0) (front_nil on.lines other on.bytes) lines.1))
+
+pub record OneList (a b : Mode) (before after : List Point) : Type 0 where
+  pub modes : a ≡ b
+  pub points : before ≡ after
+
+pub one_list : (bytes : List ℕ) (a b : Mode) (before after : List Point) → Spells bytes a before → Spells bytes b after → OneList a b before after
+one_list bytes a b before after spells reads =
+    let two = fronts bytes bytes [] bytes [] a b before after (sym (append-nil bytes)) spells (sym (append-nil bytes)) reads in
+    let points : before ≡ after = elim two.either [ inl on ↦ sym (ends [] before after on) | inr on ↦ ends [] after before on ] in
+    record { modes = two.modes; points = points }

@@ -1,0 +1,11 @@
+use Rattle.std.proofs.Common.{◌≡◌, sym, ap, ◌∙◌, subst}
+use Rattle.particle_text.specs.Text.{Spells, text_of}
+use Rattle.particle_text.proofs.Printing.{text_spelled}
+use Rattle.particle_text.proofs.printer.print.Goals as goal
+
+pub returns-in-Ok-clause-spells : goal.returns-in-Ok-clause-spells
+returns-in-Ok-clause-spells c =
+    let mode = c.args.points.now.mode in
+    let points = c.args.points.now.list in
+    let text : c.into_bytes.result.items ≡ text_of mode points = ap (λ v. v.items) c.into_bytes.ensures.value ∙ c.in-Ok.ensures ∙ ap (text_of mode) c.points.ensures in
+    subst (λ bytes. Spells bytes mode points) (sym text) (text_spelled mode points c.requires)

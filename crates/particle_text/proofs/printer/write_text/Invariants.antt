@@ -1,0 +1,6 @@
+use Rattle.std.proofs.Common.{◌≡◌, take, string_bytes}
+use Rattle.particle_text.specs.Text.{text_of}
+use Rattle.particle_text.proofs.printer.write_text.Given as goal
+
+abbrev pub invariant-loop-p : goal.invariant-loop-p
+invariant-loop-p l = string_bytes l.text ≡ text_of l.fn.mode (take l.p-index l.points)

@@ -1,0 +1,81 @@
+-- The text of a list of particles: a head line, and a line for each particle. Each line ends with a line feed.
+use Rattle.std.specs.Prelude.{◌≡◌, ℕ, ℤ, List, [], ◌∷◌, ◌++◌, codes}
+use Rattle.std.specs.Fmt.{signed_decimal}
+use Rattle.std.specs.List.{flat_map}
+use Rattle.number_text.specs.Numbers.{AreInts}
+use Rattle.number_text.specs.Parts.{IsCut}
+use Rattle.particle_text.specs.declared.Kind.{Kind}
+use Rattle.particle_text.specs.declared.Kind.TheVariants.{Charge, Dipole, Vortex, Target}
+use Rattle.particle_text.specs.declared.Mode.{Mode}
+use Rattle.particle_text.specs.declared.Mode.TheVariants.{Field, Velocity}
+use Rattle.particle_text.specs.declared.Point.{Point}
+use Rattle.particle_text.specs.Limits.{WithinLimits}
+
+-- ends a line
+abbrev pub line_feed : ℕ
+line_feed = 10
+
+-- stands between two words
+abbrev pub space : ℕ
+space = 32
+
+-- line 1
+abbrev pub head_line : Mode → List ℕ
+head_line Field = codes "fmm 1 field"
+head_line Velocity = codes "fmm 1 velocity"
+
+-- the first word of a particle's line
+abbrev pub name_of : Kind → List ℕ
+name_of (Charge q) = codes "charge"
+name_of (Dipole re im) = codes "dipole"
+name_of (Vortex g) = codes "vortex"
+name_of Target = codes "target"
+
+-- the numbers of its strength
+abbrev pub strength_of : Kind → List ℤ
+strength_of (Charge q) = q ∷ []
+strength_of (Dipole re im) = re ∷ im ∷ []
+strength_of (Vortex g) = g ∷ []
+strength_of Target = []
+
+-- the numbers behind the first word: the place and the strength
+abbrev pub numbers_of : Point → List ℤ
+numbers_of p = p.x ∷ p.y ∷ strength_of p.kind
+
+-- The line, without its line feed, is that of the point p: the name, a space, and the numbers. They may have any number of digits.
+pub record LineSpells (line : List ℕ) (p : Point) : Type 0 where
+  pub numbers : List ℕ
+  pub cut : IsCut space line (name_of p.kind) numbers
+  pub spelled : AreInts numbers (numbers_of p)
+
+-- the bytes begin with the line of p and its line feed, and the rest follows
+pub record BeginsWith (bytes : List ℕ) (p : Point) (rest : List ℕ) : Type 0 where
+  pub line : List ℕ
+  pub cut : IsCut line_feed bytes line rest
+  pub spelled : LineSpells line p
+
+-- the bytes are the lines of the points, in order
+abbrev pub AreLines : List ℕ → List Point → Type 0
+AreLines bytes [] = bytes ≡ []
+AreLines bytes (p ∷ points) = (rest : List ℕ) × BeginsWith bytes p rest × AreLines rest points
+
+-- the bytes are a text of this mode and these points, which are within the limits
+pub record Spells (bytes : List ℕ) (mode : Mode) (points : List Point) : Type 0 where
+  pub limits : WithinLimits mode points
+  pub lines : List ℕ
+  pub head : bytes ≡ head_line mode ++ line_feed ∷ lines
+  pub body : AreLines lines points
+
+-- Each list within the limits has one text. Here it is, as a function of the list.
+
+-- the numbers, each behind a space, and the line feed
+abbrev pub numbers_text : List ℤ → List ℕ
+numbers_text [] = line_feed ∷ []
+numbers_text (z ∷ zs) = space ∷ (signed_decimal z ++ numbers_text zs)
+
+-- the line of p, with its line feed
+abbrev pub line_text : Point → List ℕ
+line_text p = name_of p.kind ++ numbers_text (numbers_of p)
+
+abbrev pub text_of : Mode → List Point → List ℕ
+text_of mode points = head_line mode ++ line_feed ∷ [] ++ flat_map line_text points

@@ -1,0 +1,81 @@
+//! Reading the line of a point.
+ghost use Rattle.std.specs.Prelude.{◌≡◌, ℕ, IfOk, IfErr, Ok, Err, IfSome, IfNone};
+ghost use Rattle.particle_text.specs.declared.Point.{Point};
+ghost use Rattle.particle_text.specs.declared.TextKind.{TextKind};
+ghost use Rattle.particle_text.specs.declared.line.Form.{Form};
+ghost use Rattle.particle_text.specs.Faults.{FormFault};
+ghost use Rattle.particle_text.specs.Forms.{word_of};
+ghost use Rattle.particle_text.specs.Limits.{InRange};
+ghost use Rattle.particle_text.specs.Nearest.{nearest_point};
+ghost use Rattle.particle_text.specs.Text.{LineSpells};
+
+use crate::{Kind, Point, TextKind};
+use number_text::{cut_at, read_four, read_three, read_two};
+
+/// The form of a point's line.
+#[derive(Clone, Copy)]
+enum Form {
+    Charge,
+    Dipole,
+    Vortex,
+    Target,
+}
+
+/// The form whose lines begin with this word.
+fn form_of(name: &[u8]) -> Option<Form>
+    ensures some { IfSome result (λ form. name.now ≡ word_of form) }
+    ensures none { IfNone result ((form : Form) → name.now ≡ word_of form → ⊥) }
+{
+    match name {
+        b"charge" => Some(Form::Charge),
+        b"dipole" => Some(Form::Dipole),
+        b"vortex" => Some(Form::Vortex),
+        b"target" => Some(Form::Target),
+        _ => None,
+    }
+}
+
+/// The point whose line this is, with each number that is greater than 10^18 in size cut to that size.
+fn read_form(line: &[u8]) -> Option<Point>
+    ensures some { IfSome result (λ p. (q : Point) × LineSpells line.now q × (p ≡ nearest_point q)) }
+    ensures none { IfNone result ((q : Point) → LineSpells line.now q → ⊥) }
+{
+    let (name, numbers) = cut_at(b' ', line)?;
+    match form_of(name)? {
+        Form::Charge => {
+            let (x, y, q) = read_three(numbers)?;
+            let kind = Kind::Charge(q);
+            Some(Point { x, y, kind })
+        }
+        Form::Dipole => {
+            let (x, y, re, im) = read_four(numbers)?;
+            let kind = Kind::Dipole(re, im);
+            Some(Point { x, y, kind })
+        }
+        Form::Vortex => {
+            let (x, y, g) = read_three(numbers)?;
+            let kind = Kind::Vortex(g);
+            Some(Point { x, y, kind })
+        }
+        Form::Target => {
+            let (x, y) = read_two(numbers)?;
+            let kind = Kind::Target;
+            Some(Point { x, y, kind })
+        }
+    }
+}
+
+/// The point whose line this is, without its line feed. `Syntax` where it is the line of no point, `Range`
+/// where it is that of a point out of range.
+pub fn parse_point(line: &[u8]) -> Result<Point, TextKind>
+    ensures ok { IfOk result (λ p. LineSpells line.now p × InRange p) }
+    ensures fault { IfErr result (FormFault line.now) }
+    ensures accepts { (p : Point) → LineSpells line.now p → InRange p → result ≡ Ok p }
+    ensures refuses { (kind : TextKind) → FormFault line.now kind → result ≡ Err kind }
+{
+    match read_form(line) {
+        None => Err(TextKind::Syntax),
+        Some(point) if !point.is_in_range() => Err(TextKind::Range),
+        Some(point) => Ok(point),
+    }
+}

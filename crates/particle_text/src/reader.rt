@@ -1,0 +1,123 @@
+//! Reading a text.
+ghost use Rattle.std.specs.Prelude.{◌≡◌, ◌++◌, ◌∷◌, ℕ, ◌≤◌, IfOk, IfErr, IfSome, IfNone, MatchResult, List};
+ghost use Rattle.particle_text.specs.declared.Mode.{Mode};
+ghost use Rattle.particle_text.specs.declared.ParseFault.{ParseFault};
+ghost use Rattle.particle_text.specs.declared.Point.{Point};
+ghost use Rattle.particle_text.specs.declared.TextKind.{TextKind};
+ghost use Rattle.particle_text.specs.Answers.{GivesPoints, GivesFault};
+ghost use Rattle.particle_text.specs.Faults.{IsFirstKind, IsFaultOf, LineFault, FirstFault, HasNoHead};
+ghost use Rattle.particle_text.specs.Limits.{CanJoin, InRange, most_weight};
+ghost use Rattle.particle_text.specs.Text.{BeginsWith, Spells, head_line, line_feed};
+
+use crate::admission::admit;
+use crate::line::parse_point;
+use crate::{Mode, ParseFault, Point, PointList, Points, TextKind};
+use number_text::cut_at;
+use std::alloc::Global;
+
+/// The mode whose head line this is, without its line feed.
+fn mode_of(line: &[u8]) -> Option<Mode>
+    ensures some { IfSome result (λ mode. line.now ≡ head_line mode) }
+    ensures none { IfNone result ((mode : Mode) → line.now ≡ head_line mode → ⊥) }
+{
+    if line == b"fmm 1 field".as_slice() {
+        Some(Mode::Field)
+    } else if line == b"fmm 1 velocity".as_slice() {
+        Some(Mode::Velocity)
+    } else {
+        None
+    }
+}
+
+/// The mode of the head line, and what stands behind the line.
+fn read_head(bytes: &[u8]) -> Option<(Mode, &[u8])>
+    ensures some { IfSome result (λ found. bytes.now ≡ head_line found.0 ++ line_feed ∷ found.1.now) }
+    ensures none { IfNone result (HasNoHead bytes.now) }
+{
+    let (line, rest) = cut_at(b'\n', bytes)?;
+    Some((mode_of(line)?, rest))
+}
+
+/// The point of the first line, and what stands behind the line; or what is wrong with that line.
+fn next_point(mode: Mode, live: u64, weight: u64, bytes: &[u8]) -> Result<(Point, &[u8]), TextKind>
+    requires { weight ≤ most_weight }
+    ensures line { IfOk result (λ found. BeginsWith bytes.now found.0 found.1.now × InRange found.0) }
+    ensures joins { IfOk result (λ found. CanJoin mode live weight found.0) }
+    ensures fault { IfErr result (IsFirstKind (LineFault mode live weight bytes.now)) }
+{
+    let Some((line, rest)) = cut_at(b'\n', bytes) else {
+        return Err(TextKind::Syntax);
+    };
+    let point = parse_point(line)?;
+    match admit(mode, live, weight, &point) {
+        Some(kind) => Err(kind),
+        None => Ok((point, rest)),
+    }
+}
+
+/// The points that a text spells.
+///
+/// A text has the head line `fmm 1 field` or `fmm 1 velocity`, and then a line `charge X Y Q`, `dipole X Y BX BY`,
+/// `vortex X Y G` or `target X Y` for each point. Each line ends with a line feed, and one space stands between
+/// two words. The list has to be within the limits.
+///
+/// `Text` names the first line at fault, counted from 1, and the first kind that holds for it. `Memory` is want of
+/// memory.
+pub fn parse(alloc: Global, bytes: &[u8]) -> Result<Points, ParseFault>
+    ensures ok { IfOk result (λ points. Spells bytes.now points.mode points.list) }
+    ensures fault { IfErr result (IsFaultOf bytes.now) }
+    ensures accepts { (mode : Mode) (points : List Point) → Spells bytes.now mode points → GivesPoints result mode points }
+    ensures refuses { (line : ℕ) (kind : TextKind) → FirstFault bytes.now line kind → GivesFault result line kind }
+{
+    let Some((mode, mut rest)) = read_head(bytes) else {
+        return Err(ParseFault::Text {
+            line: 1,
+            what: TextKind::Syntax,
+        });
+    };
+    let mut list = PointList::new(alloc);
+    let mut weight = 0;
+    while !rest.is_empty() {
+        let live = list.points().len() as u64;
+        let (point, more) = match next_point(mode, live, weight, rest) {
+            Ok(found) => found,
+            Err(what) => {
+                return Err(ParseFault::Text {
+                    line: live + 2,
+                    what,
+                });
+            }
+        };
+        if list.push(point).is_err() {
+            return Err(ParseFault::Memory);
+        }
+        weight += point.weight64();
+        rest = more;
+    }
+    Ok(Points { mode, list })
+}
+
+/// The first line at fault, counted from 1, and what is wrong with it; `None` where the bytes are a text.
+///
+/// So bytes are either a text or have a first fault. It takes no memory.
+pub fn first_fault(bytes: &[u8]) -> Option<(u64, TextKind)>
+    ensures some { IfSome result (λ found. FirstFault bytes.now found.0 found.1) }
+    ensures none { IfNone result ((mode : Mode) × (points : List Point) × Spells bytes.now mode points) }
+{
+    let Some((mode, mut rest)) = read_head(bytes) else {
+        return Some((1, TextKind::Syntax));
+    };
+    let mut live = 0;
+    let mut weight = 0;
+    while !rest.is_empty() {
+        match next_point(mode, live, weight, rest) {
+            Ok((point, more)) => {
+                live += 1;
+                weight += point.weight64();
+                rest = more;
+            }
+            Err(what) => return Some((live + 2, what)),
+        }
+    }
+    None
+}
