@@ -23,7 +23,8 @@ loop-i-preserved g c =
     let P = g.row.P in
     let at_i : length c.loop-i.ways.items ≡ c.loop-i.i = sym c.loop-i.ways.ok.0 ∙ c.loop-i.invariant.0 in
     let s = small P c.loop-i.i c.requires c.loop-i-test.true in
-    let cast : wide (pos c.binomial.result) ≡ pos c.binomial.result = wide-is _ (omega (arith, ints)) (omega (arith, ints, s, c.binomial.ensures)) in
-    (omega (arith, c.loop-i.invariant.0, c.in_ok-push.ensures.len),
-    subst (AreWays P) (sym c.in_ok-push.ensures.items) (each_pushed (λ i w. w ≡ pos (choose (i % P + i / P) (i % P))) c.loop-i.ways.items (wide (pos c.binomial.result)) c.loop-i.invariant.1
-    (cast ∙ ap pos c.binomial.ensures ∙ ap (λ i. pos (choose (i % P + i / P) (i % P))) (sym at_i))))
+    let cast : wide (pos c.binomial.result) ≡ pos c.binomial.result = wide-is _ (omega (arith, ints)) (omega (arith, ints, s, c.binomial.ensures)) in (
+      omega (arith, c.loop-i.invariant.0, c.in_ok-push.ensures.len),
+      subst (AreWays P) (sym c.in_ok-push.ensures.items) (each_pushed (λ i w. w ≡ pos (choose (i % P + i / P) (i % P))) c.loop-i.ways.items (wide (pos c.binomial.result)) c.loop-i.invariant.1
+          (cast ∙ ap pos c.binomial.ensures ∙ ap (λ i. pos (choose (i % P + i / P) (i % P))) (sym at_i))),
+    )

@@ -65,8 +65,9 @@ loop-i-preserved g c =
     let P = g.row.P in
     let i = c.loop-i.i in
     let m = made g (goal.at.loop-i-preserved g c).After-index in
-    let len : length c.loop-i.entries.items ≡ c.args.index * (P * P) + i = sym c.loop-i.entries.ok.0 ∙ c.loop-i.invariant.0 in
-    (omega (arith, c.loop-i.invariant.0, c.in_ok-push.ensures.len),
-    subst (IsKernelTable P) (sym c.in_ok-push.ensures.items)
-    (each_pushed (λ j b. box_ends b ≡ kernel_entry (distance_at (j / P / P)) (j % P) (j / P % P)) c.loop-i.entries.items c.entry_of.result c.loop-i.invariant.1
-    (next_entry P c.args.index i _ c.requires.order c.loop-i-test.true len (c.entry_of.ensures ∙ entry-from (distance_at c.args.index) (i % P) (i / P) _ _ m.power m.ways))))
+    let len : length c.loop-i.entries.items ≡ c.args.index * (P * P) + i = sym c.loop-i.entries.ok.0 ∙ c.loop-i.invariant.0 in (
+      omega (arith, c.loop-i.invariant.0, c.in_ok-push.ensures.len),
+      subst (IsKernelTable P) (sym c.in_ok-push.ensures.items)
+          (each_pushed (λ j b. box_ends b ≡ kernel_entry (distance_at (j / P / P)) (j % P) (j / P % P)) c.loop-i.entries.items c.entry_of.result c.loop-i.invariant.1
+          (next_entry P c.args.index i _ c.requires.order c.loop-i-test.true len (c.entry_of.ensures ∙ entry-from (distance_at c.args.index) (i % P) (i / P) _ _ m.power m.ways))),
+    )
