@@ -4,5 +4,7 @@ mod Contained
 mod Widths
 mod Sizes
 mod Norms
+mod Places
+mod Lookups
 mod Pushed
 mod Signs

@@ -87,7 +87,7 @@ within-near : {u lo hi : ℤ} {x : Ratio} (n w : ℕ) → Contains u lo hi x →
 within-near {u} {lo} {hi} {x} n w h narrow small =
     let up : lo ≤ℤ pos n = Z.*-cancel_≤ x.denominator lo (pos n) h.fraction (subst₂ ◌≤ℤ◌ (Z.*-comm lo x.denominator) (Z.*-comm (pos n) x.denominator) (Z.≤-trans h.above small.1)) in
     let down : neg_ℤ (pos n) ≤ℤ hi = Z.*-cancel_≤ x.denominator (neg_ℤ (pos n)) hi h.fraction
-        (subst₂ ◌≤ℤ◌ (sym (times_neg x.denominator (pos n) ∙ ap neg_ℤ (Z.*-comm x.denominator (pos n)))) (Z.*-comm hi x.denominator) (Z.≤-trans small.0 h.below)) in
+    (subst₂ ◌≤ℤ◌ (sym (times_neg x.denominator (pos n) ∙ ap neg_ℤ (Z.*-comm x.denominator (pos n)))) (Z.*-comm hi x.denominator) (Z.≤-trans small.0 h.below)) in
     let o = narrow.ordered in
     let a = narrow.width in
     record {

@@ -7,13 +7,12 @@ ghost use Rattle.kernel_table.specs.Kernel.{IsKernelDistance, kernel_entry, kern
 ghost use Rattle.kernel_table.specs.Narrow.{BoxEndsNarrow};
 ghost use Rattle.kernel_table.specs.Table.{AreWays, IsKernelTable, IsKernelColumn};
 
-use complex_box::{CBox, Gauss};
-use io_ports::Memory;
-use std::alloc::{AllocError, Global};
-
 use crate::binomials::binomial;
 use crate::distances::{DISTANCES, distance, distance_index};
 use crate::powers::{entry_of, first_powers};
+use complex_box::{CBox, Gauss};
+use io_ports::Memory;
+use std::alloc::{AllocError, Global};
 
 /// The kernel at all 40 distances, for the order `P`. It is made once for a solve.
 ///
@@ -78,7 +77,12 @@ fn all_ways<const P: usize>(alloc: Global) -> Result<Vec<i128>, AllocError>
 }
 
 /// Appends the entries of one distance to those of the distances before it.
-fn push_distance<const P: usize>(alloc: Global, entries: &mut Vec<CBox>, ways: &[i128], index: usize) -> Result<(), AllocError>
+fn push_distance<const P: usize>(
+    alloc: Global,
+    entries: &mut Vec<CBox>,
+    ways: &[i128],
+    index: usize,
+) -> Result<(), AllocError>
     requires order { IsOrder P }
     requires index { index < 40 }
     requires counts { length ways.now ≡ P * P }
