@@ -56,6 +56,10 @@ work_line translations pairs = codes "work translations " ++ decimal translation
 abbrev pub end_line : List ℕ
 end_line = codes "end" ++ line_feed
 
+-- the last two lines
+abbrev pub last_lines : ℕ → ℕ → List ℕ
+last_lines translations pairs = work_line translations pairs ++ end_line
+
 -- the report: its head, a line for each target in the order of the list, the counts of work, and `end`
 abbrev pub report_text : Mode → ℕ → ℕ → List TargetLine → ℕ → ℕ → List ℕ
 report_text mode order cap lines translations pairs =

@@ -12,7 +12,7 @@ const PLACES: u32 = 12;
 
 /// A text that grows at its front, in a buffer of `N` bytes. A clause sees the text.
 #[derive(Drop)]
-pub(crate) struct FrontText<const N: usize> {
+pub struct FrontText<const N: usize> {
     buffer: [u8; N],
     start: usize,
 }
@@ -27,7 +27,7 @@ impl<const N: usize> Model for FrontText<N> {
 
 impl<const N: usize> FrontText<N> {
     /// The empty text.
-    pub(crate) fn new() -> FrontText<N>
+    pub fn new() -> FrontText<N>
         ensures { result ≡ [] }
     {
         FrontText {
@@ -36,7 +36,8 @@ impl<const N: usize> FrontText<N> {
         }
     }
 
-    pub(crate) fn as_bytes(&self) -> &[u8]
+    /// The text.
+    pub fn as_bytes(&self) -> &[u8]
         ensures { result.now ≡ self.now }
     {
         let buffer = &self.buffer[..];
@@ -44,7 +45,7 @@ impl<const N: usize> FrontText<N> {
     }
 
     /// Puts a byte before the text.
-    pub(crate) fn prepend(&mut self, byte: u8)
+    pub fn prepend(&mut self, byte: u8)
         requires { length self.old < N }
         ensures { self.new ≡ byte ∷ self.old }
     {
@@ -53,7 +54,7 @@ impl<const N: usize> FrontText<N> {
     }
 
     /// Puts a word before the text.
-    pub(crate) fn prepend_word(&mut self, word: &[u8])
+    pub fn prepend_word(&mut self, word: &[u8])
         requires { length word.now + length self.old ≤ N }
         ensures { self.new ≡ word.now ++ self.old }
     {
@@ -64,7 +65,7 @@ impl<const N: usize> FrontText<N> {
     }
 
     /// Puts a whole number before the text.
-    pub(crate) fn prepend_decimal(&mut self, n: u64)
+    pub fn prepend_decimal(&mut self, n: u64)
         requires { 20 + length self.old ≤ N }
         ensures text { self.new ≡ decimal n ++ self.old }
         ensures room { length self.new ≤ 20 + length self.old }
@@ -78,7 +79,7 @@ impl<const N: usize> FrontText<N> {
     }
 
     /// Puts a whole number before the text, `-` first where it is below 0.
-    pub(crate) fn prepend_int(&mut self, z: i64)
+    pub fn prepend_int(&mut self, z: i64)
         requires { 21 + length self.old ≤ N }
         ensures text { self.new ≡ signed_decimal z ++ self.old }
         ensures room { length self.new ≤ 21 + length self.old }
@@ -90,7 +91,7 @@ impl<const N: usize> FrontText<N> {
     }
 
     /// Puts the last 12 digits of a number before the text.
-    pub(crate) fn prepend_places(&mut self, n: u64)
+    pub fn prepend_places(&mut self, n: u64)
         requires { 12 + length self.old ≤ N }
         ensures text { self.new ≡ digits_in 12 n ++ self.old }
         ensures room { length self.new ≡ 12 + length self.old }
@@ -103,7 +104,7 @@ impl<const N: usize> FrontText<N> {
     }
 
     /// Puts the decimal of a count of 10^-12 before the text.
-    pub(crate) fn prepend_count(&mut self, count: i128)
+    pub fn prepend_count(&mut self, count: i128)
         requires size { Within (2 ^ 84) count }
         requires room { 34 + length self.old ≤ N }
         ensures text { self.new ≡ decimal_text count ++ self.old }

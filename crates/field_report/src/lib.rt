@@ -3,11 +3,14 @@
 
 mod counts;
 mod decimal;
+mod ends;
 mod front;
 mod line;
 
 pub use counts::to_count;
 pub use decimal::Decimal;
+pub use ends::{write_end, write_head};
+pub use front::FrontText;
 pub use line::write_target;
 
 #[cfg(test)]

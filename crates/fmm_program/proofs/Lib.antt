@@ -2,3 +2,4 @@ pub mod Examples
 pub mod LeafContains
 pub mod Commands
 pub mod LeafSums
+pub mod Pieces

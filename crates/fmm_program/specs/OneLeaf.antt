@@ -1,5 +1,5 @@
 -- The field of a list that makes one leaf: each target's box is the sum of its pairs.
-use Rattle.std.specs.Prelude.{ℕ, not, List, filter, fold, map, length, sum_by}
+use Rattle.std.specs.Prelude.{ℕ, not, List, filter, fold, map, length, sum_by, flat_map}
 use Rattle.exact_math.specs.Ends.{BoxEnds, add_box, zero_box}
 use Rattle.exact_math.specs.Gaussian.{Gaussian}
 use Rattle.near_field.specs.DirectSum.{is_source, acting_on}
@@ -8,7 +8,7 @@ use Rattle.particle_text.specs.Points.{place}
 use Rattle.particle_text.specs.declared.Mode.{Mode}
 use Rattle.particle_text.specs.declared.Point.{Point}
 use Rattle.field_report.specs.Counts.{target_counts}
-use Rattle.field_report.specs.Report.{TargetLine, report_text}
+use Rattle.field_report.specs.Report.{TargetLine, report_text, target_line}
 
 -- the targets, in the order of the list
 abbrev pub targets_of : List Point → List Point
@@ -18,14 +18,18 @@ targets_of points = filter (λ p. not (is_source p.kind)) points
 abbrev pub leaf_box : Gaussian → List Point → BoxEnds
 leaf_box t points = fold (λ sum p. add_box sum (pair_box t p)) zero_box (acting_on t points)
 
--- the pairs of a source and a target at different places
-abbrev pub pairs_of : List Point → ℕ
-pairs_of points = sum_by (λ t. length (acting_on (place t) points)) (targets_of points)
+-- the pairs of these targets and the sources at other places
+abbrev pub pairs_at : List Point → List Point → ℕ
+pairs_at points some = sum_by (λ t. length (acting_on (place t) points)) (targets_of some)
 
 -- the line of one target
 abbrev pub leaf_line : Mode → List Point → Point → TargetLine
 leaf_line mode points t = record { x = t.x; y = t.y; counts = target_counts mode (leaf_box (place t) points) }
 
+-- the lines of these targets
+abbrev pub target_text : Mode → List Point → List Point → List ℕ
+target_text mode points some = flat_map (target_line mode) (map (leaf_line mode points) (targets_of some))
+
 -- the report of a list that makes one leaf: nothing is translated
 abbrev pub leaf_report : Mode → List Point → ℕ → ℕ → List ℕ
-leaf_report mode points order cap = report_text mode order cap (map (leaf_line mode points) (targets_of points)) 0 (pairs_of points)
+leaf_report mode points order cap = report_text mode order cap (map (leaf_line mode points) (targets_of points)) 0 (pairs_at points points)

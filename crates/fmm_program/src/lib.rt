@@ -2,6 +2,7 @@
 #![tactic(auto)]
 
 mod leaf;
+mod report;
 mod status;
 mod words;
 

@@ -1,0 +1,80 @@
+//! The first line of a report, and its last two.
+ghost use Rattle.std.specs.Prelude.{◌≡◌, ◌+◌, ◌≤◌, OnOk, OnErr, length};
+ghost use Rattle.std.specs.Io.KnownBytes.{Appends};
+ghost use Rattle.field_report.specs.Report.{head_line, last_lines, mode_word};
+ghost use Rattle.io_ports.specs.Bytes.{AppendsPrefix};
+ghost use Rattle.io_ports.specs.Faults.{HasCause};
+
+use crate::front::FrontText;
+use io_ports::{Sink, WriteFault, put};
+use particle_text::Mode;
+
+// A first or last line grows from its end to its front, in at most this many bytes.
+const LINE: usize = 128;
+
+/// Appends the first line of a report, `fmm report 1 MODE order P cap CAP`.
+///
+/// # Errors
+///
+/// `WriteFault` where a write failed. What was appended then is a prefix of the line.
+pub fn write_head<S: Sink>(mode: Mode, order: u32, cap: u32, sink: &mut S) -> Result<(), WriteFault>
+    ensures done { OnOk result (Appends (S.held sink.old) (S.held sink.new) (head_line mode order cap)) }
+    ensures part { OnErr result (AppendsPrefix (S.held sink.old) (S.held sink.new) (head_line mode order cap)) }
+    ensures cause { HasCause (S.faults sink.old) (S.faults sink.new) result }
+{
+    let line = head_text(mode, order, cap);
+    put(sink, line.as_bytes())
+}
+
+/// Appends the last two lines of a report, `work translations A pairs B` and `end`.
+///
+/// # Errors
+///
+/// `WriteFault` where a write failed. What was appended then is a prefix of the lines.
+pub fn write_end<S: Sink>(translations: u64, pairs: u64, sink: &mut S) -> Result<(), WriteFault>
+    ensures done { OnOk result (Appends (S.held sink.old) (S.held sink.new) (last_lines translations pairs)) }
+    ensures part { OnErr result (AppendsPrefix (S.held sink.old) (S.held sink.new) (last_lines translations pairs)) }
+    ensures cause { HasCause (S.faults sink.old) (S.faults sink.new) result }
+{
+    let lines = end_text(translations, pairs);
+    put(sink, lines.as_bytes())
+}
+
+// The word of a mode.
+fn mode_label(mode: Mode) -> &'static [u8]
+    ensures word { result.now ≡ mode_word mode }
+    ensures room { length result.now ≤ 8 }
+{
+    match mode {
+        Mode::Field => b"field",
+        Mode::Velocity => b"velocity",
+    }
+}
+
+// The first line.
+fn head_text(mode: Mode, order: u32, cap: u32) -> FrontText<LINE>
+    ensures { result ≡ head_line mode order cap }
+{
+    let mut line = FrontText::new();
+    line.prepend(b'\n');
+    line.prepend_decimal(u64::from(cap));
+    line.prepend_word(b" cap ");
+    line.prepend_decimal(u64::from(order));
+    line.prepend_word(b" order ");
+    line.prepend_word(mode_label(mode));
+    line.prepend_word(b"fmm report 1 ");
+    line
+}
+
+// The last two lines.
+fn end_text(translations: u64, pairs: u64) -> FrontText<LINE>
+    ensures { result ≡ last_lines translations pairs }
+{
+    let mut lines = FrontText::new();
+    lines.prepend_word(b"\nend\n");
+    lines.prepend_decimal(pairs);
+    lines.prepend_word(b" pairs ");
+    lines.prepend_decimal(translations);
+    lines.prepend_word(b"work translations ");
+    lines
+}
