@@ -13,7 +13,7 @@ pub trait Source {
     /// The bytes still to come, told by some implementations.
     ghost left: { Self → Option (List ℕ) };
 
-    /// The count of failed reads, which never falls.
+    /// The count of failed reads. It never falls, and stops at its last value, 2^64 - 1.
     ghost faults: { Self → ℕ };
 
     /// `Ok(n)`: the first `n` bytes of `into` are the next bytes. `Ok(0)` for an `into` that
@@ -34,7 +34,7 @@ pub trait Sink {
     /// The bytes taken so far, told by some implementations.
     ghost held: { Self → Option (List ℕ) };
 
-    /// The count of failed writes, which never falls.
+    /// The count of failed writes. It never falls, and stops at its last value, 2^64 - 1.
     ghost faults: { Self → ℕ };
 
     /// `Ok(n)`: the first `n` bytes of `piece` were taken, at least one of a piece that isn't
