@@ -3,3 +3,4 @@ pub mod LeafContains
 pub mod Commands
 pub mod LeafSums
 pub mod Pieces
+pub mod LeafReports

@@ -39,3 +39,49 @@ fn write_point<O: Sink>(
     let v = target_box(points, p, work);
     write_target(mode, p.x, p.y, v, out)
 }
+
+/// Appends the lines of all targets, in the order of the list.
+fn write_targets<O: Sink>(
+    mode: Mode,
+    points: &[Point],
+    work: &mut Work,
+    out: &mut O,
+) -> Result<(), WriteFault>
+    requires range { All InRange points.now }
+    requires weight { total_weight points.now ≤ most_weight }
+    requires leaf { length points.now ≤ 1024 }
+    requires fresh { work.old.pairs ≡ 0 }
+    ensures done { OnOk result (Appends (O.held out.old) (O.held out.new) (target_text mode points.now points.now)) }
+    ensures part { OnErr result (AppendsPrefix (O.held out.old) (O.held out.new) (target_text mode points.now points.now)) }
+    ensures cause { HasCause (O.faults out.old) (O.faults out.new) result }
+    ensures pairs { OnOk result (work.new.pairs ≡ pairs_at points.now points.now) }
+{
+    for p in points {
+        write_point(mode, points, p, work, out)?;
+    }
+    Ok(())
+}
+
+/// Appends the report of a list that makes one leaf.
+///
+/// # Errors
+///
+/// `WriteFault` where a write failed. What was appended then is a prefix of the report.
+pub(crate) fn write_report<O: Sink>(
+    points: &Points,
+    order: u32,
+    cap: u32,
+    out: &mut O,
+) -> Result<(), WriteFault>
+    requires limits { WithinLimits points.now.mode points.now.list }
+    requires leaf { length points.now.list ≤ 1024 }
+    ensures done { OnOk result (Appends (O.held out.old) (O.held out.new) (leaf_report points.now.mode points.now.list order cap)) }
+    ensures part { OnErr result (AppendsPrefix (O.held out.old) (O.held out.new) (leaf_report points.now.mode points.now.list order cap)) }
+    ensures cause { HasCause (O.faults out.old) (O.faults out.new) result }
+{
+    let list = points.list.points();
+    let mut work = Work::new();
+    write_head(points.mode, order, cap, out)?;
+    write_targets(points.mode, list, &mut work, out)?;
+    write_end(0, work.pairs(), out)
+}
