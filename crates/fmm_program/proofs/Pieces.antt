@@ -1,5 +1,5 @@
 -- Pieces that go out one after another.
-use Rattle.std.proofs.Common.{◌≡◌, ◌∙◌, sym, ap, subst, refl, arith, ℕ, ◌+◌, ◌≤◌, ◌<◌, List, [], ◌∷◌, ◌++◌, length, take, drop, append_assoc, min, Some, None}
+use Rattle.std.proofs.Common.{◌≡◌, ◌∙◌, sym, ap, subst, refl, arith, ℕ, ◌+◌, ◌≤◌, ◌<◌, List, [], ◌∷◌, ◌++◌, length, take, drop, append_assoc, min, Some, None, Ok, Err, OnOk, OnErr, Result}
 use Rattle.std.proofs.Math.Seq.{take-append-add}
 use Rattle.std.proofs.lemmas.List.{append-nil, take-append-le, take_min}
 use Rattle.std.specs.Io.KnownBytes.{Appends}
@@ -31,3 +31,17 @@ AppendsPrefix-front before after xs ys p =
 -- the same where the answer to the second piece says which it is
 pub AppendsPrefix-none : (before after : Option (List ℕ)) (xs : List ℕ) → Appends before after [] → AppendsPrefix before after xs
 AppendsPrefix-none before after xs p = (0, p)
+
+-- what holds in any case holds at an error
+pub always-err : {T E : Type 0} (result : Result T E) (P : Type 0) → P → OnErr result P
+always-err (Ok x) P h = tt
+always-err (Err e) P h = h
+
+-- what follows from a clause on one outcome holds on that outcome
+pub on-ok : {T E : Type 0} (result : Result T E) (P Q : Type 0) → (P → Q) → OnOk result P → OnOk result Q
+on-ok (Ok x) P Q f h = f h
+on-ok (Err e) P Q f h = tt
+
+pub on-err : {T E : Type 0} (result : Result T E) (P Q : Type 0) → (P → Q) → OnErr result P → OnErr result Q
+on-err (Ok x) P Q f h = tt
+on-err (Err e) P Q f h = f h

@@ -12,7 +12,7 @@ use crate::leaf::{adds_to_field, target_box};
 use complex_box::Work;
 use field_report::{write_end, write_head, write_target};
 use io_ports::{Sink, WriteFault};
-use particle_text::{Mode, Point, Points};
+use particle_text::{Mode, Point};
 
 /// Appends the line of a point that is a target, and nothing of a source.
 fn write_point<O: Sink>(
@@ -68,20 +68,20 @@ fn write_targets<O: Sink>(
 ///
 /// `WriteFault` where a write failed. What was appended then is a prefix of the report.
 pub(crate) fn write_report<O: Sink>(
-    points: &Points,
+    mode: Mode,
+    points: &[Point],
     order: u32,
     cap: u32,
     out: &mut O,
 ) -> Result<(), WriteFault>
-    requires limits { WithinLimits points.now.mode points.now.list }
-    requires leaf { length points.now.list ≤ 1024 }
-    ensures done { OnOk result (Appends (O.held out.old) (O.held out.new) (leaf_report points.now.mode points.now.list order cap)) }
-    ensures part { OnErr result (AppendsPrefix (O.held out.old) (O.held out.new) (leaf_report points.now.mode points.now.list order cap)) }
+    requires limits { WithinLimits mode points.now }
+    requires leaf { length points.now ≤ 1024 }
+    ensures done { OnOk result (Appends (O.held out.old) (O.held out.new) (leaf_report mode points.now order cap)) }
+    ensures part { OnErr result (AppendsPrefix (O.held out.old) (O.held out.new) (leaf_report mode points.now order cap)) }
     ensures cause { HasCause (O.faults out.old) (O.faults out.new) result }
 {
-    let list = points.list.points();
     let mut work = Work::new();
-    write_head(points.mode, order, cap, out)?;
-    write_targets(points.mode, list, &mut work, out)?;
+    write_head(mode, order, cap, out)?;
+    write_targets(mode, points, &mut work, out)?;
     write_end(0, work.pairs(), out)
 }
