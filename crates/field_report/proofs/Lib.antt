@@ -1,2 +1,2 @@
-mod Bounds
+pub mod Bounds
 mod Digits

@@ -1,5 +1,5 @@
 -- The lines of targets, one point after another.
-use Rattle.std.proofs.Common.{◌≡◌, ◌∙◌, sym, ap, subst, refl, arith, ℕ, ◌+◌, ◌*◌, ◌≤◌, ◌<◌, Bool, not, List, [], ◌∷◌, ◌++◌, length, take, drop, get_or, map, filter, append_assoc, Some, None, false, to_z, of_z, to_z-of_z, w64, SFits}
+use Rattle.std.proofs.Common.{◌≡◌, ◌∙◌, sym, ap, subst, refl, arith, ℕ, ◌+◌, ◌≤◌, ◌<◌, Bool, not, List, [], ◌∷◌, ◌++◌, length, take, drop, get_or, map, filter, append_assoc, false, to_z, of_z, to_z-of_z, w64, SFits}
 use Rattle.std.proofs.lemmas.Int.{ints}
 use Rattle.exact_math.specs.Ends.{BoxEnds}
 use Rattle.field_report.specs.Counts.{target_counts}

@@ -1,13 +1,13 @@
 -- The sum over the sources that act on a target, one point after another.
-use Rattle.std.proofs.Common.{◌≡◌, ◌∙◌, ◌+◌, ◌*◌, ◌^◌, ◌<◌, ◌≤◌, sym, ap, subst, zero-add, refl, arith, unsigned_abs, neg_ℤ, Bool, true, false, cond, not, ◌&&◌, if◌then◌else◌, ℕ, List, [], ◌∷◌, ◌++◌, length, take, get_or, fold, filter, length-append, drop, to_z-of_z, to_z, of_z, SFits, w64, ℤ, pos, ◌+ℤ◌}
+use Rattle.std.proofs.Common.{◌≡◌, ◌∙◌, ◌+◌, ◌*◌, ◌^◌, ◌<◌, ◌≤◌, sym, ap, subst, zero-add, refl, arith, unsigned_abs, neg_ℤ, Bool, true, false, cond, not, ◌&&◌, if◌then◌else◌, ℕ, List, [], ◌∷◌, ◌++◌, length, take, get_or, fold, length-append, drop, to_z-of_z, to_z, of_z, SFits, w64, ℤ, pos, ◌+ℤ◌}
 use Rattle.std.proofs.lemmas.Int.{ints}
 use Rattle.std.proofs.lemmas.List.{take_more, take-append-drop}
 use Rattle.std.proofs.lemmas.List.Elements.{filter-append}
 use Rattle.std.proofs.lemmas.List.Sums.{fold-append, sum_by-append}
 use Rattle.exact_math.specs.Ends.{BoxEnds, BoxEndsWithin, add_box, zero_box}
 use Rattle.exact_math.specs.Gaussian.{Gaussian, gaussian}
-use Rattle.complex_box.proofs.Sizes.{add_box_within, box_wider}
-use Rattle.particle_text.specs.Limits.{InGrid, InRange, HasStrength, most_strength, size_of_gaussian, weight64, total_weight, most_weight}
+use Rattle.complex_box.proofs.Sizes.{box_wider}
+use Rattle.particle_text.specs.Limits.{InGrid, InRange, HasStrength, most_strength, size_of_gaussian, weight64, total_weight}
 use Rattle.particle_text.specs.Points.{pole, dipole}
 use Rattle.particle_text.specs.declared.Kind.{Kind}
 use Rattle.particle_text.specs.declared.Kind.TheVariants.{Charge, Dipole, Vortex, Target}

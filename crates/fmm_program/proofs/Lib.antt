@@ -4,3 +4,5 @@ pub mod Commands
 pub mod LeafSums
 pub mod Pieces
 pub mod LeafReports
+pub mod Certified
+pub mod RunEnds

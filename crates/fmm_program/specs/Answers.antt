@@ -1,5 +1,5 @@
 -- What a run answers, and what it writes.
-use Rattle.std.specs.Prelude.{ℕ, ◌+◌, ◌<◌, ◌≤◌, ◌≡◌, ◌⊎◌, List, [], ◌∷◌, ◌++◌, length, codes, decimal, Some, None}
+use Rattle.std.specs.Prelude.{ℕ, ◌<◌, ◌≤◌, ◌≡◌, ◌⊎◌, List, ◌++◌, length, codes, decimal}
 use Rattle.std.specs.List.{AllZip}
 use Rattle.std.specs.Io.KnownBytes.{Appends}
 use Rattle.std.specs.declared.option.Option.{Option}
@@ -115,3 +115,20 @@ pub record IsCertified (order cap : ℕ) (input out : List ℕ) : Type 0 where
   pub pairs : ℕ
   pub report : out ≡ report_text mode order cap lines 0 pairs
   pub contain : AllZip (LineContains mode points) (targets_of points) lines
+
+-- what `out` took with one of the lines of refusal
+abbrev pub RefusalEnds : Status → Option (List ℕ) → Option (List ℕ) → List ℕ → Type 0
+RefusalEnds Refused before after line = Appends before after line
+RefusalEnds WriteFault before after line = AppendsPrefix before after line
+RefusalEnds _ before after line = ⊥
+
+-- how a run of `solve` may end
+abbrev pub IsSolveStatus : Status → Type 0
+IsSolveStatus Usage = ⊥
+IsSolveStatus Rejected = ⊥
+IsSolveStatus _ = Unit {0}
+
+-- ---- which answers need no input to be known
+abbrev pub IsWriteFault : Status → Type 0
+IsWriteFault WriteFault = Unit {0}
+IsWriteFault _ = ⊥

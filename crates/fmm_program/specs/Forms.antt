@@ -2,8 +2,6 @@
 use Rattle.std.specs.Prelude.{ℕ, ◌≡◌, ◌≢◌, List, [], ◌∷◌, codes}
 use Rattle.exact_math.specs.Orders.{IsOrder, IsCapacity}
 use Rattle.number_text.specs.Numbers.{IsUint}
-use Rattle.fmm_program.specs.declared.words.Command.{Command}
-use Rattle.fmm_program.specs.declared.words.Command.TheVariants.{Solve}
 use Rattle.fmm_program.specs.declared.words.Opening.{Opening}
 use Rattle.fmm_program.specs.declared.words.Opening.TheVariants.{Nothing, SolveInput, SolveFile}
 
@@ -26,7 +24,3 @@ abbrev pub Opens : List (List ℕ) → Opening → Type 0
 Opens words Nothing = IsUsage words
 Opens words SolveInput = (order : ℕ) × (cap : ℕ) × IsSolve words order cap (codes "-")
 Opens words (SolveFile file) = (order : ℕ) × (cap : ℕ) × (file.now ≢ codes "-") × IsSolve words order cap file.now
-
--- the words ask for the command
-abbrev pub Asks : List (List ℕ) → Command → Type 0
-Asks words (Solve order cap file) = IsSolve words order cap file.now

@@ -3,8 +3,11 @@
 
 mod leaf;
 mod report;
+mod solve;
 mod status;
+mod top;
 mod words;
 
 pub use status::Status;
+pub use top::run;
 pub use words::{Opening, Words, plan};

@@ -2,7 +2,7 @@
 ghost use Rattle.std.specs.Prelude.{◌≡◌, ℕ, ◌+◌, ◌<◌, ◌≤◌, List, [], ◌∷◌, ◌++◌, length, slice_get, codes, decimal, ◌≢◌, IfSome, IfNone, OnOk, OnErr, Some, None};
 ghost use Rattle.exact_math.specs.Orders.{IsOrder, IsCapacity};
 ghost use Rattle.number_text.specs.Numbers.{IsUint};
-ghost use Rattle.fmm_program.specs.Forms.{Asks, IsUsage, Opens};
+ghost use Rattle.fmm_program.specs.Forms.{IsSolve, IsUsage, Opens};
 
 use io_ports::Memory;
 use number_text::read_uint;
@@ -75,11 +75,12 @@ pub enum Opening<'a> {
     SolveFile { file: &'a str },
 }
 
-/// What the words ask for.
+/// The command `solve ORDER CAP FILE`.
 #[derive(Clone, Copy, Debug, PartialEq, Eq)]
-pub(crate) enum Command<'a> {
-    /// `solve ORDER CAP FILE`
-    Solve { order: u32, cap: u32, file: &'a str },
+pub(crate) struct SolveCommand<'a> {
+    pub(crate) order: u32,
+    pub(crate) cap: u32,
+    pub(crate) file: &'a str,
 }
 
 /// The number that a word spells, where it is at least `least` and at most `most`.
@@ -115,8 +116,8 @@ fn capacity_of(word: &str) -> Option<u32>
 }
 
 /// The command that the words ask for; `None` where they are of no form.
-pub(crate) fn asked(words: &Words) -> Option<Command<'_>>
-    ensures some { IfSome result (λ c. Asks words.now c) }
+pub(crate) fn asked(words: &Words) -> Option<SolveCommand<'_>>
+    ensures some { IfSome result (λ c. IsSolve words.now c.order c.cap c.file.now) }
     ensures none { IfNone result (IsUsage words.now) }
 {
     if words.count() != 4 || words.word(0) != "solve" {
@@ -125,7 +126,7 @@ pub(crate) fn asked(words: &Words) -> Option<Command<'_>>
     let order = order_of(words.word(1))?;
     let cap = capacity_of(words.word(2))?;
     let file = words.word(3);
-    Some(Command::Solve { order, cap, file })
+    Some(SolveCommand { order, cap, file })
 }
 
 /// What is to be opened for these words. It takes no memory.
@@ -134,9 +135,12 @@ pub(crate) fn asked(words: &Words) -> Option<Command<'_>>
 pub fn plan(words: &Words) -> Opening<'_>
     ensures { Opens words.now result }
 {
-    match asked(words) {
-        Some(Command::Solve { file: "-", .. }) => Opening::SolveInput,
-        Some(Command::Solve { file, .. }) => Opening::SolveFile { file },
-        None => Opening::Nothing,
+    let Some(command) = asked(words) else {
+        return Opening::Nothing;
+    };
+    if command.file == "-" {
+        Opening::SolveInput
+    } else {
+        Opening::SolveFile { file: command.file }
     }
 }

@@ -1,7 +1,6 @@
 use Rattle.std.proofs.Common.{◌∙◌, arith}
 use Rattle.complex_box.proofs.Sizes.{box_wider}
 use Rattle.particle_text.specs.Points.{place}
-use Rattle.particle_text.specs.Limits.{total_weight}
 use Rattle.fmm_program.proofs.LeafSums.{ends-step, pairs-step, room-step, size-step, total_weight-take}
 use Rattle.fmm_program.proofs.leaf.target_box.Goals as goal
 

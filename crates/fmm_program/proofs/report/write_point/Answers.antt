@@ -1,4 +1,4 @@
-use Rattle.std.proofs.Common.{◌≡◌, ◌∙◌, sym, subst, arith, OnErr}
+use Rattle.std.proofs.Common.{sym, subst, arith, OnErr}
 use Rattle.io_ports.specs.Bytes.{AppendsPrefix}
 use Rattle.fmm_program.proofs.LeafReports.{text_of_target, acting-most}
 use Rattle.fmm_program.proofs.report.write_point.Goals as goal

@@ -1,4 +1,4 @@
-use Rattle.std.proofs.Common.{◌≡◌, ◌∙◌, sym, refl}
+use Rattle.std.proofs.Common.{◌∙◌, refl}
 use Rattle.fmm_program.specs.OneLeaf.{pairs_at}
 use Rattle.fmm_program.proofs.Pieces.{always-err, on-ok, on-err}
 use Rattle.fmm_program.proofs.LeafReports.{head-exit, targets-exit, end-done, end-exit}
