@@ -1,5 +1,5 @@
 //! Reading whole numbers.
-ghost use Rattle.std.specs.Prelude.{◌≡◌, ℕ, ◌+◌, ◌*◌, ◌^◌, ◌<◌, ◌≤◌, ℤ, IfSome, IfNone, OnSome};
+ghost use Rattle.std.specs.Prelude.{◌≡◌, ℕ, ℤ, IfSome, IfNone, OnSome};
 ghost use Rattle.std.specs.List.{AllByRecursion};
 ghost use Rattle.number_text.specs.Numbers.{IsDigit, IsUint, IsInt, value_after, nearest_uint, nearest_int};
 

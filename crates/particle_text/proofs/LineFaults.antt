@@ -1,7 +1,7 @@
 -- Of what is wrong with the first line of some bytes, one kind is the first.
-use Rattle.std.proofs.Common.{◌≡◌, ◌<◌, ℕ, List, [], ◌∷◌, ◌++◌, sym, ap, ◌∙◌, subst, refl, arith}
+use Rattle.std.proofs.Common.{◌≡◌, ◌<◌, ℕ, List, subst, arith}
 use Rattle.number_text.specs.Parts.{IsCut, IsFreeOf}
-use Rattle.number_text.proofs.Cuts.{Same, same_cut, no_cut}
+use Rattle.number_text.proofs.Cuts.{same_cut, no_cut}
 use Rattle.particle_text.specs.declared.Mode.{Mode}
 use Rattle.particle_text.specs.declared.Point.{Point}
 use Rattle.particle_text.specs.declared.TextKind.{TextKind}

@@ -1,5 +1,5 @@
 -- A text has one first fault, and a text that spells a list has none.
-use Rattle.std.proofs.Common.{◌≡◌, ◌≢◌, ◌+◌, ◌<◌, ◌≤◌, ◌⊎◌, ℕ, List, [], ◌∷◌, ◌++◌, length, sym, ap, ◌∙◌, subst, refl, inl, inr, arith}
+use Rattle.std.proofs.Common.{◌≡◌, ◌+◌, ◌<◌, ℕ, List, [], ◌∷◌, ◌++◌, length, sym, ap, ◌∙◌, subst, refl, inl, inr, arith}
 use Rattle.std.proofs.lemmas.List.{append-nil}
 use Rattle.particle_text.specs.declared.Mode.{Mode}
 use Rattle.particle_text.specs.declared.Point.{Point}
@@ -7,8 +7,8 @@ use Rattle.particle_text.specs.declared.TextKind.{TextKind}
 use Rattle.particle_text.specs.declared.TextKind.TheVariants.{Syntax, Range, Mixed, Many, Strength}
 use Rattle.particle_text.specs.Faults.{FaultsAfter, FirstFault, HasNoHead, IsFirstKind, LineFault, rank}
 use Rattle.particle_text.specs.Limits.{WithinLimits, total_weight}
-use Rattle.particle_text.specs.Text.{AreLines, Spells, head_line}
-use Rattle.particle_text.proofs.OneText.{GoesOn, Fronts, fronts, behind, no_fault_inside}
+use Rattle.particle_text.specs.Text.{AreLines, Spells}
+use Rattle.particle_text.proofs.OneText.{GoesOn, fronts, behind, no_fault_inside}
 
 -- a text with a good front has a head line
 has_head : (bytes good rest : List ℕ) (mode : Mode) (before : List Point) → bytes ≡ good ++ rest → Spells good mode before → HasNoHead bytes → ⊥

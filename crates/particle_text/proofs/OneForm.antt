@@ -1,13 +1,13 @@
 -- A line is that of one point at most.
-use Rattle.std.proofs.Common.{◌≡◌, ◌≢◌, ℕ, ℤ, List, [], ◌∷◌, get_or, sym, ap, ◌∙◌, subst, refl, arith}
+use Rattle.std.proofs.Common.{◌≡◌, ℕ, ℤ, List, [], ◌∷◌, ap, refl, arith}
 use Rattle.std.specs.Prelude.{codes}
 use Rattle.number_text.specs.Numbers.{AreInts}
 use Rattle.number_text.proofs.Rows.{one_row}
 use Rattle.particle_text.specs.declared.Kind.{Kind}
 use Rattle.particle_text.specs.declared.Kind.TheVariants.{Charge, Dipole, Vortex, Target}
 use Rattle.particle_text.specs.declared.Point.{Point}
-use Rattle.particle_text.specs.Text.{LineSpells, name_of, strength_of, numbers_of}
-use Rattle.particle_text.proofs.Forms.{ReadsAs, reads_as, apart, same_point}
+use Rattle.particle_text.specs.Text.{LineSpells, name_of, strength_of}
+use Rattle.particle_text.proofs.Forms.{reads_as, apart, same_point}
 
 head : (x y : ℤ) (xs ys : List ℤ) → x ∷ xs ≡ y ∷ ys → x ≡ y
 head x y xs ys e = cc

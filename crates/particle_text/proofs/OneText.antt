@@ -1,16 +1,14 @@
 -- A text spells one list, or has one first fault, and never both.
-use Rattle.std.proofs.Common.{◌≡◌, ◌≢◌, ◌+◌, ◌<◌, ◌≤◌, ◌⊎◌, ℕ, suc, List, [], ◌∷◌, ◌++◌, length, sym, ap, ◌∙◌, subst, refl, inl, inr, arith}
+use Rattle.std.proofs.Common.{◌≡◌, ◌⊎◌, ℕ, List, [], ◌∷◌, ◌++◌, length, sym, ap, ◌∙◌, subst, refl, inl, inr, arith}
 use Rattle.std.specs.List.{All}
 use Rattle.std.proofs.lemmas.List.{append_assoc, append-nil, length-append}
-use Rattle.std.proofs.lemmas.List.Elements.{All-head, All-tail, recursion_from_All}
+use Rattle.std.proofs.lemmas.List.Elements.{All-head, All-tail}
 use Rattle.std.proofs.lemmas.List.Sums.{sum_by-append, sum_by-cons}
-use Rattle.std.specs.List.{AllByRecursion}
 use Rattle.number_text.proofs.Cuts.{same_cut}
 use Rattle.particle_text.specs.declared.Mode.{Mode}
 use Rattle.particle_text.specs.declared.Point.{Point}
 use Rattle.particle_text.specs.declared.TextKind.{TextKind}
-use Rattle.particle_text.specs.declared.TextKind.TheVariants.{Syntax, Range, Mixed, Many, Strength}
-use Rattle.particle_text.specs.Faults.{FaultsAfter, FirstFault, HasNoHead, IsFirstKind, LineFault, rank}
+use Rattle.particle_text.specs.Faults.{LineFault}
 use Rattle.particle_text.specs.Limits.{InRange, FitsMode, WithinLimits, CanJoin, weight64, total_weight}
 use Rattle.particle_text.specs.Text.{BeginsWith, AreLines, Spells, head_line}
 use Rattle.particle_text.proofs.Heads.{head_cut, one_head}

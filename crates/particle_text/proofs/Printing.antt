@@ -1,5 +1,5 @@
 -- The printed text spells its points, and no other text does.
-use Rattle.std.proofs.Common.{◌≡◌, ◌<◌, ◌^◌, ◌≤ℤ◌, ◌<ℤ◌, ℕ, ℤ, pos, negsuc, neg_ℤ, List, [], ◌∷◌, ◌++◌, sym, ap, ◌∙◌, subst, refl, arith}
+use Rattle.std.proofs.Common.{◌≡◌, ◌<◌, ◌^◌, ℕ, ℤ, pos, negsuc, List, [], ◌∷◌, ◌++◌, sym, ap, ◌∙◌, subst, refl, arith}
 use Rattle.std.proofs.lemmas.Int.{ints}
 use Rattle.std.specs.Fmt.{signed_decimal}
 use Rattle.std.specs.List.{flat_map, All, AllByRecursion}
@@ -8,7 +8,7 @@ use Rattle.std.proofs.lemmas.List.Elements.{All-head, All-tail}
 use lib.Signed.{mag}
 use Rattle.exact_math.specs.Within.{Within}
 use Rattle.number_text.specs.Numbers.{IsInt, AreInts}
-use Rattle.number_text.specs.Parts.{IsCut, IsFreeOf}
+use Rattle.number_text.specs.Parts.{IsFreeOf}
 use Rattle.number_text.proofs.Rows.{int_free, one_spelled_row}
 use Rattle.number_text.proofs.Spelling.{int_of_decimal}
 use Rattle.particle_text.specs.declared.Kind.{Kind}

@@ -1,5 +1,5 @@
 -- Points in range have no number that is cut when it is read.
-use Rattle.std.proofs.Common.{◌≡◌, ℕ, ◌≤◌, ℤ, pos, neg_ℤ, ◌≤ℤ◌, ◌<ℤ◌, sym, ap, subst, refl, arith}
+use Rattle.std.proofs.Common.{◌≡◌, ℤ, ap, refl, arith}
 use Rattle.std.proofs.lemmas.Int.{ints}
 use Rattle.exact_math.specs.Within.{Within}
 use Rattle.number_text.specs.Numbers.{nearest_int}

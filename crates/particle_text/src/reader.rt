@@ -1,5 +1,5 @@
 //! Reading a text.
-ghost use Rattle.std.specs.Prelude.{◌≡◌, ◌++◌, ◌∷◌, ℕ, ◌≤◌, IfOk, IfErr, IfSome, IfNone, MatchResult, List};
+ghost use Rattle.std.specs.Prelude.{◌≡◌, ◌++◌, ◌∷◌, ℕ, ◌≤◌, IfOk, IfErr, IfSome, IfNone, List};
 ghost use Rattle.particle_text.specs.declared.Mode.{Mode};
 ghost use Rattle.particle_text.specs.declared.ParseFault.{ParseFault};
 ghost use Rattle.particle_text.specs.declared.Point.{Point};

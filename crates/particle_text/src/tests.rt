@@ -116,11 +116,11 @@ fn the_list_has_a_limit(rt: HostRuntime) -> Result<(), Fail> {
 
 #[test]
 fn points_have_poles_and_weights(rt: HostRuntime) -> Result<(), Fail> {
-    let charge = parse_point(b"charge 1 -2 -3").ok().ok_or("a charge")?;
+    let charge = parse_point(b"charge 1 -2 -3")?;
     let kind = Kind::Charge(-3);
     assert_eq!(rt; charge, Point { x: 1, y: -2, kind });
-    let dipole = parse_point(b"dipole 0 0 5 -6").ok().ok_or("a dipole")?;
-    let vortex = parse_point(b"vortex 0 0 7").ok().ok_or("a vortex")?;
+    let dipole = parse_point(b"dipole 0 0 5 -6")?;
+    let vortex = parse_point(b"vortex 0 0 7")?;
     assert_eq!(rt;
         (charge.pole(), charge.dipole(), charge.weight64()),
         ((-3, 0), (0, 0), 3)
@@ -133,9 +133,12 @@ fn points_have_poles_and_weights(rt: HostRuntime) -> Result<(), Fail> {
         (vortex.pole(), vortex.dipole(), vortex.weight64()),
         ((0, -7), (0, 0), 7)
     );
-    assert_eq!(rt; parse_point(b"target 0 32768"), Err(TextKind::Range));
-    assert_eq!(rt; parse_point(b"target 0"), Err(TextKind::Syntax));
+    Ok(())
+}
 
+#[test]
+fn points_are_admitted(rt: HostRuntime) -> Result<(), Fail> {
+    let charge = parse_point(b"charge 1 -2 -3")?;
     let heavy = 4_294_967_296 - 3;
     assert_eq!(rt; admit(Mode::Field, 65_535, heavy, &charge), None);
     assert_eq!(rt;
@@ -151,6 +154,8 @@ fn points_have_poles_and_weights(rt: HostRuntime) -> Result<(), Fail> {
         Some(TextKind::Mixed)
     );
     assert!(rt; charge.is_in_range() && in_grid(-32_768, 32_767) && !in_grid(0, 32_768));
+    assert_eq!(rt; parse_point(b"target 0 32768"), Err(TextKind::Range));
+    assert_eq!(rt; parse_point(b"target 0"), Err(TextKind::Syntax));
     one_reading();
     one_text();
     Ok(())

@@ -1,4 +1,4 @@
-use Rattle.std.proofs.Common.{sym, ap, ◌∙◌, subst, refl}
+use Rattle.std.proofs.Common.{ap, ◌∙◌, subst, refl}
 use Rattle.number_text.specs.Parts.{IsCut}
 use Rattle.number_text.proofs.Rows.{kept}
 use Rattle.particle_text.specs.declared.Kind.TheVariants.{Charge, Dipole, Vortex, Target}

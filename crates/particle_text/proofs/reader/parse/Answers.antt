@@ -1,14 +1,13 @@
-use Rattle.std.proofs.Common.{◌≡◌, ◌+◌, ◌++◌, ◌∷◌, ℕ, List, [], Bool, false, true, Result, Ok, Err, length, sym, ap, ◌∙◌, subst, refl, arith}
+use Rattle.std.proofs.Common.{◌≡◌, ◌+◌, ◌++◌, ◌∷◌, [], false, Result, Ok, Err, length, sym, ap, ◌∙◌, subst, arith}
 use Rattle.std.specs.Prelude.{OnOk, ◌==◌, ◌≢◌}
 use Rattle.std.proofs.lemmas.Bool.{false≢true}
 use Rattle.std.proofs.lemmas.Bool.Decides.{nat_tests}
 use Rattle.std.proofs.lemmas.List.{nil_from_length}
 use Rattle.std.specs.Result.{is_err}
-use Rattle.particle_text.specs.declared.Point.{Point}
 use Rattle.particle_text.specs.Limits.{CanJoin}
 use Rattle.particle_text.specs.Faults.{FirstFault, IsFirstKind, LineFault}
 use Rattle.particle_text.specs.Text.{Spells}
-use Rattle.particle_text.proofs.Lines.{SoFar, start, step, whole, at_fault}
+use Rattle.particle_text.proofs.Lines.{start, step, whole, at_fault}
 use Rattle.particle_text.proofs.OneFault.{one_fault, never_both}
 use Rattle.particle_text.proofs.OneText.{one_list}
 use Rattle.particle_text.proofs.reader.parse.Goals as goal

@@ -1,5 +1,4 @@
 use Rattle.number_text.proofs.Cuts.{same_cut}
-use Rattle.std.proofs.Common.{sym}
 use Rattle.particle_text.proofs.Heads.{head_cut}
 use Rattle.particle_text.proofs.reader.read_head.Goals as goal
 
