@@ -1,4 +1,4 @@
-use Rattle.std.proofs.Common.{◌≡◌, ◌+◌, ◌*◌, ◌/◌, sym, ap, subst, ◌∙◌, arith, pos, unsigned_abs, to_z, of_z}
+use Rattle.std.proofs.Common.{◌≡◌, sym, ap, subst, ◌∙◌, arith, pos, unsigned_abs, to_z, of_z}
 use Rattle.std.proofs.lemmas.Int.{ints}
 use Rattle.truncation.specs.Truncation.{SingleTailHolds}
 use Rattle.truncation.proofs.SourceBounds.{single_truncation}
