@@ -93,7 +93,7 @@ narrow-quot n {i} {w} {v} n>0 h enough = record {
         let less : (pos n *ℤ (c -ℤ f)) <ℤ (pos n *ℤ pos (suc v)) = rw e (omega (arith, ints, h.width, up, down)) in
         at_most n v (c -ℤ f) less
 
--- ---- the bound: 2 at first, then 6/5 of it and 2 more, rounded down: 10 (6/5)^(n + 1) - 10
+-- ---- the bound: 2 at first, then 6/5 of it and 2 more, rounded down, so at most 10 (6/5)^(n + 1) - 10
 abbrev pub next_width : ℕ → ℕ
 next_width w = (6 * w + 10) / 5
 
