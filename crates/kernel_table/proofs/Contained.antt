@@ -1,18 +1,18 @@
 -- What the kernel's powers and entries contain.
-use mathlib.Core.Path.{◌≡◌, refl, sym, ap, ap₂, subst, subst₂, ◌∙◌}
-use Prim.Native.Nat.{ℕ, zero, suc, ◌+◌, ◌*◌, ◌^◌}
+use mathlib.Core.Path.{◌≡◌, sym, ap, subst, subst₂, ◌∙◌}
+use Prim.Native.Nat.{ℕ, zero, suc, ◌+◌, ◌^◌}
 use native.Mathlib.Omega.{arith}
 use lib.IntN.{ℤ, pos, neg_ℤ, ◌+ℤ◌, ◌-ℤ◌, ◌*ℤ◌}
 use lib.Signed.{◌<ℤ◌, ◌≤ℤ◌}
 use borrow.Author.Differences.{ints}
 use Rattle.exact_math.specs.Contains.{Contains}
-use Rattle.exact_math.specs.Ends.{BoxEnds, point_box, neg_box, scale_box, quot_box, gquot_box, BoxEndsContain}
-use Rattle.exact_math.specs.Gaussian.{Gaussian, gaussian, norm_gaussian}
+use Rattle.exact_math.specs.Ends.{BoxEnds, point_box, scale_box, quot_box, gquot_box, BoxEndsContain}
+use Rattle.exact_math.specs.Gaussian.{Gaussian, norm_gaussian}
 use Rattle.exact_math.specs.Ratio.{Ratio, over_ratio, ComplexRatio, over_complex, mul_complex}
 use Rattle.exact_math.specs.Sums.{count, pow_complex}
 use Rattle.exact_math.proofs.Ring.{int_ring}
-use Rattle.exact_math.proofs.RingTactic.{int_quotes, ring2, ring3, ring5, ring6}
-use Rattle.exact_math.proofs.Integers.{*-positive, *-cancel_≤}
+use Rattle.exact_math.proofs.RingTactic.{int_quotes, ring2, ring3, ring5}
+use Rattle.exact_math.proofs.Integers.{*-cancel_≤}
 use Rattle.exact_math.specs.Binomials.{choose}
 use Rattle.exact_math.proofs.EndsBridges.{BoxEndsContain-point, BoxEndsContain-quot, BoxEndsContain-gquot, BoxEndsContain-scale, BoxEndsContain-neg}
 use Rattle.kernel_table.specs.Kernel.{conj_multiple, kernel_power, kernel_entry, alternate_box, alternate_complex, kernel_fraction}

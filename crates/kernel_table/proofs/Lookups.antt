@@ -1,15 +1,14 @@
 -- What a table holds at the place of an entry.
 use mathlib.Core.Path.{◌≡◌, sym, ap, ap₂, subst, ◌∙◌}
-use Prim.Native.Nat.{ℕ, suc, ◌+◌, ◌-◌, ◌*◌, ◌/◌, ◌%◌, ◌^◌, ◌≤◌, ◌<◌}
+use Prim.Native.Nat.{ℕ, ◌+◌, ◌-◌, ◌*◌, ◌/◌, ◌%◌, ◌^◌, ◌≤◌, ◌<◌}
 use native.Mathlib.Omega.{arith}
 use lib.IntN.{ℤ, pos}
-use lib.Signed.{◌≤ℤ◌}
 use Rattle.std.proofs.Common.{List, length, get_or, take, drop}
 use Rattle.std.proofs.lemmas.Int.{ints}
 use Rattle.std.proofs.lemmas.List.{get_or-take, get_or-drop, length-take-le, length-drop}
 use Rattle.exact_math.specs.Ends.{BoxEnds, BoxEndsWithin, BoxEndsContain, scale_box, quot_box}
 use Rattle.exact_math.specs.Binomials.{choose}
-use Rattle.exact_math.specs.Gaussian.{Gaussian, norm_gaussian}
+use Rattle.exact_math.specs.Gaussian.{Gaussian}
 use Rattle.exact_math.specs.Orders.{IsOrder}
 use Rattle.complex_box.specs.Box.{box_ends}
 use Rattle.complex_box.specs.declared.CBox.{CBox}

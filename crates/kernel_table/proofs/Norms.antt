@@ -1,6 +1,6 @@
 -- How large a distance is.
-use mathlib.Core.Path.{◌≡◌, sym, ap, ap₂, subst, ◌∙◌}
-use Prim.Native.Nat.{ℕ, ◌+◌, ◌*◌, ◌^◌, ◌≤◌, max}
+use mathlib.Core.Path.{◌≡◌, ap, ap₂, subst, ◌∙◌}
+use Prim.Native.Nat.{ℕ, ◌^◌, ◌≤◌, max}
 use native.Mathlib.Nat.{mul-le-mul}
 use native.Mathlib.Omega.{arith}
 use lib.IntN.{ℤ, pos, negsuc, neg_ℤ, ◌+ℤ◌, ◌*ℤ◌}
@@ -11,7 +11,7 @@ use Rattle.std.specs.Int.{w128}
 use Rattle.std.specs.Prelude.{unsigned_abs}
 use Rattle.exact_math.specs.Gaussian.{Gaussian, norm_gaussian}
 use Rattle.kernel_table.specs.Kernel.{IsKernelDistance}
-use Rattle.kernel_table.proofs.Widths.{square_abs, norm_count, norm_count-is, norm_count≥4}
+use Rattle.kernel_table.proofs.Widths.{square_abs, norm_count-is, norm_count≥4}
 
 part_le : (x y : ℕ) → max x y ≤ 3 → (x ≤ 3) × (y ≤ 3)
 part_le x y h = (omega (arith, h), omega (arith, h))

@@ -1,6 +1,6 @@
 -- Where an entry lies in the table.
-use mathlib.Core.Path.{◌≡◌, sym, ap, ap₂, ◌∙◌}
-use Prim.Native.Nat.{ℕ, zero, suc, ◌+◌, ◌-◌, ◌*◌, ◌/◌, ◌%◌, ◌≤◌, ◌<◌}
+use mathlib.Core.Path.{◌≡◌, sym, ap, ◌∙◌}
+use Prim.Native.Nat.{ℕ, suc, ◌+◌, ◌*◌, ◌/◌, ◌%◌, ◌≤◌, ◌<◌}
 use native.Mathlib.Omega.{arith}
 use Rattle.std.proofs.Common.{inl, inr}
 use Rattle.std.proofs.Math.Nat.{mul-le-mul_right, div-add-mod, mod-lt, lt_of_not-le, mul-le-mul_left}

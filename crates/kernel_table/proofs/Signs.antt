@@ -1,10 +1,10 @@
 -- The sign of an entry, by the parity of l.
-use mathlib.Core.Path.{◌≡◌, refl, sym, ap, ◌∙◌}
-use Prim.Native.Nat.{ℕ, zero, suc, ◌+◌, ◌%◌}
+use mathlib.Core.Path.{◌≡◌, refl, ◌∙◌}
+use Prim.Native.Nat.{ℕ, zero, suc, ◌%◌}
 use native.Mathlib.Omega.{arith}
-use lib.IntN.{ℤ, pos, negsuc, neg_ℤ}
+use lib.IntN.{ℤ, neg_ℤ}
 use borrow.Author.Differences.{ints}
-use Rattle.exact_math.specs.Ends.{Ends, BoxEnds, neg_ends, neg_box}
+use Rattle.exact_math.specs.Ends.{BoxEnds, neg_box}
 use Rattle.kernel_table.specs.Kernel.{alternate_box}
 
 neg_neg : (a : ℤ) → neg_ℤ (neg_ℤ a) ≡ a

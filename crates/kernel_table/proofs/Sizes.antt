@@ -1,7 +1,7 @@
 -- How large the ends of the kernel's powers and entries are.
-use mathlib.Core.Path.{◌≡◌, sym, ap, ap₂, subst, subst₂, ◌∙◌}
-use Prim.Native.Nat.{ℕ, zero, suc, ◌+◌, ◌-◌, ◌*◌, ◌^◌, ◌≤◌, ◌<◌}
-use native.Mathlib.Nat.{lt_of_not-le, mul-le-mul_left, mul-le-mul_right, mul-le-mul}
+use mathlib.Core.Path.{◌≡◌, sym, ap, subst, subst₂, ◌∙◌}
+use Prim.Native.Nat.{ℕ, zero, suc, ◌+◌, ◌*◌, ◌^◌, ◌≤◌, ◌<◌}
+use native.Mathlib.Nat.{lt_of_not-le, mul-le-mul_right, mul-le-mul}
 use native.Mathlib.Omega.{arith}
 use lib.IntN.{ℤ, pos, negsuc, neg_ℤ, ◌+ℤ◌, ◌-ℤ◌, ◌*ℤ◌}
 use lib.Signed.{◌<ℤ◌, ◌≤ℤ◌}
@@ -10,21 +10,21 @@ use Rattle.exact_math.specs.Contains.{Contains}
 use Rattle.exact_math.specs.Ends.{Ends, BoxEnds, add_ends, sub_ends, neg_ends, scale_ends, scale_box, quot_ends, EndsWithin, BoxEndsWithin}
 use Rattle.exact_math.specs.Gaussian.{Gaussian, norm_gaussian}
 use Rattle.exact_math.specs.Ratio.{Ratio, ComplexRatio, mul_complex}
-use Rattle.exact_math.specs.Rounding.{floor_div, ceil_div}
+use Rattle.exact_math.specs.Rounding.{floor_div}
 use Rattle.exact_math.specs.Sums.{pow_complex}
 use Rattle.exact_math.specs.Within.{Within}
 use Rattle.exact_math.proofs.Ring.{int_ring}
-use Rattle.exact_math.proofs.RingTactic.{int_quotes, ring2, ring3, ring4, ring5, ring6}
+use Rattle.exact_math.proofs.RingTactic.{int_quotes, ring2, ring3, ring5}
 use Rattle.exact_math.proofs.Integers as Z
 use Rattle.exact_math.specs.Binomials.{choose}
 use Rattle.exact_math.proofs.Enclosures.{floor_div_le}
 use Rattle.complex_box.specs.Box.{GscaleFits}
 use Rattle.kernel_table.specs.Kernel.{IsKernelDistance, kernel_power, kernel_entry, alternate_box}
 use Rattle.truncation.specs.CutTerms.{reciprocal}
-use Rattle.kernel_table.specs.Narrow.{EndsNarrow, BoxEndsNarrow}
+use Rattle.kernel_table.specs.Narrow.{EndsNarrow}
 use Rattle.kernel_table.proofs.Contained.{kernel_power_contains}
 use Rattle.kernel_table.proofs.PowersOfTwo.{two_power, power_positive, power_add, choose_le}
-use Rattle.kernel_table.proofs.Widths.{norm_count, norm_count-is, norm_count≥4, widths, widths_le, kernel_power_narrow, floor_div_gt, at_most}
+use Rattle.kernel_table.proofs.Widths.{norm_count-is, norm_count≥4, widths, widths_le, kernel_power_narrow, floor_div_gt, at_most}
 
 times_neg : (c d : ℤ) → c *ℤ neg_ℤ d ≡ neg_ℤ (c *ℤ d)
 times_neg c d = ring2 int_ring c d (λ c d. search int_quotes depth 9) tt

@@ -1,5 +1,5 @@
 -- The widths of the kernel's powers and entries.
-use mathlib.Core.Path.{◌≡◌, sym, ap, ap₂, subst, subst₂, ◌∙◌}
+use mathlib.Core.Path.{◌≡◌, sym, ap₂, subst, subst₂}
 use mathlib.Core.Logic.{◌⊎◌, inl, inr, ⊎_elim}
 use Prim.Native.Nat.{ℕ, zero, suc, ◌+◌, ◌-◌, ◌*◌, ◌/◌, ◌^◌, ◌≤◌, ◌<◌, max}
 use native.Mathlib.Nat.{lt_of_not-le, mul-le-mul_left, mul-le-mul_right, mul-le-mul}
@@ -17,7 +17,7 @@ use Rattle.exact_math.proofs.RingTactic.{int_quotes, ring2, ring3}
 use Rattle.exact_math.proofs.Integers as Z
 use Rattle.exact_math.specs.Binomials.{choose}
 use Rattle.exact_math.proofs.Enclosures.{floor_div_le, ceil_div_ge}
-use Rattle.kernel_table.specs.Kernel.{IsKernelDistance, conj_multiple, kernel_power, kernel_entry, alternate_box}
+use Rattle.kernel_table.specs.Kernel.{IsKernelDistance, kernel_power, kernel_entry, alternate_box}
 use Rattle.kernel_table.specs.Narrow.{EndsNarrow, BoxEndsNarrow}
 use Rattle.kernel_table.proofs.PowersOfTwo.{power_positive, power_add, choose_le}
 
@@ -93,7 +93,7 @@ narrow-quot n {i} {w} {v} n>0 h enough = record {
         let less : (pos n *ℤ (c -ℤ f)) <ℤ (pos n *ℤ pos (suc v)) = rw e (omega (arith, ints, h.width, up, down)) in
         at_most n v (c -ℤ f) less
 
--- ---- the bound: 2 at first, then 6/5 of it and 2 more, rounded down: 10 (6/5)^(n + 1) - 10
+-- ---- the bound: 2 at first, then 6/5 of it and 2 more, rounded down, so at most 10 (6/5)^(n + 1) - 10
 abbrev pub next_width : ℕ → ℕ
 next_width w = (6 * w + 10) / 5
 

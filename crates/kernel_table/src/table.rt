@@ -26,9 +26,12 @@ pub struct Kernel<const P: usize> {
 }
 
 impl<const P: usize> Kernel<P> {
+    ghost use Rattle.kernel_table.specs.Entries.{entries_of, HoldsKernel};
+
     /// The table of this order. Condition: `P` is one of the orders.
     pub fn new(alloc: Global) -> Result<Kernel<P>, Memory>
         requires { IsOrder P }
+        ensures { IfOk result (λ kernel. HoldsKernel P (entries_of kernel)) }
     {
         match all_entries::<P>(alloc) {
             Ok(entries) => Ok(Kernel { entries }),

@@ -1,4 +1,4 @@
-use Rattle.std.proofs.Common.{◌≡◌, ◌+◌, ◌*◌, ◌/◌, sym, ap, subst, ◌∙◌, arith, pos, unsigned_abs, to_z, of_z}
+use Rattle.std.proofs.Common.{◌≡◌, sym, ap, subst, ◌∙◌, arith, pos, unsigned_abs, to_z, of_z}
 use Rattle.std.proofs.lemmas.Int.{ints}
 use Rattle.truncation.specs.Truncation.{SingleTailHolds}
 use Rattle.truncation.proofs.SourceBounds.{single_truncation}
@@ -12,7 +12,7 @@ pub overflow_mul-tail : goal.overflow_mul-tail
 overflow_mul-tail c = let h = single_tail_le c.loop-step.step in omega (arith, h, c.loop-step.invariant)
 
 pub loop-step-preserved : goal.loop-step-preserved
-loop-step-preserved c = let e = single_tail-next c.loop-step.step in omega (arith, e, c.loop-step.invariant, c.div_ceil-tail.ensures)
+loop-step-preserved c = let e = single_tail-next c.loop-step.step in omega (arith, e)
 
 pub returns-clause-truncation : goal.returns-clause-truncation
 returns-clause-truncation c two =

@@ -1,6 +1,6 @@
-use Rattle.std.proofs.Common.{◌≡◌, ◌+◌, ◌^◌, ◌%◌, ◌∙◌, sym, ap, arith, pos, ℤ}
+use Rattle.std.proofs.Common.{◌≡◌, ◌+◌, ◌^◌, ◌%◌, ◌∙◌, sym, ap, arith, pos}
 use Rattle.std.proofs.lemmas.Int.{ints}
-use Rattle.exact_math.specs.Ends.{BoxEnds, scale_box, quot_box, neg_box}
+use Rattle.exact_math.specs.Ends.{scale_box, quot_box, neg_box}
 use Rattle.complex_box.specs.Box.{box_ends}
 use Rattle.kernel_table.proofs.Norms.{wide, wide-is}
 use Rattle.kernel_table.proofs.Signs.{alternate-even, alternate-odd}

@@ -1,8 +1,8 @@
-use Rattle.std.proofs.Common.{◌≡◌, ◌^◌, ◌∙◌, sym, ap, ap₂, arith, pos, neg_ℤ, ◌*ℤ◌}
+use Rattle.std.proofs.Common.{◌≡◌, ◌^◌, ◌∙◌, ap₂, arith, pos, neg_ℤ, ◌*ℤ◌}
 use Rattle.std.proofs.lemmas.Int.{ints}
 use Rattle.exact_math.specs.Ends.{point_box, quot_box}
 use Rattle.exact_math.specs.Gaussian.{norm_gaussian}
-use Rattle.complex_box.specs.Box.{box_ends, number}
+use Rattle.complex_box.specs.Box.{number}
 use Rattle.kernel_table.specs.Kernel.{kernel_power}
 use Rattle.kernel_table.proofs.Norms.{parts, wide-is}
 use Rattle.kernel_table.proofs.powers.first_power.Goals as goal

@@ -1,4 +1,4 @@
-use Rattle.std.proofs.Common.{◌≡◌, ◌+◌, ◌^◌, ◌≤◌, ◌<◌, ◌∙◌, sym, ap, subst, arith, ℕ, suc, vec_len, length, slice_index_or}
+use Rattle.std.proofs.Common.{◌≡◌, ◌+◌, ◌^◌, ◌∙◌, sym, ap, subst, arith, suc, length}
 use Rattle.exact_math.specs.Ends.{BoxEndsWithin, gquot_box}
 use Rattle.exact_math.specs.Gaussian.{norm_gaussian}
 use Rattle.complex_box.specs.Box.{box_ends, number}

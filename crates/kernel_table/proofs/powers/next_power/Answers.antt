@@ -1,4 +1,4 @@
-use Rattle.std.proofs.Common.{◌≡◌, ◌∙◌, ap₂, arith, pos, neg_ℤ, ◌*ℤ◌}
+use Rattle.std.proofs.Common.{◌∙◌, ap₂, arith, pos, neg_ℤ, ◌*ℤ◌}
 use Rattle.std.proofs.lemmas.Int.{ints}
 use Rattle.exact_math.specs.Ends.{gquot_box}
 use Rattle.exact_math.specs.Gaussian.{gaussian, norm_gaussian}

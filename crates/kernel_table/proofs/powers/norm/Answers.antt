@@ -1,6 +1,5 @@
-use Rattle.std.proofs.Common.{◌≡◌, ◌∙◌, sym, subst, arith, to_z-of_z, pos, ◌≤ℤ◌, ◌<ℤ◌}
+use Rattle.std.proofs.Common.{sym, subst, arith, pos, ◌≤ℤ◌}
 use Rattle.std.proofs.lemmas.Int.{ints}
-use Rattle.exact_math.specs.Gaussian.{norm_gaussian}
 use Rattle.complex_box.specs.Box.{number}
 use Rattle.kernel_table.proofs.Norms.{squares, parts, norm-wide}
 use Rattle.kernel_table.proofs.powers.norm.Goals as goal

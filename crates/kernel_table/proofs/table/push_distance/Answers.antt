@@ -2,9 +2,8 @@ use Rattle.std.proofs.Common.{◌≡◌, ◌+◌, ◌-◌, ◌*◌, ◌%◌, ◌
 use Rattle.std.proofs.lemmas.Int.{ints}
 use Rattle.exact_math.specs.Binomials.{choose}
 use Rattle.exact_math.specs.Ends.{BoxEndsWithin}
-use Rattle.exact_math.specs.Gaussian.{Gaussian}
 use Rattle.exact_math.specs.Orders.{IsOrder}
-use Rattle.complex_box.specs.Box.{box_ends, number}
+use Rattle.complex_box.specs.Box.{box_ends}
 use Rattle.kernel_table.specs.Kernel.{IsKernelDistance, kernel_power, kernel_entry}
 use Rattle.kernel_table.specs.Table.{distance_at, IsKernelTable}
 use Rattle.kernel_table.proofs.Chosen.{choose_small}

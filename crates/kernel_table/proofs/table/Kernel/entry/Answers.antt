@@ -1,4 +1,4 @@
-use Rattle.std.proofs.Common.{◌≡◌, ◌+◌, ◌≤◌, ◌∙◌, ap, sym, arith}
+use Rattle.std.proofs.Common.{◌∙◌, ap, sym, arith}
 use Rattle.complex_box.specs.Box.{box_ends, number}
 use Rattle.kernel_table.proofs.Lookups.{found, Known, known}
 use Rattle.kernel_table.proofs.table.Kernel.entry.Goals as goal
