@@ -15,7 +15,7 @@ use Rattle.cell_name.specs.Square.{Square, Holds}
 use Rattle.quadtree.specs.Members.{holds_point, holds_position, members_of}
 use Rattle.quadtree.specs.Nodes.{target_test, is_target, is_source}
 use Rattle.quadtree.specs.Tree.{HasPoint, HasSource, HasTarget}
-use Rattle.quadtree.proofs.Counts.{Holds-from_test, test-from_Holds}
+use Rattle.cell_name.proofs.HoldsTest.{Holds-from_test, test-from_Holds}
 use Rattle.quadtree.proofs.Distinct.{Contains-filter, Contains-into_filter}
 use Rattle.quadtree.proofs.Runs.{members_below}
 

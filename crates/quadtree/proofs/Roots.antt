@@ -14,7 +14,7 @@ use Rattle.quadtree.specs.declared.split.Run.{Run}
 use Rattle.quadtree.specs.Members.{holds_point, holds_position, members_of}
 use Rattle.quadtree.specs.Splitting.{squares_of, occupied, IsRun, AreRuns}
 use Rattle.quadtree.specs.Tree.{AreInGrid, count_in}
-use Rattle.quadtree.proofs.Counts.{test-from_Holds}
+use Rattle.cell_name.proofs.HoldsTest.{test-from_Holds}
 use Rattle.quadtree.proofs.Positions.{length-members}
 use Rattle.quadtree.proofs.Runs.{range_below, occupied-one, occupied-none}
 

@@ -14,12 +14,14 @@ use Rattle.cell_name.proofs.Cells.{Holds-square_at, square_at-unique}
 use Rattle.cell_name.proofs.Order.{IsBefore-irrefl}
 use Rattle.quadtree.specs.declared.split.Run.{Run}
 use Rattle.quadtree.specs.declared.tree.Node.{Node}
+use Rattle.quadtree.specs.Faults.{HasMoreCells}
 use Rattle.quadtree.specs.Fields.{node_model, tree_of, IsRange, AreFieldsOfTree}
 use Rattle.quadtree.specs.Members.{members_of}
 use Rattle.quadtree.specs.Nodes.{IsParentNumber, IsNodeOf, AreNodesTo, IsInLeaf, LeavesAreApart, LeavesAreTo, blank_node}
 use Rattle.quadtree.specs.Splitting.{squares_of}
 use Rattle.quadtree.specs.Tree.{AreInGrid, count_in, IsTreeCell, IsLeaf, HasSource, HasTarget, AreTreeCells}
 use Rattle.quadtree.specs.TreeModel.{NodeModel, TreeModel, squares, size, square_of, node_of, leaf_of, no_node, HasParent, IsNode, IsLeafOf, IsTreeOf, IsTree}
+use Rattle.quadtree.proofs.Distinct.{length-le_from_different}
 use Rattle.quadtree.proofs.LeafLevel.{cell_of, IsListed, IsLeafLevel, leaf_level_exists}
 use Rattle.quadtree.proofs.PointKinds.{IsPointAt, point_at, IsMember, member_point, Contains-members_of}
 use Rattle.quadtree.proofs.Parents.{cell_of_point}
@@ -225,3 +227,9 @@ nodes_moved points cap xs positions cs cells rs runs nodes e f g long h =
     let Q : List Cell → Type 0 = λ l. AreNodesTo points cap positions (map square l) nodes (length rs) in
     let R : ℕ → Type 0 = λ n. AreNodesTo points cap positions (map square cells) nodes n in
     subst R (ap length g ∙ long) (subst Q f (subst P e h))
+
+-- a tree has all cells of the tree, so there are no more
+pub no_more_cells : (tree : TreeModel) (points : List Point) (cap : ℕ) → IsTreeOf 16 tree points cap → HasMoreCells 16 points cap 65536 → ⊥
+no_more_cells tree points cap t h =
+    let fewer : length h.cells ≤ length (squares tree) = length-le_from_different h.cells (squares tree) h.different (λ c d. t.cells_are.whole c (All-contains (IsTreeCell 16 points cap) h.cells c h.in_tree d)) in
+    omega (arith, fewer, h.more, t.few, length-map tree.cells square)
