@@ -1,23 +1,20 @@
--- Binomial coefficients and the finite identity of the two-variable kernel: 1 - (1 - x - y) T = N, in any commutative ring.
+-- Binomial coefficients: Pascal's rule is their definition, the rest follows. The binomial theorem in any commutative ring.
 use mathlib.Core.Path.{◌≡◌, refl, sym, ap, ap₂, ◌∙◌}
-use Prim.Native.Nat.{ℕ, zero, suc, ◌+◌, ◌<◌}
+use Prim.Native.Nat.{ℕ, zero, suc, ◌+◌, ◌-◌, ◌<◌}
 use native.Mathlib.Omega.{arith}
-use lib.IntN.{pos, negsuc}
-use Rattle.exact_math.proofs.Ring.{CommutativeRing, sub, pow}
-use Rattle.exact_math.proofs.RingTactic.{quotes, combine, ring1, ring3, ring5, ring6, ring7}
-use Rattle.exact_math.proofs.Sums.{sum_below, sum_below-congruence, sum_below-add, sum_below-mul}
+use lib.IntN.{pos}
+pub use Rattle.exact_math.specs.Binomials.{choose}
+use Rattle.exact_math.proofs.Ring.{CommutativeRing, pow}
+use Rattle.exact_math.proofs.RingTactic.{quotes, ring1, ring2, ring3, ring4, ring5}
+use Rattle.exact_math.proofs.Sums.{sum_below, sum_below-congruence, sum_below-add, sum_below-mul, sum_below-first}
 
--- Pascal's triangle: the number of ways to choose k of n
-abbrev pub choose : ℕ → ℕ → ℕ
-choose n zero = 1
-choose zero (suc k) = 0
-choose (suc n) (suc k) = choose n k + choose n (suc k)
-
+-- there is no way to choose more than there are
 pub choose-above : (n k : ℕ) → n < k → choose n k ≡ 0
 choose-above n zero h = absurd (omega arith)
 choose-above zero (suc k) h = refl
 choose-above (suc n) (suc k) h = ap₂ ◌+◌ (choose-above n k (omega arith)) (choose-above n (suc k) (omega arith))
 
+-- one way to choose all
 pub choose-all : (n : ℕ) → choose n n ≡ 1
 choose-all zero = refl
 choose-all (suc n) = ap₂ ◌+◌ (choose-all n) (choose-above n (suc n) (omega arith))
@@ -33,103 +30,57 @@ choose-symmetric (suc n) (suc k) (suc l) e =
     omega arith
 
 module _ (R : CommutativeRing) where
-  -- C(k + l, k)
-  abbrev pub binomial : ℕ → ℕ → R.carrier
-  binomial k l = R.of_int (pos (choose (k + l) k))
+  -- C(n, k) x^k y^(n - k)
+  abbrev pub binomial_term : R.carrier → R.carrier → ℕ → ℕ → R.carrier
+  binomial_term x y n k = R.mul (R.of_int (pos (choose n k))) (R.mul (pow R x k) (pow R y (n - k)))
 
-  binomial-zero : (l : ℕ) → binomial 0 l ≡ R.of_int (pos 1)
-  binomial-zero l = refl
-
-  binomial-right_zero : (k : ℕ) → binomial k 0 ≡ R.of_int (pos 1)
-  binomial-right_zero k = ap (λ n. R.of_int (pos n)) (ap (λ n. choose n k) {x = k + 0} {y = k} (omega arith) ∙ choose-all k)
-
-  binomial-pascal : (k l : ℕ) → binomial (suc k) (suc l) ≡ R.add (binomial k (suc l)) (binomial (suc k) l)
-  binomial-pascal k l =
-      ap (λ n. R.of_int (pos n)) (ap (λ n. choose n (suc k)) {x = suc k + suc l} {y = suc (k + suc l)} (omega arith)
-      ∙ ap (λ n. choose (k + suc l) k + choose n (suc k)) {x = k + suc l} {y = suc k + l} (omega arith))
-      ∙ R.of_int-add (pos (choose (k + suc l) k)) (pos (choose (suc k + l) (suc k)))
-
-  module _ (x y : R.carrier) where
-    -- C(k + l, k) x^k y^l
-    abbrev pub kernel_term : ℕ → ℕ → R.carrier
-    kernel_term k l = R.mul (binomial k l) (R.mul (pow R x k) (pow R y l))
-
-    -- the sum of the row l over k < n
-    abbrev pub kernel_row : ℕ → ℕ → R.carrier
-    kernel_row n l = sum_below R n (λ k. kernel_term k l)
-
-    term-right_zero : (k : ℕ) → kernel_term k 0 ≡ pow R x k
-    term-right_zero k = ap (λ b. R.mul b (R.mul (pow R x k) (R.of_int (pos 1)))) (binomial-right_zero k) ∙ ring1 R (pow R x k) (λ a. search quotes depth 9) tt
-
-    term-zero : (l : ℕ) → kernel_term 0 l ≡ pow R y l
-    term-zero l = ring1 R (pow R y l) (λ a. search quotes depth 9) tt
-
-    term-pascal : (k l : ℕ) → kernel_term (suc k) (suc l) ≡ R.add (R.mul x (kernel_term k (suc l))) (R.mul y (kernel_term (suc k) l))
-    term-pascal k l =
-        ap (λ b. R.mul b (R.mul (pow R x (suc k)) (pow R y (suc l)))) (binomial-pascal k l)
-        ∙ ring6 R x y (pow R x k) (pow R y l) (binomial k (suc l)) (binomial (suc k) l) (λ x y p q b c. search quotes depth 12) tt
-
-    -- (1 - x) A_0 = 1 - x^n, and (1 - x) A_(l + 1) = y A_l - x a(n - 1, l + 1), without subtraction
-    row-zero : (n : ℕ) → R.add (kernel_row n 0) (pow R x n) ≡ R.add (R.of_int (pos 1)) (R.mul x (kernel_row n 0))
-    row-zero zero = ring1 R x (λ x. search quotes depth 9) tt
-    row-zero (suc n) =
-        let s = kernel_row n 0 in
-        let p = pow R x n in
-        ap (λ t. R.add (R.add s t) (R.mul x p)) (term-right_zero n)
-        ∙ combine R (R.of_int (pos 1)) (row-zero n) (ring3 R s p x (λ s p x. search quotes depth 12) tt)
-        ∙ ap (λ t. R.add (R.of_int (pos 1)) (R.mul x (R.add s t))) (sym (term-right_zero n))
-
-    row-suc : (n l : ℕ) → R.add (kernel_row (suc n) (suc l)) (R.mul x (kernel_term n (suc l))) ≡ R.add (R.mul x (kernel_row (suc n) (suc l))) (R.mul y (kernel_row (suc n) l))
-    row-suc zero l =
-        let z = R.of_int (pos 0) in
-        ring3 R x y (pow R y l) (λ x y q. search quotes depth 12) tt
-    row-suc (suc n) l =
-        let s = kernel_row (suc n) (suc l) in
-        let r = kernel_row (suc n) l in
-        let t = kernel_term n (suc l) in
-        let t' = kernel_term (suc n) (suc l) in
-        let u = kernel_term (suc n) l in
-        combine R (R.of_int (pos 1)) (row-suc n l)
-        (combine R (R.of_int (pos 1)) (term-pascal n l) (ring7 R x y s r t t' u (λ x y s r t v u. search quotes depth 12) tt))
-
-    -- T: all rows l < m
-    abbrev pub kernel_sum : ℕ → ℕ → R.carrier
-    kernel_sum n m = sum_below R m (kernel_row n)
-
-    -- 1 - (1 - x - y) T = x (a(n - 1, 0) + .. + a(n - 1, m - 1)) + y A_(m - 1)
-    kernel_sum-telescopes : (n m : ℕ) → sub R (R.of_int (pos 1)) (R.mul (sub R (sub R (R.of_int (pos 1)) x) y) (kernel_sum (suc n) (suc m)))
-        ≡ R.add (R.mul x (sum_below R (suc m) (kernel_term n))) (R.mul y (kernel_row (suc n) m))
-    kernel_sum-telescopes n zero =
-        let s = kernel_row (suc n) 0 in
-        let t = kernel_term n 0 in
-        combine R (R.of_int (negsuc 0)) (row-zero (suc n))
-        (combine R (R.neg x) (term-right_zero n) (ring5 R x y s t (pow R x n) (λ x y s t p. search quotes depth 12) tt))
-    kernel_sum-telescopes n (suc m) =
-        let s = kernel_sum (suc n) (suc m) in
-        let a = kernel_row (suc n) m in
-        let a' = kernel_row (suc n) (suc m) in
-        let c = sum_below R (suc m) (kernel_term n) in
-        let t = kernel_term n (suc m) in
-        combine R (R.of_int (pos 1)) (kernel_sum-telescopes n m)
-        (combine R (R.of_int (negsuc 0)) (row-suc n m) (ring7 R x y s a a' c t (λ x y s a b c t. search quotes depth 12) tt))
-
-  -- N: the sum of C(p + l, l) (x^(p + 1) y^l + y^(p + 1) x^l) over l <= p, which is what the tail of the square of side p + 1 leaves
-  abbrev pub tail_sum : R.carrier → R.carrier → ℕ → R.carrier
-  tail_sum x y p = sum_below R (suc p) (λ l. R.mul (R.of_int (pos (choose (p + l) l))) (R.add (R.mul (pow R x (suc p)) (pow R y l)) (R.mul (pow R y (suc p)) (pow R x l))))
-
-  -- 1 - (1 - x - y) T_(p + 1) = N_(p + 1)
-  pub kernel_identity : (x y : R.carrier) (p : ℕ)
-      → sub R (R.of_int (pos 1)) (R.mul (sub R (sub R (R.of_int (pos 1)) x) y) (kernel_sum x y (suc p) (suc p))) ≡ tail_sum x y p
-  kernel_identity x y p =
-      kernel_sum-telescopes x y p p
-      ∙ ap₂ R.add (sym (sum_below-mul R x (suc p) (kernel_term x y p))) (sym (sum_below-mul R y (suc p) (λ k. kernel_term x y k p)))
-      ∙ sym (sum_below-add R (suc p) _ _)
-      ∙ sum_below-congruence R (suc p) _ _ (λ l h. one l)
+  -- (x + y)^n = C(n, 0) y^n + .. + C(n, n) x^n
+  pub binomial_theorem : (x y : R.carrier) (n : ℕ) → pow R (R.add x y) n ≡ sum_below R (suc n) (binomial_term x y n)
+  binomial_theorem x y zero = ring1 R x (λ x. search quotes depth 9) tt
+  binomial_theorem x y (suc n) =
+      ap (R.mul (R.add x y)) (binomial_theorem x y n)
+      ∙ ring3 R x y (sum_below R (suc n) (binomial_term x y n)) (λ x y s. search quotes depth 9) tt
+      ∙ ap (R.add (R.mul x (sum_below R (suc n) (binomial_term x y n)))) lower
+      ∙ ring4 R (R.mul x (sum_below R (suc n) (binomial_term x y n))) (pow R y (suc n)) (sum_below R (suc n) (λ k. second k)) (R.of_int (pos 0)) (λ a b c d. search quotes depth 9) tt
+      ∙ ap (λ s. R.add (R.add s (sum_below R (suc n) (λ k. second k))) (pow R y (suc n))) (sym (sum_below-mul R x (suc n) (binomial_term x y n)))
+      ∙ ap (λ s. R.add s (pow R y (suc n))) (sym (sum_below-add R (suc n) _ _) ∙ sum_below-congruence R (suc n) _ _ (λ k h. pascal k))
+      ∙ R.add_comm _ _
+      ∙ ap (λ s. R.add s (sum_below R (suc n) (λ k. binomial_term x y (suc n) (suc k)))) (first_term ∙ ap (λ m. R.mul (R.of_int (pos 1)) (R.mul (R.of_int (pos 1)) (pow R y m))) all_rest)
+      ∙ sym (sum_below-first R (suc n) (binomial_term x y (suc n)))
     where
-      one : (l : ℕ) → R.add (R.mul x (kernel_term x y p l)) (R.mul y (kernel_term x y l p))
-          ≡ R.mul (R.of_int (pos (choose (p + l) l))) (R.add (R.mul (pow R x (suc p)) (pow R y l)) (R.mul (pow R y (suc p)) (pow R x l)))
-      one l =
-          ap₂ (λ b c. R.add (R.mul x (R.mul b (R.mul (pow R x p) (pow R y l)))) (R.mul y (R.mul c (R.mul (pow R x l) (pow R y p)))))
-          (ap (λ n. R.of_int (pos n)) (choose-symmetric (p + l) p l refl))
-          (ap (λ n. R.of_int (pos (choose n l))) {x = l + p} {y = p + l} (omega arith))
-          ∙ ring7 R x y (pow R x p) (pow R y l) (pow R x l) (pow R y p) (R.of_int (pos (choose (p + l) l))) (λ x y a b c d n. search quotes depth 12) tt
+      -- C(n, k + 1) x^(k + 1) y^(n - k)
+      second : ℕ → R.carrier
+      second k = R.mul (R.of_int (pos (choose n (suc k)))) (R.mul (R.mul x (pow R x k)) (pow R y (n - k)))
+
+      same_rest : (k : ℕ) → n - k ≡ suc n - suc k
+      same_rest k = omega arith
+
+      less_one : (k : ℕ) → k < n → n - k ≡ suc (n - suc k)
+      less_one k h = omega arith
+
+      all_rest : suc n ≡ suc n - 0
+      all_rest = omega arith
+
+      first_term : pow R y (suc n) ≡ R.mul (R.of_int (pos 1)) (R.mul (R.of_int (pos 1)) (pow R y (suc n)))
+      first_term = ring2 R y (pow R y n) (λ y p. search quotes depth 9) tt
+
+      none_less : n ≡ n - 0
+      none_less = omega arith
+
+      pascal : (k : ℕ) → R.add (R.mul x (binomial_term x y n k)) (second k) ≡ binomial_term x y (suc n) (suc k)
+      pascal k =
+          ring5 R x (pow R x k) (pow R y (n - k)) (R.of_int (pos (choose n k))) (R.of_int (pos (choose n (suc k)))) (λ x p q b c. search quotes depth 12) tt
+          ∙ ap₂ (λ b m. R.mul b (R.mul (R.mul x (pow R x k)) (pow R y m))) (sym (R.of_int-add (pos (choose n k)) (pos (choose n (suc k))))) (same_rest k)
+
+      last_zero : second n ≡ R.of_int (pos 0)
+      last_zero = ap (λ c. R.mul (R.of_int (pos c)) (R.mul (R.mul x (pow R x n)) (pow R y (n - n)))) (choose-above n (suc n) (omega arith)) ∙ ring3 R x (pow R x n) (pow R y (n - n)) (λ a b c. search quotes depth 9) tt
+
+      lower : R.mul y (sum_below R (suc n) (binomial_term x y n)) ≡ R.add (pow R y (suc n)) (sum_below R (suc n) (λ k. second k))
+      lower =
+          ap (R.mul y) (sum_below-first R n (binomial_term x y n)) ∙ R.mul_add y _ _
+          ∙ ap₂ R.add
+          (ap (λ m. R.mul y (R.mul (R.of_int (pos 1)) (R.mul (R.of_int (pos 1)) (pow R y m)))) (sym none_less) ∙ ring2 R y (pow R y n) (λ y p. search quotes depth 9) tt)
+          (sym (sum_below-mul R y n _) ∙ sum_below-congruence R n _ _ (λ k h.
+          ring4 R y (R.of_int (pos (choose n (suc k)))) (pow R x (suc k)) (pow R y (n - suc k)) (λ y c p q. search quotes depth 9) tt
+          ∙ ap (λ m. R.mul (R.of_int (pos (choose n (suc k)))) (R.mul (pow R x (suc k)) (pow R y m))) (sym (less_one k h)))
+          ∙ sym (ap (R.add (sum_below R n second)) last_zero ∙ R.add_zero _))

@@ -7,12 +7,14 @@ use Rattle.exact_math.proofs.QuadraticExtension.{Pair, same_pair, complex_ring}
 use Rattle.exact_math.proofs.Rationals.{ℚ, rational_ring, of_int, ◌+ℚ◌, ◌*ℚ◌, ◌-ℚ◌, neg_ℚ, inverse, ◌<ℚ◌}
 use Rattle.exact_math.proofs.RationalOrder.{inverse_right}
 
+-- re + i im, with rational parts
 abbrev pub ℂ : Type 0
 ℂ = Pair rational_ring
 
 abbrev C : CommutativeRing
 C = complex_ring rational_ring
 
+-- x + i y
 abbrev pub complex : ℚ → ℚ → ℂ
 complex x y = record { re = x; im = y }
 
@@ -74,6 +76,7 @@ pub of_int_ℂ-mul : (a b : ℤ) → of_int_ℂ (a *ℤ b) ≡ of_int_ℂ a *ℂ
 unfolding ◌*ℂ◌ of_int_ℂ
 of_int_ℂ-mul = C.of_int-mul
 
+-- the ring of complex numbers with rational parts, where `ring` and `combine` work
 abbrev pub complex_rationals : CommutativeRing
 complex_rationals = record {
   carrier = ℂ;
@@ -98,16 +101,19 @@ pub parts-add : (z w : ℂ) → z +ℂ w ≡ complex (z.re +ℚ w.re) (z.im +ℚ
 unfolding ◌+ℂ◌
 parts-add z w = refl
 
+-- the parts of -z
 pub parts-neg : (z : ℂ) → neg_ℂ z ≡ complex (neg_ℚ z.re) (neg_ℚ z.im)
 unfolding neg_ℂ
 parts-neg z = refl
 
+-- the parts of z w
 pub parts-mul : (z w : ℂ) → z *ℂ w ≡ complex (z.re *ℚ w.re -ℚ z.im *ℚ w.im) (z.re *ℚ w.im +ℚ z.im *ℚ w.re)
 unfolding ◌*ℂ◌
 parts-mul z w = same_pair rational_ring _ _
     (ring4 rational_ring z.re z.im w.re w.im (λ a b c d. search quotes depth 12) tt)
     (ring4 rational_ring z.re z.im w.re w.im (λ a b c d. search quotes depth 12) tt)
 
+-- the parts of a whole number
 pub parts-int : (k : ℤ) → of_int_ℂ k ≡ complex (of_int k) (of_int (pos 0))
 unfolding of_int_ℂ
 parts-int k = refl
@@ -116,38 +122,47 @@ parts-int k = refl
 abbrev pub conjugate : ℂ → ℂ
 conjugate z = complex z.re (neg_ℚ z.im)
 
+-- re^2 + im^2
 abbrev pub norm : ℂ → ℚ
 norm z = z.re *ℚ z.re +ℚ z.im *ℚ z.im
 
+-- q + 0 i
 abbrev pub real : ℚ → ℂ
 real q = complex q (of_int (pos 0))
 
+-- the norm of a product is the product of the norms
 pub norm-mul : (z w : ℂ) → norm (z *ℂ w) ≡ norm z *ℚ norm w
 norm-mul z w = ap norm (parts-mul z w) ∙ ring4 rational_ring z.re z.im w.re w.im (λ a b c d. search quotes depth 12) tt
 
+-- z times its conjugate is its norm
 pub times_conjugate : (z : ℂ) → z *ℂ conjugate z ≡ real (norm z)
 times_conjugate z = parts-mul z (conjugate z) ∙ same_pair rational_ring _ _
     (ring2 rational_ring z.re z.im (λ a b. search quotes depth 12) tt)
     (ring2 rational_ring z.re z.im (λ a b. search quotes depth 12) tt)
 
+-- products of real numbers
 pub real-mul : (p q : ℚ) → real p *ℂ real q ≡ real (p *ℚ q)
 real-mul p q = parts-mul _ _ ∙ same_pair rational_ring _ _
     (ring2 rational_ring p q (λ a b. search quotes depth 12) tt)
     (ring2 rational_ring p q (λ a b. search quotes depth 12) tt)
 
+-- 1/z, as the conjugate over the norm; 0 for 0
 pub inverse_ℂ : ℂ → ℂ
 inverse_ℂ z = conjugate z *ℂ real (inverse (norm z))
 
+-- what 1/z is
 pub inverse_ℂ-is : (z : ℂ) → inverse_ℂ z ≡ conjugate z *ℂ real (inverse (norm z))
 unfolding inverse_ℂ
 inverse_ℂ-is z = refl
 
+-- the parts of 1/z
 pub parts-inverse : (z : ℂ) → inverse_ℂ z ≡ complex (z.re *ℚ inverse (norm z)) (neg_ℚ z.im *ℚ inverse (norm z))
 unfolding inverse_ℂ
 parts-inverse z = parts-mul _ _ ∙ same_pair rational_ring _ _
     (ring3 rational_ring z.re z.im (inverse (norm z)) (λ a b c. search quotes depth 12) tt)
     (ring3 rational_ring z.re z.im (inverse (norm z)) (λ a b c. search quotes depth 12) tt)
 
+-- z (1/z) = 1, for z other than 0
 pub *ℂ-inverse : (z : ℂ) → of_int (pos 0) <ℚ norm z → z *ℂ inverse_ℂ z ≡ of_int_ℂ (pos 1)
 unfolding inverse_ℂ
 *ℂ-inverse z h =

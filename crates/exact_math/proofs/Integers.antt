@@ -19,6 +19,7 @@ pub ≤-trans : {a b c : ℤ} → a ≤ℤ b → b ≤ℤ c → a ≤ℤ c
 pub ≤-antisym : {a b : ℤ} → a ≤ℤ b → b ≤ℤ a → a ≡ b
 ≤-antisym h k = omega (arith, ints)
 
+-- what is not at most b is at least b
 pub ≤-total : (a b : ℤ) → ¬ (a ≤ℤ b) → b ≤ℤ a
 ≤-total a b n = case (le_z a b) refl
   where
@@ -29,17 +30,20 @@ pub ≤-total : (a b : ℤ) → ¬ (a ≤ℤ b) → b ≤ℤ a
 pub ≤-from_< : {a b : ℤ} → a <ℤ b → a ≤ℤ b
 ≤-from_< h = omega (arith, ints)
 
+-- sums of inequalities
 pub +-mono : {a b c d : ℤ} → a ≤ℤ b → c ≤ℤ d → (a +ℤ c) ≤ℤ (b +ℤ d)
 +-mono h k = omega (arith, ints)
 
 pub *-comm : (a b : ℤ) → a *ℤ b ≡ b *ℤ a
 *-comm a b = omega (arith, ints)
 
+-- 0 <= a b
 pub *-nonneg : (a b : ℤ) → pos 0 ≤ℤ a → pos 0 ≤ℤ b → pos 0 ≤ℤ (a *ℤ b)
 *-nonneg (pos a) (pos b) h k = omega (arith, ints)
 *-nonneg (pos a) (negsuc b) h k = absurd (omega (arith, ints))
 *-nonneg (negsuc a) b h k = absurd (omega (arith, ints))
 
+-- 0 < a b
 pub *-positive : (a b : ℤ) → pos 0 <ℤ a → pos 0 <ℤ b → pos 0 <ℤ (a *ℤ b)
 *-positive (pos zero) b h k = absurd (omega (arith, ints))
 *-positive (pos (suc a)) (pos zero) h k = absurd (omega (arith, ints))
@@ -47,6 +51,7 @@ pub *-positive : (a b : ℤ) → pos 0 <ℤ a → pos 0 <ℤ b → pos 0 <ℤ (a
 *-positive (pos (suc a)) (negsuc b) h k = absurd (omega (arith, ints))
 *-positive (negsuc a) b h k = absurd (omega (arith, ints))
 
+-- c a <= c b from a <= b, where c is at least 0
 pub *-mono_left : (c a b : ℤ) → pos 0 ≤ℤ c → a ≤ℤ b → (c *ℤ a) ≤ℤ (c *ℤ b)
 *-mono_left c a b h k =
     let d : pos 0 ≤ℤ (c *ℤ (b -ℤ a)) = *-nonneg c (b -ℤ a) h (omega (arith, ints)) in
@@ -57,6 +62,7 @@ pub *-mono_left : (c a b : ℤ) → pos 0 ≤ℤ c → a ≤ℤ b → (c *ℤ a)
 nat_cancel : (c a b : ℕ) → suc c * a ≤ suc c * b → a ≤ b
 nat_cancel c a b h = le_of_mul-le-mul_left h (zero-lt-suc c)
 
+-- a <= b from c a <= c b, where c is above 0
 pub *-cancel_≤ : (c a b : ℤ) → pos 0 <ℤ c → (c *ℤ a) ≤ℤ (c *ℤ b) → a ≤ℤ b
 *-cancel_≤ (pos zero) a b h k = absurd (omega (arith, ints))
 *-cancel_≤ (negsuc c) a b h k = absurd (omega (arith, ints))
@@ -71,5 +77,6 @@ pub *-cancel_≤ : (c a b : ℤ) → pos 0 <ℤ c → (c *ℤ a) ≤ℤ (c *ℤ 
     let m = nat_cancel c (suc b) (suc a) n in
     omega (arith, ints)
 
+-- a = b from c a = c b, where c is above 0
 pub *-cancel : (c a b : ℤ) → pos 0 <ℤ c → c *ℤ a ≡ c *ℤ b → a ≡ b
 *-cancel c a b h e = ≤-antisym (*-cancel_≤ c a b h (omega (arith, ints))) (*-cancel_≤ c b a h (omega (arith, ints)))

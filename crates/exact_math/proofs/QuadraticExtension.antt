@@ -9,15 +9,18 @@ use Rattle.exact_math.proofs.RingTactic.{quotes, ring1, ring2, ring3, ring5, rin
 use Rattle.exact_math.proofs.Sums.{sum_below, sum_list}
 use mathlib.Core.List.{List, [], ◌∷◌}
 
+-- re + im t
 pub record Pair (R : CommutativeRing) : Type 0 where
   pub re : R.carrier
   pub im : R.carrier
 
 module _ (R : CommutativeRing) where
+  -- equal where both parts are
   pub same_pair : (p q : Pair R) → p.re ≡ q.re → p.im ≡ q.im → p ≡ q
   same_pair p q e f = λ i. record { re = e i; im = f i }
 
   module _ (c : R.carrier) where
+    -- the product, by t^2 = c
     abbrev pub mul_pair : Pair R → Pair R → Pair R
     mul_pair p q = record {
       re = R.add (R.mul p.re q.re) (R.mul c (R.mul p.im q.im));
@@ -73,6 +76,7 @@ module _ (R : CommutativeRing) where
         (R.of_int-mul a b ∙ ring3 R c (R.of_int a) (R.of_int b) (λ c a b. search quotes depth 12) tt)
         (ring2 R (R.of_int a) (R.of_int b) (λ a b. search quotes depth 12) tt)
 
+    -- the ring of these pairs
     abbrev pub quadratic_ring : CommutativeRing
     quadratic_ring = record {
       carrier = Pair R;
@@ -97,13 +101,16 @@ module _ (R : CommutativeRing) where
     sum_below-pair zero f = refl
     sum_below-pair (suc n) f = ap (λ s. add_pair s (f n)) (sum_below-pair n f)
 
+    -- the same over a list
     pub sum_list-pair : {A : Type 0} (f : A → Pair R) (xs : List A) → sum_list quadratic_ring f xs ≡ record { re = sum_list R (λ x. (f x).re) xs; im = sum_list R (λ x. (f x).im) xs }
     sum_list-pair f [] = refl
     sum_list-pair f (x ∷ xs) = ap (add_pair (f x)) (sum_list-pair f xs)
 
+  -- t^2 = -1
   abbrev pub complex_ring : CommutativeRing
   complex_ring = quadratic_ring (R.of_int (negsuc 0))
 
+  -- t^2 = 0
   abbrev pub dual_ring : CommutativeRing
   dual_ring = quadratic_ring (R.of_int (pos 0))
 
@@ -112,6 +119,7 @@ module _ (R : CommutativeRing) where
   pow_slope x zero = R.of_int (pos 0)
   pow_slope x (suc k) = R.mul (R.of_int (pos (suc k))) (pow R x k)
 
+  -- n + 1
   pub of_int-suc : (n : ℕ) → R.of_int (pos (suc n)) ≡ R.add (R.of_int (pos n)) (R.of_int (pos 1))
   of_int-suc n = ap (λ m. R.of_int (pos m)) {x = suc n} {y = n + 1} (omega arith) ∙ R.of_int-add (pos n) (pos 1)
 
@@ -121,12 +129,14 @@ module _ (R : CommutativeRing) where
       ring3 R x (pow R x k) (R.of_int (pos (suc k))) (λ x p n. search quotes depth 9) tt
       ∙ ap (λ n. R.mul n (R.mul x (pow R x k))) (sym (of_int-suc (suc k)))
 
+  -- the power of x + t holds x^k and its derivative
   pub pow-dual : (x : R.carrier) (k : ℕ) → pow dual_ring (record { re = x; im = R.of_int (pos 1) }) k ≡ record { re = pow R x k; im = pow_slope x k }
   pow-dual x zero = same_pair _ _ refl (ring1 R x (λ x. search quotes depth 9) tt)
   pow-dual x (suc k) =
       ap (mul_pair (R.of_int (pos 0)) (record { re = x; im = R.of_int (pos 1) })) (pow-dual x k)
       ∙ same_pair _ _ (ring3 R x (pow R x k) (pow_slope x k) (λ x p q. search quotes depth 9) tt) (slope-suc x k)
 
+  -- the power of a constant holds no derivative
   pub pow-dual_constant : (x : R.carrier) (k : ℕ) → pow dual_ring (record { re = x; im = R.of_int (pos 0) }) k ≡ record { re = pow R x k; im = R.of_int (pos 0) }
   pow-dual_constant x zero = refl
   pow-dual_constant x (suc k) = ap (mul_pair (R.of_int (pos 0)) (record { re = x; im = R.of_int (pos 0) })) (pow-dual_constant x k)

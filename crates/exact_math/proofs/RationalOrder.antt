@@ -15,27 +15,34 @@ use Rattle.exact_math.proofs.RingTactic.{quotes, combine, ring1, ring2, ring3, r
 use Rattle.exact_math.proofs.Sums.{sum_below, sum_list}
 use Rattle.exact_math.proofs.Rationals.{ℚ, ℚ-set, rational_ring, of_int, ◌+ℚ◌, ◌*ℚ◌, ◌-ℚ◌, neg_ℚ, inverse, *ℚ-inverse, ◌≤ℚ◌, ◌<ℚ◌, ≤ℚ-prop, ≤ℚ-refl, ≤ℚ-trans, ≤ℚ-antisym, ≤ℚ-total, +ℚ-mono_right, *ℚ-nonneg, of_int-≤, not_≤ℚ, <ℚ-from_not, compare_ℚ, +ℚ_comm, +ℚ-zero, +ℚ-neg, of_int-add, of_int-mul}
 
+-- a whole number as a rational one
 abbrev pub int : ℤ → ℚ
 int k = of_int k
 
+-- p <= q from p = q
 pub le_equal : {p q : ℚ} → p ≡ q → p ≤ℚ q
 le_equal {p} e = subst (λ q. p ≤ℚ q) e (≤ℚ-refl p)
 
+-- sums of inequalities
 pub add_mono : {a b c d : ℚ} → a ≤ℚ b → c ≤ℚ d → a +ℚ c ≤ℚ b +ℚ d
 add_mono {a} {b} {c} {d} h k = ≤ℚ-trans _ _ _ (+ℚ-mono_right a b c h) (subst₂ (λ p q. p ≤ℚ q) (+ℚ_comm c b) (+ℚ_comm d b) (+ℚ-mono_right c d b k))
 
+-- the same number on both sides cancels
 pub cancel_add : (c : ℚ) {p q : ℚ} → p +ℚ c ≤ℚ q +ℚ c → p ≤ℚ q
 cancel_add c {p} {q} h = subst₂ (λ p q. p ≤ℚ q) (back p) (back q) (+ℚ-mono_right _ _ (neg_ℚ c) h)
   where
     back : (p : ℚ) → p +ℚ c +ℚ neg_ℚ c ≡ p
     back p = ring2 rational_ring p c (λ p c. search quotes depth 9) tt
 
+-- 0 <= q - p from p <= q
 pub difference_nonneg : {p q : ℚ} → p ≤ℚ q → of_int (pos 0) ≤ℚ q -ℚ p
 difference_nonneg {p} {q} h = subst (λ z. z ≤ℚ q -ℚ p) (+ℚ-neg p) (+ℚ-mono_right p q (neg_ℚ p) h)
 
+-- and back
 pub from_difference : {p q : ℚ} → of_int (pos 0) ≤ℚ q -ℚ p → p ≤ℚ q
 from_difference {p} {q} h = subst₂ (λ a b. a ≤ℚ b) (ring1 rational_ring p (λ p. search quotes depth 9) tt) (ring2 rational_ring p q (λ p q. search quotes depth 9) tt) (+ℚ-mono_right _ _ p h)
 
+-- c a <= c b from a <= b, where c is at least 0
 pub mul_mono : (c : ℚ) {a b : ℚ} → of_int (pos 0) ≤ℚ c → a ≤ℚ b → c *ℚ a ≤ℚ c *ℚ b
 mul_mono c {a} {b} h k = from_difference (subst (λ z. of_int (pos 0) ≤ℚ z) (ring3 rational_ring a b c (λ a b c. search quotes depth 9) tt) (*ℚ-nonneg c (b -ℚ a) h (difference_nonneg k)))
 
@@ -51,21 +58,26 @@ rearrange {a} {b} {p} {q} h e = cancel_add b (subst (λ z. z ≤ℚ q +ℚ b) e 
 pub nonneg_add : (p q : ℚ) → of_int (pos 0) ≤ℚ p → of_int (pos 0) ≤ℚ q → of_int (pos 0) ≤ℚ p +ℚ q
 nonneg_add p q h k = subst (λ z. z ≤ℚ p +ℚ q) (+ℚ-zero _) (add_mono h k)
 
+-- 0 <= n
 pub nonneg_int : (n : ℕ) → of_int (pos 0) ≤ℚ of_int (pos n)
 nonneg_int n = (of_int-≤ _ _).1 (omega (arith, ints))
 
+-- 0 <= p^n
 pub nonneg_pow : (p : ℚ) (n : ℕ) → of_int (pos 0) ≤ℚ p → of_int (pos 0) ≤ℚ pow rational_ring p n
 nonneg_pow p zero h = nonneg_int 1
 nonneg_pow p (suc n) h = *ℚ-nonneg p _ h (nonneg_pow p n h)
 
+-- 0 <= a sum of such terms
 pub nonneg_sum_below : (n : ℕ) (f : ℕ → ℚ) → ((k : ℕ) → of_int (pos 0) ≤ℚ f k) → of_int (pos 0) ≤ℚ sum_below rational_ring n f
 nonneg_sum_below zero f h = ≤ℚ-refl _
 nonneg_sum_below (suc n) f h = nonneg_add _ _ (nonneg_sum_below n f h) (h n)
 
+-- sums of inequalities, term by term
 pub sum_below_mono : (n : ℕ) (f g : ℕ → ℚ) → ((k : ℕ) → k < n → f k ≤ℚ g k) → sum_below rational_ring n f ≤ℚ sum_below rational_ring n g
 sum_below_mono zero f g h = ≤ℚ-refl _
 sum_below_mono (suc n) f g h = add_mono (sum_below_mono n f g (λ k l. h k (omega arith))) (h n (omega arith))
 
+-- the same over a list
 pub sum_list_mono : {A : Type 0} (f g : A → ℚ) (xs : List A) → ((x : A) → f x ≤ℚ g x) → sum_list rational_ring f xs ≤ℚ sum_list rational_ring g xs
 sum_list_mono f g [] h = ≤ℚ-refl _
 sum_list_mono f g (x ∷ xs) h = add_mono (h x) (sum_list_mono f g xs h)
@@ -76,18 +88,23 @@ pub ruleset nonneg = (nonneg_add, *ℚ-nonneg, nonneg_int, nonneg_pow, nonneg_su
 pub ≤-from_< : {p q : ℚ} → p <ℚ q → p ≤ℚ q
 ≤-from_< {p} {q} h = ≤ℚ-total q p (not_≤ℚ p q h)
 
+-- the order of whole numbers
 pub int-< : (a b : ℤ) → a <ℤ b → of_int a <ℚ of_int b
 int-< a b h = <ℚ-from_not _ _ (λ k. let l = (of_int-≤ b a).0 k in omega (arith, ints))
 
+-- what is greater is not equal
 pub not_equal : {p q : ℚ} → p <ℚ q → ¬ (q ≡ p)
 not_equal {p} {q} h e = not_≤ℚ p q h (le_equal e)
 
+-- p (1/p) = 1, where p is above 0
 pub inverse_right : (p : ℚ) → of_int (pos 0) <ℚ p → p *ℚ inverse p ≡ of_int (pos 1)
 inverse_right p h = *ℚ-inverse p (not_equal h)
 
+-- 0 <= -p, where p is at most 0
 pub negative : {p : ℚ} → p ≤ℚ of_int (pos 0) → of_int (pos 0) ≤ℚ neg_ℚ p
 negative {p} h = subst (λ z. of_int (pos 0) ≤ℚ z) (ring1 rational_ring p (λ p. search quotes depth 9) tt) (difference_nonneg h)
 
+-- 0 <= p^2
 pub square_nonneg : (p : ℚ) → of_int (pos 0) ≤ℚ p *ℚ p
 square_nonneg p = ⊎_elim (λ h. *ℚ-nonneg p p h h)
     (λ h. let k = negative (≤-from_< h) in subst (λ z. of_int (pos 0) ≤ℚ z) (ring1 rational_ring p (λ p. search quotes depth 9) tt) (*ℚ-nonneg (neg_ℚ p) (neg_ℚ p) k k))
@@ -102,11 +119,13 @@ inverse_positive p h = <ℚ-from_not _ _ (λ k.
     let n : pos 0 ≤ℤ negsuc 0 = (of_int-≤ (pos 0) (negsuc 0)).0 (subst (λ z. of_int (pos 0) ≤ℚ z) e m) in
     absurd (omega (arith, ints)))
 
+-- p q = 1 gives q = 1/p
 pub inverse_unique : (p q : ℚ) → of_int (pos 0) <ℚ p → p *ℚ q ≡ of_int (pos 1) → q ≡ inverse p
 inverse_unique p q h e =
     combine rational_ring (neg_ℚ q) (inverse_right p h)
     (combine rational_ring (inverse p) e (ring3 rational_ring p q (inverse p) (λ p q r. search quotes depth 12) tt))
 
+-- 0 < p q
 pub positive_mul : (p q : ℚ) → of_int (pos 0) <ℚ p → of_int (pos 0) <ℚ q → of_int (pos 0) <ℚ p *ℚ q
 positive_mul p q h k = <ℚ-from_not _ _ (λ l. not_≤ℚ _ _ k (not_above l))
   where
@@ -117,6 +136,7 @@ positive_mul p q h k = <ℚ-from_not _ _ (λ l. not_≤ℚ _ _ k (not_above l))
     not_above l = from_difference (subst (λ z. of_int (pos 0) ≤ℚ z) (cancels ∙ ring1 rational_ring q (λ q. search quotes depth 12) tt)
         (*ℚ-nonneg (inverse p) (neg_ℚ (p *ℚ q)) (≤-from_< (inverse_positive p h)) (negative l)))
 
+-- 1/(p q) = (1/p) (1/q)
 pub inverse-mul : (p q : ℚ) → of_int (pos 0) <ℚ p → of_int (pos 0) <ℚ q → inverse (p *ℚ q) ≡ inverse p *ℚ inverse q
 inverse-mul p q h k = sym (inverse_unique (p *ℚ q) _ (positive_mul p q h k)
     (combine rational_ring (q *ℚ inverse q) (inverse_right p h)
@@ -134,6 +154,7 @@ pub absolute : ℚ → ℚ
 absolute p = ⊎_elim (λ h. p) (λ h. neg_ℚ p) (compare_ℚ (of_int (pos 0)) p)
 
 module _ (X : ℚ → Type 0) (p : ℚ) where
+  -- by the two cases of |p|
   pub by_absolute : (of_int (pos 0) ≤ℚ p → X p) → (p ≤ℚ of_int (pos 0) → X (neg_ℚ p)) → X (absolute p)
   unfolding absolute
   by_absolute f g = case (compare_ℚ (of_int (pos 0)) p)
@@ -142,18 +163,23 @@ module _ (X : ℚ → Type 0) (p : ℚ) where
       case (inl h) = f h
       case (inr h) = g (≤-from_< h)
 
+-- 0 <= |p|
 pub absolute_nonneg : (p : ℚ) → of_int (pos 0) ≤ℚ absolute p
 absolute_nonneg p = by_absolute (λ z. of_int (pos 0) ≤ℚ z) p (λ h. h) negative
 
+-- p <= |p|
 pub le_absolute : (p : ℚ) → p ≤ℚ absolute p
 le_absolute p = by_absolute (λ z. p ≤ℚ z) p (λ h. ≤ℚ-refl p) (λ h. ≤ℚ-trans _ _ _ h (negative h))
 
+-- -p <= |p|
 pub neg_le_absolute : (p : ℚ) → neg_ℚ p ≤ℚ absolute p
 neg_le_absolute p = by_absolute (λ z. neg_ℚ p ≤ℚ z) p (λ h. ≤ℚ-trans _ _ _ (from_difference (subst (λ z. of_int (pos 0) ≤ℚ z) (ring1 rational_ring p (λ p. search quotes depth 9) tt) h)) h) (λ h. ≤ℚ-refl _)
 
+-- |p| <= r from p <= r and -p <= r
 pub absolute_le : (p r : ℚ) → p ≤ℚ r → neg_ℚ p ≤ℚ r → absolute p ≤ℚ r
 absolute_le p r h k = by_absolute (λ z. z ≤ℚ r) p (λ l. h) (λ l. k)
 
+-- |p + q| <= |p| + |q|
 pub absolute_add : (p q : ℚ) → absolute (p +ℚ q) ≤ℚ absolute p +ℚ absolute q
 absolute_add p q = absolute_le _ _ (add_mono (le_absolute p) (le_absolute q))
     (subst (λ z. z ≤ℚ absolute p +ℚ absolute q) (ring2 rational_ring p q (λ p q. search quotes depth 9) tt) (add_mono (neg_le_absolute p) (neg_le_absolute q)))
@@ -167,14 +193,17 @@ pub absolute_within : (p r : ℚ) → absolute p ≤ℚ r → (neg_ℚ r ≤ℚ 
 absolute_within p r h =
     (rearrange (≤ℚ-trans _ _ _ (neg_le_absolute p) h) (ring2 rational_ring p r (λ p r. search quotes depth 9) tt), ≤ℚ-trans _ _ _ (le_absolute p) h)
 
+-- |p| = p, where p is at least 0
 pub absolute_is : (p : ℚ) → of_int (pos 0) ≤ℚ p → absolute p ≡ p
 absolute_is p h = ≤ℚ-antisym _ _ (absolute_le p p (≤ℚ-refl p) (≤ℚ-trans _ _ _ (rearrange h (ring1 rational_ring p (λ p. search quotes depth 9) tt)) h)) (le_absolute p)
 
+-- |-p| = |p|
 pub absolute_neg : (p : ℚ) → absolute (neg_ℚ p) ≡ absolute p
 absolute_neg p = ≤ℚ-antisym _ _
     (absolute_le _ _ (neg_le_absolute p) (subst (λ z. z ≤ℚ absolute p) (ring1 rational_ring p (λ p. search quotes depth 9) tt) (le_absolute p)))
     (absolute_le _ _ (subst (λ z. z ≤ℚ absolute (neg_ℚ p)) (ring1 rational_ring p (λ p. search quotes depth 9) tt) (neg_le_absolute (neg_ℚ p))) (le_absolute (neg_ℚ p)))
 
+-- |p q| = |p| |q|
 pub absolute_mul : (p q : ℚ) → absolute (p *ℚ q) ≡ absolute p *ℚ absolute q
 absolute_mul p q = by_absolute (λ z. absolute (p *ℚ q) ≡ z *ℚ absolute q) p
     (λ h. by_absolute (λ w. absolute (p *ℚ q) ≡ p *ℚ w) q
@@ -184,18 +213,22 @@ absolute_mul p q = by_absolute (λ z. absolute (p *ℚ q) ≡ z *ℚ absolute q)
     (λ k. sym (absolute_neg _) ∙ ap absolute (ring2 rational_ring p q (λ p q. search quotes depth 9) tt) ∙ absolute_is _ (*ℚ-nonneg (neg_ℚ p) q (negative h) k))
     (λ k. ap absolute (ring2 rational_ring p q (λ p q. search quotes depth 9) tt) ∙ absolute_is _ (*ℚ-nonneg (neg_ℚ p) (neg_ℚ q) (negative h) (negative k))))
 
+-- the size of a sum is at most the sum of the sizes
 pub absolute_sum_below : (n : ℕ) (f : ℕ → ℚ) → absolute (sum_below rational_ring n f) ≤ℚ sum_below rational_ring n (λ k. absolute (f k))
 absolute_sum_below zero f = le_equal (absolute_is _ (≤ℚ-refl _))
 absolute_sum_below (suc n) f = ≤ℚ-trans _ _ _ (absolute_add _ _) (add_mono (absolute_sum_below n f) (≤ℚ-refl _))
 
+-- the same over a list
 pub absolute_sum_list : {A : Type 0} (f : A → ℚ) (xs : List A) → absolute (sum_list rational_ring f xs) ≤ℚ sum_list rational_ring (λ x. absolute (f x)) xs
 absolute_sum_list f [] = le_equal (absolute_is _ (≤ℚ-refl _))
 absolute_sum_list f (x ∷ xs) = ≤ℚ-trans _ _ _ (absolute_add _ _) (add_mono (≤ℚ-refl _) (absolute_sum_list f xs))
 
+-- a c <= b d from a <= b and c <= d, all at least 0
 pub mul_mono_both : {a b c d : ℚ} → of_int (pos 0) ≤ℚ a → a ≤ℚ b → of_int (pos 0) ≤ℚ c → c ≤ℚ d → a *ℚ c ≤ℚ b *ℚ d
 mul_mono_both {a} {b} {c} {d} a≥0 h c≥0 k = ≤ℚ-trans _ _ _ (mul_mono a a≥0 k) (subst₂ (λ p q. p ≤ℚ q)
     (ring2 rational_ring a d (λ a d. search quotes depth 9) tt) (ring2 rational_ring b d (λ b d. search quotes depth 9) tt) (mul_mono d (≤ℚ-trans _ _ _ c≥0 k) h))
 
+-- a^n <= b^n from a <= b, both at least 0
 pub pow_mono : (a b : ℚ) (n : ℕ) → of_int (pos 0) ≤ℚ a → a ≤ℚ b → pow rational_ring a n ≤ℚ pow rational_ring b n
 pow_mono a b zero h k = ≤ℚ-refl _
 pow_mono a b (suc n) h k = mul_mono_both h k (nonneg_pow a n h) (pow_mono a b n h k)

@@ -13,14 +13,17 @@ use Rattle.exact_math.proofs.Ring.{CommutativeRing, int_ring, *ℤ-1}
 use Rattle.exact_math.proofs.RingTactic.{int_quotes, combine, ring1, ring2, ring3, ring4, ring5, ring6}
 use Rattle.exact_math.proofs.Integers.{*-positive, *-cancel_≤, *-cancel, *-mono_left, *-nonneg, +-mono, ≤-refl, ≤-trans, ≤-antisym, ≤-total, ≤-from_<}
 
+-- a fraction with a denominator above 0
 pub record Fraction : Type 0 where
   pub numerator : ℤ
   pub denominator : ℤ
   pub positive : pos 0 <ℤ denominator
 
+-- equal by cross multiplication
 abbrev pub Equal : Fraction → Fraction → Type 0
 Equal x y = x.numerator *ℤ y.denominator ≡ y.numerator *ℤ x.denominator
 
+-- fractions up to equality of values
 pub ℚ : Type 0
 ℚ = Quot Equal
 
@@ -28,14 +31,17 @@ pub ℚ-set : IsSet ℚ
 unfolding ℚ
 ℚ-set = Quot-set
 
+-- the number of a fraction
 pub fraction : Fraction → ℚ
 unfolding ℚ
 fraction x = mk x
 
+-- equal fractions have one number
 pub same_fraction : (x y : Fraction) → Equal x y → fraction x ≡ fraction y
 unfolding ℚ fraction
 same_fraction x y h = sound h
 
+-- what holds of all fractions holds of all rational numbers
 pub by_fraction : (P : ℚ → Type 0) → ((q : ℚ) → IsProp (P q)) → ((x : Fraction) → P (fraction x)) → (q : ℚ) → P q
 unfolding ℚ fraction
 by_fraction P c h q = ind c h q
@@ -109,6 +115,7 @@ pub neg_ℚ : ℚ → ℚ
 unfolding ℚ
 neg_ℚ q = lift Quot-set (λ x. mk (neg_fraction x)) (λ x y h. sound (neg_same x.numerator x.denominator y.numerator y.denominator h)) q
 
+-- a whole number
 pub of_int : ℤ → ℚ
 of_int k = fraction (whole k)
 
@@ -187,6 +194,7 @@ of_int-add a b = simp (of_int-fraction, +ℚ-fraction) (same_fraction _ _ (ring2
 pub of_int-mul : (a b : ℤ) → of_int (a *ℤ b) ≡ of_int a *ℚ of_int b
 of_int-mul a b = simp (of_int-fraction, *ℚ-fraction) (same_fraction _ _ (ring2 int_ring a b (λ a b. search int_quotes depth 12) tt))
 
+-- the ring of rational numbers, where `ring` and `combine` work
 abbrev pub rational_ring : CommutativeRing
 rational_ring = record {
   carrier = ℚ;
@@ -263,6 +271,7 @@ pub ≤ℚ-prop : (p q : ℚ) → IsProp (p ≤ℚ q)
 pub <ℚ-prop : (p q : ℚ) → IsProp (p <ℚ q)
 <ℚ-prop p q = hlevel T_prop
 
+-- the order, by cross multiplication
 pub ≤ℚ-fraction : (x y : Fraction) → (fraction x ≤ℚ fraction y) ↔ ((x.numerator *ℤ y.denominator) ≤ℤ (y.numerator *ℤ x.denominator))
 unfolding ℚ fraction le_from le_test
 ≤ℚ-fraction x y = (λ h. record { le = h.passes }, λ h. record { passes = h.le })
@@ -273,6 +282,7 @@ pub <ℚ-from_not : (p q : ℚ) → ¬ (q ≤ℚ p) → p <ℚ q
 pub not_≤ℚ : (p q : ℚ) → p <ℚ q → ¬ (q ≤ℚ p)
 not_≤ℚ p q h k = T_not _ h.fails k.passes
 
+-- either p <= q or q < p
 pub compare_ℚ : (p q : ℚ) → (p ≤ℚ q) ⊎ (q <ℚ p)
 compare_ℚ p q = case (le_test p q) refl
   where
@@ -329,6 +339,7 @@ pub *ℚ-nonneg : (p q : ℚ) → of_int (pos 0) ≤ℚ p → of_int (pos 0) ≤
 *ℚ-nonneg = by_fractions₂ (λ p q. of_int (pos 0) ≤ℚ p → of_int (pos 0) ≤ℚ q → of_int (pos 0) ≤ℚ p *ℚ q) (λ p q. hlevel ≤ℚ-prop) (λ x y h k.
     simp (of_int-fraction, *ℚ-fraction) ((≤ℚ-fraction _ _).1 (nonneg_out (N x *ℤ N y) (D x *ℤ D y) (*-nonneg (N x) (N y) (nonneg_in x h) (nonneg_in y k)))))
 
+-- the order of whole numbers
 pub of_int-≤ : (a b : ℤ) → (of_int a ≤ℚ of_int b) ↔ (a ≤ℤ b)
 of_int-≤ a b = simp of_int-fraction (λ h. subst₂ (λ x y. x ≤ℤ y) (*ℤ-1 a) (*ℤ-1 b) ((≤ℚ-fraction (whole a) (whole b)).0 h), λ h. (≤ℚ-fraction (whole a) (whole b)).1 (subst₂ (λ x y. x ≤ℤ y) (sym (*ℤ-1 a)) (sym (*ℤ-1 b)) h))
 
@@ -358,6 +369,7 @@ inverse_same (negsuc a) d (pos zero) e p q h = let z = no_zero (negsuc a) e d q 
 inverse_same (negsuc a) d (pos (suc b)) e p q h = swapped (negsuc a) d (pos (suc b)) e h
 inverse_same (negsuc a) d (negsuc b) e p q h = swapped (negsuc a) d (negsuc b) e h
 
+-- 1/q, and 0 for 0
 pub inverse : ℚ → ℚ
 unfolding ℚ
 inverse q = lift {0, 0, 0} {r = Equal} (Quot-set {r = Equal}) (λ x. mk (inverse_fraction x.numerator x.denominator))
@@ -379,6 +391,7 @@ inverse_by (pos zero) d p n = absurd (n refl)
 inverse_by (pos (suc a)) d p n = times_inverse (pos (suc a)) d
 inverse_by (negsuc a) d p n = times_inverse (negsuc a) d
 
+-- q (1/q) = 1, for q other than 0
 pub *ℚ-inverse : (p : ℚ) → ¬ (p ≡ of_int (pos 0)) → p *ℚ inverse p ≡ of_int (pos 1)
 *ℚ-inverse = by_fraction (λ p. ¬ (p ≡ of_int (pos 0)) → p *ℚ inverse p ≡ of_int (pos 1)) (λ p. hlevel ℚ-set) (λ x n.
     simp (of_int-fraction, inverse-fraction, *ℚ-fraction) (same_fraction _ _ (inverse_by (N x) (D x) x.positive (λ z. n (zero_fraction x z)))))

@@ -70,6 +70,7 @@ abbrev is_zero : (n : ℕ) → Polynomial n → Bool
 is_zero zero k = is_zero_int k
 is_zero (suc n) p = all_list (is_zero n) p
 
+-- the normal form of an expression in n variables
 abbrev pub normalise : (n : ℕ) → Expr → Polynomial n
 normalise n (var i) = variable n i
 normalise n (lit k) = constant n k
@@ -79,9 +80,11 @@ normalise n (times a b) = mul_poly n (normalise n a) (normalise n b)
 normalise n (negate a) = mul_poly n (constant n (negsuc 0)) (normalise n a)
 normalise n (power a k) = pow_poly n (normalise n a) k
 
+-- two expressions have one normal form
 abbrev pub Same : ℕ → Expr → Expr → Type 0
 Same n a b = T (is_zero n (normalise n (minus a b)))
 
+-- the length of a list, which computes
 abbrev pub count : {A : Type 0} → List A → ℕ
 count [] = zero
 count (x ∷ xs) = suc (count xs)
@@ -124,6 +127,7 @@ module _ (R : CommutativeRing) where
   nth (x ∷ xs) zero = x
   nth (x ∷ xs) (suc i) = nth xs i
 
+  -- the value of an expression
   abbrev pub denote : List R.carrier → Expr → R.carrier
   denote env (var i) = nth env i
   denote env (lit k) = R.of_int k

@@ -14,6 +14,7 @@ module _ (R : CommutativeRing) (env : List R.carrier) where
     pub expr : Expr
     pub is : denote R env expr ≡ x
 
+  -- both sides of an equation as expressions over env
   pub record Sides (x y : R.carrier) : Type 0 where
     pub left : Expr
     pub right : Expr
@@ -23,6 +24,7 @@ module _ (R : CommutativeRing) (env : List R.carrier) where
   abbrev pub quote_sides : (x y : R.carrier) → Quoted x → Quoted y → Sides x y
   quote_sides x y p q = record { left = p.expr; right = q.expr; left_is = p.is; right_is = q.is }
 
+  -- equal where the normal forms of both readings are one
   pub ring_by : {x y : R.carrier} (s : Sides x y) → Same (count env) s.left s.right → x ≡ y
   ring_by s c = sym s.left_is ∙ ring R env s.left s.right c ∙ s.right_is
 
@@ -58,6 +60,7 @@ module _ (R : CommutativeRing) where
       back : (x : R.carrier) → R.add (R.add x z) (R.neg z) ≡ x
       back x = R.add_assoc x z (R.neg z) ∙ ap (R.add x) (R.add_neg z) ∙ R.add_zero x
 
+  -- x = y from p = q, where x - y = c (p - q)
   pub combine : (c : R.carrier) {p q x y : R.carrier} → p ≡ q → R.add x (R.mul c q) ≡ R.add y (R.mul c p) → x ≡ y
   combine c {q} {x} {y} e h = cancel_right x y (R.mul c q) (h ∙ ap (λ w. R.add y (R.mul c w)) e)
 
@@ -65,42 +68,123 @@ pub ruleset quotes = (quote_sides, quote_add, quote_sub, quote_mul, quote_neg, q
 
 pub ruleset int_quotes = (quote_sides, quote_add, quote_sub, quote_mul, quote_neg, quote_pos, quote_negsuc)
 
-pub ring1 : (R : CommutativeRing) (a : R.carrier) {x y : R.carrier} (quote : Quoted R (a ∷ []) a → Sides R (a ∷ []) x y)
-    → Same 1 (quote (variable R (a ∷ []) 0)).left (quote (variable R (a ∷ []) 0)).right → x ≡ y
-ring1 R a quote same = ring_by R (a ∷ []) (quote (variable R (a ∷ []) 0)) same
+-- ---- `ring` in n letters: Reading is how a user's λ reads the two sides, and read gives it the letters
+abbrev letters1 : {A : Type 0} → A → List A
+letters1 a = a ∷ []
 
-pub ring2 : (R : CommutativeRing) (a b : R.carrier) {x y : R.carrier} (quote : Quoted R (a ∷ b ∷ []) a → Quoted R (a ∷ b ∷ []) b → Sides R (a ∷ b ∷ []) x y)
-    → Same 2 (quote (variable R (a ∷ b ∷ []) 0) (variable R (a ∷ b ∷ []) 1)).left (quote (variable R (a ∷ b ∷ []) 0) (variable R (a ∷ b ∷ []) 1)).right → x ≡ y
-ring2 R a b quote same = ring_by R (a ∷ b ∷ []) (quote (variable R (a ∷ b ∷ []) 0) (variable R (a ∷ b ∷ []) 1)) same
+abbrev Reading1 : (R : CommutativeRing) (a x y : R.carrier) → Type 0
+Reading1 R a x y = let env = letters1 a in Quoted R env a → Sides R env x y
 
-pub ring3 : (R : CommutativeRing) (a b c : R.carrier) {x y : R.carrier} (quote : Quoted R (a ∷ b ∷ c ∷ []) a → Quoted R (a ∷ b ∷ c ∷ []) b → Quoted R (a ∷ b ∷ c ∷ []) c → Sides R (a ∷ b ∷ c ∷ []) x y)
-    → Same 3 (quote (variable R (a ∷ b ∷ c ∷ []) 0) (variable R (a ∷ b ∷ c ∷ []) 1) (variable R (a ∷ b ∷ c ∷ []) 2)).left (quote (variable R (a ∷ b ∷ c ∷ []) 0) (variable R (a ∷ b ∷ c ∷ []) 1) (variable R (a ∷ b ∷ c ∷ []) 2)).right → x ≡ y
-ring3 R a b c quote same = ring_by R (a ∷ b ∷ c ∷ []) (quote (variable R (a ∷ b ∷ c ∷ []) 0) (variable R (a ∷ b ∷ c ∷ []) 1) (variable R (a ∷ b ∷ c ∷ []) 2)) same
+abbrev read1 : (R : CommutativeRing) (a : R.carrier) {x y : R.carrier} → Reading1 R a x y → Sides R (letters1 a) x y
+read1 R a quote = let env = letters1 a in quote (variable R env 0)
 
-pub ring4 : (R : CommutativeRing) (a b c d : R.carrier) {x y : R.carrier} (quote : Quoted R (a ∷ b ∷ c ∷ d ∷ []) a → Quoted R (a ∷ b ∷ c ∷ d ∷ []) b → Quoted R (a ∷ b ∷ c ∷ d ∷ []) c → Quoted R (a ∷ b ∷ c ∷ d ∷ []) d → Sides R (a ∷ b ∷ c ∷ d ∷ []) x y)
-    → Same 4 (quote (variable R (a ∷ b ∷ c ∷ d ∷ []) 0) (variable R (a ∷ b ∷ c ∷ d ∷ []) 1) (variable R (a ∷ b ∷ c ∷ d ∷ []) 2) (variable R (a ∷ b ∷ c ∷ d ∷ []) 3)).left (quote (variable R (a ∷ b ∷ c ∷ d ∷ []) 0) (variable R (a ∷ b ∷ c ∷ d ∷ []) 1) (variable R (a ∷ b ∷ c ∷ d ∷ []) 2) (variable R (a ∷ b ∷ c ∷ d ∷ []) 3)).right → x ≡ y
-ring4 R a b c d quote same = ring_by R (a ∷ b ∷ c ∷ d ∷ []) (quote (variable R (a ∷ b ∷ c ∷ d ∷ []) 0) (variable R (a ∷ b ∷ c ∷ d ∷ []) 1) (variable R (a ∷ b ∷ c ∷ d ∷ []) 2) (variable R (a ∷ b ∷ c ∷ d ∷ []) 3)) same
+pub ring1 : (R : CommutativeRing) (a : R.carrier) {x y : R.carrier} (quote : Reading1 R a x y) → Same 1 (read1 R a quote).left (read1 R a quote).right → x ≡ y
+ring1 R a quote same = ring_by R (letters1 a) (read1 R a quote) same
 
-pub ring5 : (R : CommutativeRing) (a b c d e : R.carrier) {x y : R.carrier} (quote : Quoted R (a ∷ b ∷ c ∷ d ∷ e ∷ []) a → Quoted R (a ∷ b ∷ c ∷ d ∷ e ∷ []) b → Quoted R (a ∷ b ∷ c ∷ d ∷ e ∷ []) c → Quoted R (a ∷ b ∷ c ∷ d ∷ e ∷ []) d → Quoted R (a ∷ b ∷ c ∷ d ∷ e ∷ []) e → Sides R (a ∷ b ∷ c ∷ d ∷ e ∷ []) x y)
-    → Same 5 (quote (variable R (a ∷ b ∷ c ∷ d ∷ e ∷ []) 0) (variable R (a ∷ b ∷ c ∷ d ∷ e ∷ []) 1) (variable R (a ∷ b ∷ c ∷ d ∷ e ∷ []) 2) (variable R (a ∷ b ∷ c ∷ d ∷ e ∷ []) 3) (variable R (a ∷ b ∷ c ∷ d ∷ e ∷ []) 4)).left (quote (variable R (a ∷ b ∷ c ∷ d ∷ e ∷ []) 0) (variable R (a ∷ b ∷ c ∷ d ∷ e ∷ []) 1) (variable R (a ∷ b ∷ c ∷ d ∷ e ∷ []) 2) (variable R (a ∷ b ∷ c ∷ d ∷ e ∷ []) 3) (variable R (a ∷ b ∷ c ∷ d ∷ e ∷ []) 4)).right → x ≡ y
-ring5 R a b c d e quote same = ring_by R (a ∷ b ∷ c ∷ d ∷ e ∷ []) (quote (variable R (a ∷ b ∷ c ∷ d ∷ e ∷ []) 0) (variable R (a ∷ b ∷ c ∷ d ∷ e ∷ []) 1) (variable R (a ∷ b ∷ c ∷ d ∷ e ∷ []) 2) (variable R (a ∷ b ∷ c ∷ d ∷ e ∷ []) 3) (variable R (a ∷ b ∷ c ∷ d ∷ e ∷ []) 4)) same
+abbrev letters2 : {A : Type 0} → A → A → List A
+letters2 a b = a ∷ b ∷ []
 
-pub ring6 : (R : CommutativeRing) (a b c d e f : R.carrier) {x y : R.carrier} (quote : Quoted R (a ∷ b ∷ c ∷ d ∷ e ∷ f ∷ []) a → Quoted R (a ∷ b ∷ c ∷ d ∷ e ∷ f ∷ []) b → Quoted R (a ∷ b ∷ c ∷ d ∷ e ∷ f ∷ []) c → Quoted R (a ∷ b ∷ c ∷ d ∷ e ∷ f ∷ []) d → Quoted R (a ∷ b ∷ c ∷ d ∷ e ∷ f ∷ []) e → Quoted R (a ∷ b ∷ c ∷ d ∷ e ∷ f ∷ []) f → Sides R (a ∷ b ∷ c ∷ d ∷ e ∷ f ∷ []) x y)
-    → Same 6 (quote (variable R (a ∷ b ∷ c ∷ d ∷ e ∷ f ∷ []) 0) (variable R (a ∷ b ∷ c ∷ d ∷ e ∷ f ∷ []) 1) (variable R (a ∷ b ∷ c ∷ d ∷ e ∷ f ∷ []) 2) (variable R (a ∷ b ∷ c ∷ d ∷ e ∷ f ∷ []) 3) (variable R (a ∷ b ∷ c ∷ d ∷ e ∷ f ∷ []) 4) (variable R (a ∷ b ∷ c ∷ d ∷ e ∷ f ∷ []) 5)).left (quote (variable R (a ∷ b ∷ c ∷ d ∷ e ∷ f ∷ []) 0) (variable R (a ∷ b ∷ c ∷ d ∷ e ∷ f ∷ []) 1) (variable R (a ∷ b ∷ c ∷ d ∷ e ∷ f ∷ []) 2) (variable R (a ∷ b ∷ c ∷ d ∷ e ∷ f ∷ []) 3) (variable R (a ∷ b ∷ c ∷ d ∷ e ∷ f ∷ []) 4) (variable R (a ∷ b ∷ c ∷ d ∷ e ∷ f ∷ []) 5)).right → x ≡ y
-ring6 R a b c d e f quote same = ring_by R (a ∷ b ∷ c ∷ d ∷ e ∷ f ∷ []) (quote (variable R (a ∷ b ∷ c ∷ d ∷ e ∷ f ∷ []) 0) (variable R (a ∷ b ∷ c ∷ d ∷ e ∷ f ∷ []) 1) (variable R (a ∷ b ∷ c ∷ d ∷ e ∷ f ∷ []) 2) (variable R (a ∷ b ∷ c ∷ d ∷ e ∷ f ∷ []) 3) (variable R (a ∷ b ∷ c ∷ d ∷ e ∷ f ∷ []) 4) (variable R (a ∷ b ∷ c ∷ d ∷ e ∷ f ∷ []) 5)) same
+abbrev Reading2 : (R : CommutativeRing) (a b x y : R.carrier) → Type 0
+Reading2 R a b x y = let env = letters2 a b in Quoted R env a → Quoted R env b → Sides R env x y
 
-pub ring7 : (R : CommutativeRing) (a b c d e f g : R.carrier) {x y : R.carrier} (quote : Quoted R (a ∷ b ∷ c ∷ d ∷ e ∷ f ∷ g ∷ []) a → Quoted R (a ∷ b ∷ c ∷ d ∷ e ∷ f ∷ g ∷ []) b → Quoted R (a ∷ b ∷ c ∷ d ∷ e ∷ f ∷ g ∷ []) c → Quoted R (a ∷ b ∷ c ∷ d ∷ e ∷ f ∷ g ∷ []) d → Quoted R (a ∷ b ∷ c ∷ d ∷ e ∷ f ∷ g ∷ []) e → Quoted R (a ∷ b ∷ c ∷ d ∷ e ∷ f ∷ g ∷ []) f → Quoted R (a ∷ b ∷ c ∷ d ∷ e ∷ f ∷ g ∷ []) g → Sides R (a ∷ b ∷ c ∷ d ∷ e ∷ f ∷ g ∷ []) x y)
-    → Same 7 (quote (variable R (a ∷ b ∷ c ∷ d ∷ e ∷ f ∷ g ∷ []) 0) (variable R (a ∷ b ∷ c ∷ d ∷ e ∷ f ∷ g ∷ []) 1) (variable R (a ∷ b ∷ c ∷ d ∷ e ∷ f ∷ g ∷ []) 2) (variable R (a ∷ b ∷ c ∷ d ∷ e ∷ f ∷ g ∷ []) 3) (variable R (a ∷ b ∷ c ∷ d ∷ e ∷ f ∷ g ∷ []) 4) (variable R (a ∷ b ∷ c ∷ d ∷ e ∷ f ∷ g ∷ []) 5) (variable R (a ∷ b ∷ c ∷ d ∷ e ∷ f ∷ g ∷ []) 6)).left (quote (variable R (a ∷ b ∷ c ∷ d ∷ e ∷ f ∷ g ∷ []) 0) (variable R (a ∷ b ∷ c ∷ d ∷ e ∷ f ∷ g ∷ []) 1) (variable R (a ∷ b ∷ c ∷ d ∷ e ∷ f ∷ g ∷ []) 2) (variable R (a ∷ b ∷ c ∷ d ∷ e ∷ f ∷ g ∷ []) 3) (variable R (a ∷ b ∷ c ∷ d ∷ e ∷ f ∷ g ∷ []) 4) (variable R (a ∷ b ∷ c ∷ d ∷ e ∷ f ∷ g ∷ []) 5) (variable R (a ∷ b ∷ c ∷ d ∷ e ∷ f ∷ g ∷ []) 6)).right → x ≡ y
-ring7 R a b c d e f g quote same = ring_by R (a ∷ b ∷ c ∷ d ∷ e ∷ f ∷ g ∷ []) (quote (variable R (a ∷ b ∷ c ∷ d ∷ e ∷ f ∷ g ∷ []) 0) (variable R (a ∷ b ∷ c ∷ d ∷ e ∷ f ∷ g ∷ []) 1) (variable R (a ∷ b ∷ c ∷ d ∷ e ∷ f ∷ g ∷ []) 2) (variable R (a ∷ b ∷ c ∷ d ∷ e ∷ f ∷ g ∷ []) 3) (variable R (a ∷ b ∷ c ∷ d ∷ e ∷ f ∷ g ∷ []) 4) (variable R (a ∷ b ∷ c ∷ d ∷ e ∷ f ∷ g ∷ []) 5) (variable R (a ∷ b ∷ c ∷ d ∷ e ∷ f ∷ g ∷ []) 6)) same
+abbrev read2 : (R : CommutativeRing) (a b : R.carrier) {x y : R.carrier} → Reading2 R a b x y → Sides R (letters2 a b) x y
+read2 R a b quote = let env = letters2 a b in quote (variable R env 0) (variable R env 1)
 
-pub ring8 : (R : CommutativeRing) (a b c d e f g h : R.carrier) {x y : R.carrier} (quote : Quoted R (a ∷ b ∷ c ∷ d ∷ e ∷ f ∷ g ∷ h ∷ []) a → Quoted R (a ∷ b ∷ c ∷ d ∷ e ∷ f ∷ g ∷ h ∷ []) b → Quoted R (a ∷ b ∷ c ∷ d ∷ e ∷ f ∷ g ∷ h ∷ []) c → Quoted R (a ∷ b ∷ c ∷ d ∷ e ∷ f ∷ g ∷ h ∷ []) d → Quoted R (a ∷ b ∷ c ∷ d ∷ e ∷ f ∷ g ∷ h ∷ []) e → Quoted R (a ∷ b ∷ c ∷ d ∷ e ∷ f ∷ g ∷ h ∷ []) f → Quoted R (a ∷ b ∷ c ∷ d ∷ e ∷ f ∷ g ∷ h ∷ []) g → Quoted R (a ∷ b ∷ c ∷ d ∷ e ∷ f ∷ g ∷ h ∷ []) h → Sides R (a ∷ b ∷ c ∷ d ∷ e ∷ f ∷ g ∷ h ∷ []) x y)
-    → Same 8 (quote (variable R (a ∷ b ∷ c ∷ d ∷ e ∷ f ∷ g ∷ h ∷ []) 0) (variable R (a ∷ b ∷ c ∷ d ∷ e ∷ f ∷ g ∷ h ∷ []) 1) (variable R (a ∷ b ∷ c ∷ d ∷ e ∷ f ∷ g ∷ h ∷ []) 2) (variable R (a ∷ b ∷ c ∷ d ∷ e ∷ f ∷ g ∷ h ∷ []) 3) (variable R (a ∷ b ∷ c ∷ d ∷ e ∷ f ∷ g ∷ h ∷ []) 4) (variable R (a ∷ b ∷ c ∷ d ∷ e ∷ f ∷ g ∷ h ∷ []) 5) (variable R (a ∷ b ∷ c ∷ d ∷ e ∷ f ∷ g ∷ h ∷ []) 6) (variable R (a ∷ b ∷ c ∷ d ∷ e ∷ f ∷ g ∷ h ∷ []) 7)).left (quote (variable R (a ∷ b ∷ c ∷ d ∷ e ∷ f ∷ g ∷ h ∷ []) 0) (variable R (a ∷ b ∷ c ∷ d ∷ e ∷ f ∷ g ∷ h ∷ []) 1) (variable R (a ∷ b ∷ c ∷ d ∷ e ∷ f ∷ g ∷ h ∷ []) 2) (variable R (a ∷ b ∷ c ∷ d ∷ e ∷ f ∷ g ∷ h ∷ []) 3) (variable R (a ∷ b ∷ c ∷ d ∷ e ∷ f ∷ g ∷ h ∷ []) 4) (variable R (a ∷ b ∷ c ∷ d ∷ e ∷ f ∷ g ∷ h ∷ []) 5) (variable R (a ∷ b ∷ c ∷ d ∷ e ∷ f ∷ g ∷ h ∷ []) 6) (variable R (a ∷ b ∷ c ∷ d ∷ e ∷ f ∷ g ∷ h ∷ []) 7)).right → x ≡ y
-ring8 R a b c d e f g h quote same = ring_by R (a ∷ b ∷ c ∷ d ∷ e ∷ f ∷ g ∷ h ∷ []) (quote (variable R (a ∷ b ∷ c ∷ d ∷ e ∷ f ∷ g ∷ h ∷ []) 0) (variable R (a ∷ b ∷ c ∷ d ∷ e ∷ f ∷ g ∷ h ∷ []) 1) (variable R (a ∷ b ∷ c ∷ d ∷ e ∷ f ∷ g ∷ h ∷ []) 2) (variable R (a ∷ b ∷ c ∷ d ∷ e ∷ f ∷ g ∷ h ∷ []) 3) (variable R (a ∷ b ∷ c ∷ d ∷ e ∷ f ∷ g ∷ h ∷ []) 4) (variable R (a ∷ b ∷ c ∷ d ∷ e ∷ f ∷ g ∷ h ∷ []) 5) (variable R (a ∷ b ∷ c ∷ d ∷ e ∷ f ∷ g ∷ h ∷ []) 6) (variable R (a ∷ b ∷ c ∷ d ∷ e ∷ f ∷ g ∷ h ∷ []) 7)) same
+pub ring2 : (R : CommutativeRing) (a b : R.carrier) {x y : R.carrier} (quote : Reading2 R a b x y) → Same 2 (read2 R a b quote).left (read2 R a b quote).right → x ≡ y
+ring2 R a b quote same = ring_by R (letters2 a b) (read2 R a b quote) same
 
-pub ring9 : (R : CommutativeRing) (a b c d e f g h k : R.carrier) {x y : R.carrier} (quote : Quoted R (a ∷ b ∷ c ∷ d ∷ e ∷ f ∷ g ∷ h ∷ k ∷ []) a → Quoted R (a ∷ b ∷ c ∷ d ∷ e ∷ f ∷ g ∷ h ∷ k ∷ []) b → Quoted R (a ∷ b ∷ c ∷ d ∷ e ∷ f ∷ g ∷ h ∷ k ∷ []) c → Quoted R (a ∷ b ∷ c ∷ d ∷ e ∷ f ∷ g ∷ h ∷ k ∷ []) d → Quoted R (a ∷ b ∷ c ∷ d ∷ e ∷ f ∷ g ∷ h ∷ k ∷ []) e → Quoted R (a ∷ b ∷ c ∷ d ∷ e ∷ f ∷ g ∷ h ∷ k ∷ []) f → Quoted R (a ∷ b ∷ c ∷ d ∷ e ∷ f ∷ g ∷ h ∷ k ∷ []) g → Quoted R (a ∷ b ∷ c ∷ d ∷ e ∷ f ∷ g ∷ h ∷ k ∷ []) h → Quoted R (a ∷ b ∷ c ∷ d ∷ e ∷ f ∷ g ∷ h ∷ k ∷ []) k → Sides R (a ∷ b ∷ c ∷ d ∷ e ∷ f ∷ g ∷ h ∷ k ∷ []) x y)
-    → Same 9 (quote (variable R (a ∷ b ∷ c ∷ d ∷ e ∷ f ∷ g ∷ h ∷ k ∷ []) 0) (variable R (a ∷ b ∷ c ∷ d ∷ e ∷ f ∷ g ∷ h ∷ k ∷ []) 1) (variable R (a ∷ b ∷ c ∷ d ∷ e ∷ f ∷ g ∷ h ∷ k ∷ []) 2) (variable R (a ∷ b ∷ c ∷ d ∷ e ∷ f ∷ g ∷ h ∷ k ∷ []) 3) (variable R (a ∷ b ∷ c ∷ d ∷ e ∷ f ∷ g ∷ h ∷ k ∷ []) 4) (variable R (a ∷ b ∷ c ∷ d ∷ e ∷ f ∷ g ∷ h ∷ k ∷ []) 5) (variable R (a ∷ b ∷ c ∷ d ∷ e ∷ f ∷ g ∷ h ∷ k ∷ []) 6) (variable R (a ∷ b ∷ c ∷ d ∷ e ∷ f ∷ g ∷ h ∷ k ∷ []) 7) (variable R (a ∷ b ∷ c ∷ d ∷ e ∷ f ∷ g ∷ h ∷ k ∷ []) 8)).left (quote (variable R (a ∷ b ∷ c ∷ d ∷ e ∷ f ∷ g ∷ h ∷ k ∷ []) 0) (variable R (a ∷ b ∷ c ∷ d ∷ e ∷ f ∷ g ∷ h ∷ k ∷ []) 1) (variable R (a ∷ b ∷ c ∷ d ∷ e ∷ f ∷ g ∷ h ∷ k ∷ []) 2) (variable R (a ∷ b ∷ c ∷ d ∷ e ∷ f ∷ g ∷ h ∷ k ∷ []) 3) (variable R (a ∷ b ∷ c ∷ d ∷ e ∷ f ∷ g ∷ h ∷ k ∷ []) 4) (variable R (a ∷ b ∷ c ∷ d ∷ e ∷ f ∷ g ∷ h ∷ k ∷ []) 5) (variable R (a ∷ b ∷ c ∷ d ∷ e ∷ f ∷ g ∷ h ∷ k ∷ []) 6) (variable R (a ∷ b ∷ c ∷ d ∷ e ∷ f ∷ g ∷ h ∷ k ∷ []) 7) (variable R (a ∷ b ∷ c ∷ d ∷ e ∷ f ∷ g ∷ h ∷ k ∷ []) 8)).right → x ≡ y
-ring9 R a b c d e f g h k quote same = ring_by R (a ∷ b ∷ c ∷ d ∷ e ∷ f ∷ g ∷ h ∷ k ∷ []) (quote (variable R (a ∷ b ∷ c ∷ d ∷ e ∷ f ∷ g ∷ h ∷ k ∷ []) 0) (variable R (a ∷ b ∷ c ∷ d ∷ e ∷ f ∷ g ∷ h ∷ k ∷ []) 1) (variable R (a ∷ b ∷ c ∷ d ∷ e ∷ f ∷ g ∷ h ∷ k ∷ []) 2) (variable R (a ∷ b ∷ c ∷ d ∷ e ∷ f ∷ g ∷ h ∷ k ∷ []) 3) (variable R (a ∷ b ∷ c ∷ d ∷ e ∷ f ∷ g ∷ h ∷ k ∷ []) 4) (variable R (a ∷ b ∷ c ∷ d ∷ e ∷ f ∷ g ∷ h ∷ k ∷ []) 5) (variable R (a ∷ b ∷ c ∷ d ∷ e ∷ f ∷ g ∷ h ∷ k ∷ []) 6) (variable R (a ∷ b ∷ c ∷ d ∷ e ∷ f ∷ g ∷ h ∷ k ∷ []) 7) (variable R (a ∷ b ∷ c ∷ d ∷ e ∷ f ∷ g ∷ h ∷ k ∷ []) 8)) same
+abbrev letters3 : {A : Type 0} → A → A → A → List A
+letters3 a b c = a ∷ b ∷ c ∷ []
 
-pub ring10 : (R : CommutativeRing) (a b c d e f g h k l : R.carrier) {x y : R.carrier} (quote : Quoted R (a ∷ b ∷ c ∷ d ∷ e ∷ f ∷ g ∷ h ∷ k ∷ l ∷ []) a → Quoted R (a ∷ b ∷ c ∷ d ∷ e ∷ f ∷ g ∷ h ∷ k ∷ l ∷ []) b → Quoted R (a ∷ b ∷ c ∷ d ∷ e ∷ f ∷ g ∷ h ∷ k ∷ l ∷ []) c → Quoted R (a ∷ b ∷ c ∷ d ∷ e ∷ f ∷ g ∷ h ∷ k ∷ l ∷ []) d → Quoted R (a ∷ b ∷ c ∷ d ∷ e ∷ f ∷ g ∷ h ∷ k ∷ l ∷ []) e → Quoted R (a ∷ b ∷ c ∷ d ∷ e ∷ f ∷ g ∷ h ∷ k ∷ l ∷ []) f → Quoted R (a ∷ b ∷ c ∷ d ∷ e ∷ f ∷ g ∷ h ∷ k ∷ l ∷ []) g → Quoted R (a ∷ b ∷ c ∷ d ∷ e ∷ f ∷ g ∷ h ∷ k ∷ l ∷ []) h → Quoted R (a ∷ b ∷ c ∷ d ∷ e ∷ f ∷ g ∷ h ∷ k ∷ l ∷ []) k → Quoted R (a ∷ b ∷ c ∷ d ∷ e ∷ f ∷ g ∷ h ∷ k ∷ l ∷ []) l → Sides R (a ∷ b ∷ c ∷ d ∷ e ∷ f ∷ g ∷ h ∷ k ∷ l ∷ []) x y)
-    → Same 10 (quote (variable R (a ∷ b ∷ c ∷ d ∷ e ∷ f ∷ g ∷ h ∷ k ∷ l ∷ []) 0) (variable R (a ∷ b ∷ c ∷ d ∷ e ∷ f ∷ g ∷ h ∷ k ∷ l ∷ []) 1) (variable R (a ∷ b ∷ c ∷ d ∷ e ∷ f ∷ g ∷ h ∷ k ∷ l ∷ []) 2) (variable R (a ∷ b ∷ c ∷ d ∷ e ∷ f ∷ g ∷ h ∷ k ∷ l ∷ []) 3) (variable R (a ∷ b ∷ c ∷ d ∷ e ∷ f ∷ g ∷ h ∷ k ∷ l ∷ []) 4) (variable R (a ∷ b ∷ c ∷ d ∷ e ∷ f ∷ g ∷ h ∷ k ∷ l ∷ []) 5) (variable R (a ∷ b ∷ c ∷ d ∷ e ∷ f ∷ g ∷ h ∷ k ∷ l ∷ []) 6) (variable R (a ∷ b ∷ c ∷ d ∷ e ∷ f ∷ g ∷ h ∷ k ∷ l ∷ []) 7) (variable R (a ∷ b ∷ c ∷ d ∷ e ∷ f ∷ g ∷ h ∷ k ∷ l ∷ []) 8) (variable R (a ∷ b ∷ c ∷ d ∷ e ∷ f ∷ g ∷ h ∷ k ∷ l ∷ []) 9)).left (quote (variable R (a ∷ b ∷ c ∷ d ∷ e ∷ f ∷ g ∷ h ∷ k ∷ l ∷ []) 0) (variable R (a ∷ b ∷ c ∷ d ∷ e ∷ f ∷ g ∷ h ∷ k ∷ l ∷ []) 1) (variable R (a ∷ b ∷ c ∷ d ∷ e ∷ f ∷ g ∷ h ∷ k ∷ l ∷ []) 2) (variable R (a ∷ b ∷ c ∷ d ∷ e ∷ f ∷ g ∷ h ∷ k ∷ l ∷ []) 3) (variable R (a ∷ b ∷ c ∷ d ∷ e ∷ f ∷ g ∷ h ∷ k ∷ l ∷ []) 4) (variable R (a ∷ b ∷ c ∷ d ∷ e ∷ f ∷ g ∷ h ∷ k ∷ l ∷ []) 5) (variable R (a ∷ b ∷ c ∷ d ∷ e ∷ f ∷ g ∷ h ∷ k ∷ l ∷ []) 6) (variable R (a ∷ b ∷ c ∷ d ∷ e ∷ f ∷ g ∷ h ∷ k ∷ l ∷ []) 7) (variable R (a ∷ b ∷ c ∷ d ∷ e ∷ f ∷ g ∷ h ∷ k ∷ l ∷ []) 8) (variable R (a ∷ b ∷ c ∷ d ∷ e ∷ f ∷ g ∷ h ∷ k ∷ l ∷ []) 9)).right → x ≡ y
-ring10 R a b c d e f g h k l quote same = ring_by R (a ∷ b ∷ c ∷ d ∷ e ∷ f ∷ g ∷ h ∷ k ∷ l ∷ []) (quote (variable R (a ∷ b ∷ c ∷ d ∷ e ∷ f ∷ g ∷ h ∷ k ∷ l ∷ []) 0) (variable R (a ∷ b ∷ c ∷ d ∷ e ∷ f ∷ g ∷ h ∷ k ∷ l ∷ []) 1) (variable R (a ∷ b ∷ c ∷ d ∷ e ∷ f ∷ g ∷ h ∷ k ∷ l ∷ []) 2) (variable R (a ∷ b ∷ c ∷ d ∷ e ∷ f ∷ g ∷ h ∷ k ∷ l ∷ []) 3) (variable R (a ∷ b ∷ c ∷ d ∷ e ∷ f ∷ g ∷ h ∷ k ∷ l ∷ []) 4) (variable R (a ∷ b ∷ c ∷ d ∷ e ∷ f ∷ g ∷ h ∷ k ∷ l ∷ []) 5) (variable R (a ∷ b ∷ c ∷ d ∷ e ∷ f ∷ g ∷ h ∷ k ∷ l ∷ []) 6) (variable R (a ∷ b ∷ c ∷ d ∷ e ∷ f ∷ g ∷ h ∷ k ∷ l ∷ []) 7) (variable R (a ∷ b ∷ c ∷ d ∷ e ∷ f ∷ g ∷ h ∷ k ∷ l ∷ []) 8) (variable R (a ∷ b ∷ c ∷ d ∷ e ∷ f ∷ g ∷ h ∷ k ∷ l ∷ []) 9)) same
+abbrev Reading3 : (R : CommutativeRing) (a b c x y : R.carrier) → Type 0
+Reading3 R a b c x y = let env = letters3 a b c in Quoted R env a → Quoted R env b → Quoted R env c → Sides R env x y
+
+abbrev read3 : (R : CommutativeRing) (a b c : R.carrier) {x y : R.carrier} → Reading3 R a b c x y → Sides R (letters3 a b c) x y
+read3 R a b c quote = let env = letters3 a b c in quote (variable R env 0) (variable R env 1) (variable R env 2)
+
+pub ring3 : (R : CommutativeRing) (a b c : R.carrier) {x y : R.carrier} (quote : Reading3 R a b c x y) → Same 3 (read3 R a b c quote).left (read3 R a b c quote).right → x ≡ y
+ring3 R a b c quote same = ring_by R (letters3 a b c) (read3 R a b c quote) same
+
+abbrev letters4 : {A : Type 0} → A → A → A → A → List A
+letters4 a b c d = a ∷ b ∷ c ∷ d ∷ []
+
+abbrev Reading4 : (R : CommutativeRing) (a b c d x y : R.carrier) → Type 0
+Reading4 R a b c d x y = let env = letters4 a b c d in Quoted R env a → Quoted R env b → Quoted R env c → Quoted R env d → Sides R env x y
+
+abbrev read4 : (R : CommutativeRing) (a b c d : R.carrier) {x y : R.carrier} → Reading4 R a b c d x y → Sides R (letters4 a b c d) x y
+read4 R a b c d quote = let env = letters4 a b c d in quote (variable R env 0) (variable R env 1) (variable R env 2) (variable R env 3)
+
+pub ring4 : (R : CommutativeRing) (a b c d : R.carrier) {x y : R.carrier} (quote : Reading4 R a b c d x y) → Same 4 (read4 R a b c d quote).left (read4 R a b c d quote).right → x ≡ y
+ring4 R a b c d quote same = ring_by R (letters4 a b c d) (read4 R a b c d quote) same
+
+abbrev letters5 : {A : Type 0} → A → A → A → A → A → List A
+letters5 a b c d e = a ∷ b ∷ c ∷ d ∷ e ∷ []
+
+abbrev Reading5 : (R : CommutativeRing) (a b c d e x y : R.carrier) → Type 0
+Reading5 R a b c d e x y = let env = letters5 a b c d e in Quoted R env a → Quoted R env b → Quoted R env c → Quoted R env d → Quoted R env e → Sides R env x y
+
+abbrev read5 : (R : CommutativeRing) (a b c d e : R.carrier) {x y : R.carrier} → Reading5 R a b c d e x y → Sides R (letters5 a b c d e) x y
+read5 R a b c d e quote = let env = letters5 a b c d e in quote (variable R env 0) (variable R env 1) (variable R env 2) (variable R env 3) (variable R env 4)
+
+pub ring5 : (R : CommutativeRing) (a b c d e : R.carrier) {x y : R.carrier} (quote : Reading5 R a b c d e x y) → Same 5 (read5 R a b c d e quote).left (read5 R a b c d e quote).right → x ≡ y
+ring5 R a b c d e quote same = ring_by R (letters5 a b c d e) (read5 R a b c d e quote) same
+
+abbrev letters6 : {A : Type 0} → A → A → A → A → A → A → List A
+letters6 a b c d e f = a ∷ b ∷ c ∷ d ∷ e ∷ f ∷ []
+
+abbrev Reading6 : (R : CommutativeRing) (a b c d e f x y : R.carrier) → Type 0
+Reading6 R a b c d e f x y = let env = letters6 a b c d e f in Quoted R env a → Quoted R env b → Quoted R env c → Quoted R env d → Quoted R env e → Quoted R env f → Sides R env x y
+
+abbrev read6 : (R : CommutativeRing) (a b c d e f : R.carrier) {x y : R.carrier} → Reading6 R a b c d e f x y → Sides R (letters6 a b c d e f) x y
+read6 R a b c d e f quote = let env = letters6 a b c d e f in quote (variable R env 0) (variable R env 1) (variable R env 2) (variable R env 3) (variable R env 4) (variable R env 5)
+
+pub ring6 : (R : CommutativeRing) (a b c d e f : R.carrier) {x y : R.carrier} (quote : Reading6 R a b c d e f x y) → Same 6 (read6 R a b c d e f quote).left (read6 R a b c d e f quote).right → x ≡ y
+ring6 R a b c d e f quote same = ring_by R (letters6 a b c d e f) (read6 R a b c d e f quote) same
+
+abbrev letters7 : {A : Type 0} → A → A → A → A → A → A → A → List A
+letters7 a b c d e f g = a ∷ b ∷ c ∷ d ∷ e ∷ f ∷ g ∷ []
+
+abbrev Reading7 : (R : CommutativeRing) (a b c d e f g x y : R.carrier) → Type 0
+Reading7 R a b c d e f g x y = let env = letters7 a b c d e f g in Quoted R env a → Quoted R env b → Quoted R env c → Quoted R env d → Quoted R env e → Quoted R env f → Quoted R env g → Sides R env x y
+
+abbrev read7 : (R : CommutativeRing) (a b c d e f g : R.carrier) {x y : R.carrier} → Reading7 R a b c d e f g x y → Sides R (letters7 a b c d e f g) x y
+read7 R a b c d e f g quote = let env = letters7 a b c d e f g in quote (variable R env 0) (variable R env 1) (variable R env 2) (variable R env 3) (variable R env 4) (variable R env 5) (variable R env 6)
+
+pub ring7 : (R : CommutativeRing) (a b c d e f g : R.carrier) {x y : R.carrier} (quote : Reading7 R a b c d e f g x y) → Same 7 (read7 R a b c d e f g quote).left (read7 R a b c d e f g quote).right → x ≡ y
+ring7 R a b c d e f g quote same = ring_by R (letters7 a b c d e f g) (read7 R a b c d e f g quote) same
+
+abbrev letters8 : {A : Type 0} → A → A → A → A → A → A → A → A → List A
+letters8 a b c d e f g h = a ∷ b ∷ c ∷ d ∷ e ∷ f ∷ g ∷ h ∷ []
+
+abbrev Reading8 : (R : CommutativeRing) (a b c d e f g h x y : R.carrier) → Type 0
+Reading8 R a b c d e f g h x y = let env = letters8 a b c d e f g h in Quoted R env a → Quoted R env b → Quoted R env c → Quoted R env d → Quoted R env e → Quoted R env f → Quoted R env g → Quoted R env h → Sides R env x y
+
+abbrev read8 : (R : CommutativeRing) (a b c d e f g h : R.carrier) {x y : R.carrier} → Reading8 R a b c d e f g h x y → Sides R (letters8 a b c d e f g h) x y
+read8 R a b c d e f g h quote = let env = letters8 a b c d e f g h in quote (variable R env 0) (variable R env 1) (variable R env 2) (variable R env 3) (variable R env 4) (variable R env 5) (variable R env 6) (variable R env 7)
+
+pub ring8 : (R : CommutativeRing) (a b c d e f g h : R.carrier) {x y : R.carrier} (quote : Reading8 R a b c d e f g h x y) → Same 8 (read8 R a b c d e f g h quote).left (read8 R a b c d e f g h quote).right → x ≡ y
+ring8 R a b c d e f g h quote same = ring_by R (letters8 a b c d e f g h) (read8 R a b c d e f g h quote) same
+
+abbrev letters9 : {A : Type 0} → A → A → A → A → A → A → A → A → A → List A
+letters9 a b c d e f g h k = a ∷ b ∷ c ∷ d ∷ e ∷ f ∷ g ∷ h ∷ k ∷ []
+
+abbrev Reading9 : (R : CommutativeRing) (a b c d e f g h k x y : R.carrier) → Type 0
+Reading9 R a b c d e f g h k x y = let env = letters9 a b c d e f g h k in Quoted R env a → Quoted R env b → Quoted R env c → Quoted R env d → Quoted R env e → Quoted R env f → Quoted R env g → Quoted R env h → Quoted R env k → Sides R env x y
+
+abbrev read9 : (R : CommutativeRing) (a b c d e f g h k : R.carrier) {x y : R.carrier} → Reading9 R a b c d e f g h k x y → Sides R (letters9 a b c d e f g h k) x y
+read9 R a b c d e f g h k quote = let env = letters9 a b c d e f g h k in quote (variable R env 0) (variable R env 1) (variable R env 2) (variable R env 3) (variable R env 4) (variable R env 5) (variable R env 6) (variable R env 7) (variable R env 8)
+
+pub ring9 : (R : CommutativeRing) (a b c d e f g h k : R.carrier) {x y : R.carrier} (quote : Reading9 R a b c d e f g h k x y) → Same 9 (read9 R a b c d e f g h k quote).left (read9 R a b c d e f g h k quote).right → x ≡ y
+ring9 R a b c d e f g h k quote same = ring_by R (letters9 a b c d e f g h k) (read9 R a b c d e f g h k quote) same
+
+abbrev letters10 : {A : Type 0} → A → A → A → A → A → A → A → A → A → A → List A
+letters10 a b c d e f g h k l = a ∷ b ∷ c ∷ d ∷ e ∷ f ∷ g ∷ h ∷ k ∷ l ∷ []
+
+abbrev Reading10 : (R : CommutativeRing) (a b c d e f g h k l x y : R.carrier) → Type 0
+Reading10 R a b c d e f g h k l x y = let env = letters10 a b c d e f g h k l in Quoted R env a → Quoted R env b → Quoted R env c → Quoted R env d → Quoted R env e → Quoted R env f → Quoted R env g → Quoted R env h → Quoted R env k → Quoted R env l → Sides R env x y
+
+abbrev read10 : (R : CommutativeRing) (a b c d e f g h k l : R.carrier) {x y : R.carrier} → Reading10 R a b c d e f g h k l x y → Sides R (letters10 a b c d e f g h k l) x y
+read10 R a b c d e f g h k l quote = let env = letters10 a b c d e f g h k l in quote (variable R env 0) (variable R env 1) (variable R env 2) (variable R env 3) (variable R env 4) (variable R env 5) (variable R env 6) (variable R env 7) (variable R env 8) (variable R env 9)
+
+pub ring10 : (R : CommutativeRing) (a b c d e f g h k l : R.carrier) {x y : R.carrier} (quote : Reading10 R a b c d e f g h k l x y) → Same 10 (read10 R a b c d e f g h k l quote).left (read10 R a b c d e f g h k l quote).right → x ≡ y
+ring10 R a b c d e f g h k l quote same = ring_by R (letters10 a b c d e f g h k l) (read10 R a b c d e f g h k l quote) same

@@ -12,6 +12,9 @@ gaussian x y = record { re = x; im = y }
 abbrev pub mul_gaussian : Gaussian → Gaussian → Gaussian
 mul_gaussian g h = record { re = g.re *ℤ h.re -ℤ g.im *ℤ h.im; im = g.re *ℤ h.im +ℤ g.im *ℤ h.re }
 
+abbrev pub add_gaussian : Gaussian → Gaussian → Gaussian
+add_gaussian g h = record { re = g.re +ℤ h.re; im = g.im +ℤ h.im }
+
 -- g - h
 abbrev pub sub_gaussian : Gaussian → Gaussian → Gaussian
 sub_gaussian g h = record { re = g.re -ℤ h.re; im = g.im -ℤ h.im }

@@ -1,5 +1,6 @@
 -- Fractions of whole numbers, as a reader compares them: by cross multiplication.
-use Rattle.std.specs.Prelude.{ℤ, pos, neg_ℤ, ◌+ℤ◌, ◌-ℤ◌, ◌*ℤ◌}
+use Rattle.std.specs.Prelude.{◌≡◌, ℤ, pos, neg_ℤ, ◌+ℤ◌, ◌-ℤ◌, ◌*ℤ◌}
+use Rattle.exact_math.specs.Gaussian.{Gaussian}
 
 -- numerator/denominator; the denominator is meant to be above 0
 pub record Ratio : Type 0 where
@@ -43,6 +44,10 @@ pub record ComplexRatio : Type 0 where
 abbrev pub zero_complex : ComplexRatio
 zero_complex = record { re = pos 0; im = pos 0; denominator = pos 1 }
 
+-- g/1
+abbrev pub whole_complex : Gaussian → ComplexRatio
+whole_complex g = record { re = g.re; im = g.im; denominator = pos 1 }
+
 -- (R, I, D) + (r, i, d) = (R d + r D, I d + i D, D d)
 abbrev pub add_complex : ComplexRatio → ComplexRatio → ComplexRatio
 add_complex x y = record {
@@ -55,6 +60,10 @@ add_complex x y = record {
 abbrev pub neg_complex : ComplexRatio → ComplexRatio
 neg_complex x = record { re = neg_ℤ x.re; im = neg_ℤ x.im; denominator = x.denominator }
 
+-- x - y
+abbrev pub sub_complex : ComplexRatio → ComplexRatio → ComplexRatio
+sub_complex x y = add_complex x (neg_complex y)
+
 -- x y
 abbrev pub mul_complex : ComplexRatio → ComplexRatio → ComplexRatio
 mul_complex x y = record {
@@ -66,6 +75,11 @@ mul_complex x y = record {
 -- x/n, for n above 0
 abbrev pub over_complex : ComplexRatio → ℤ → ComplexRatio
 over_complex x n = record { re = x.re; im = x.im; denominator = x.denominator *ℤ n }
+
+-- x and y are one number, by cross multiplication
+pub record SameComplex (x y : ComplexRatio) : Type 0 where
+  pub re : x.re *ℤ y.denominator ≡ y.re *ℤ x.denominator
+  pub im : x.im *ℤ y.denominator ≡ y.im *ℤ x.denominator
 
 -- the two parts
 abbrev pub re_part : ComplexRatio → Ratio

@@ -1,10 +1,10 @@
 -- What pieces add up to that came or were put one after another.
-use Rattle.std.proofs.Common.{◌≡◌, ℕ, ◌+◌, ◌≤◌, List, [], ◌++◌, length, take, drop, refl, ap, sym, ◌∙◌, Some, None, Ok, arith, take-append-drop, append-nil, length-append, length-take}
+use Rattle.std.proofs.Common.{◌≡◌, ℕ, ◌+◌, ◌≤◌, List, ◌++◌, length, take, drop, ap, sym, ◌∙◌, Some, None, arith, append-nil, length-append, length-take}
 use Rattle.std.proofs.Math.Seq.{take-add}
 use Rattle.std.proofs.KnownBytes.{Appends-trans}
 use Rattle.std.specs.declared.option.Option.{Option}
-use Rattle.std.specs.Io.KnownBytes.{Appends, Consumes, IsAtEnd, Keeps}
-use Rattle.io_ports.specs.Bytes.{AppendsPrefix, GivesAll}
+use Rattle.std.specs.Io.KnownBytes.{Appends, Consumes, IsAtEnd}
+use Rattle.io_ports.specs.Bytes.{GivesAll}
 
 -- the next c bytes of xs, after the first d
 pub Appends-next : (before mid after : Option (List ℕ)) (d c : ℕ) (xs : List ℕ)

@@ -1,5 +1,5 @@
 -- Counts of faults: a fault is answered only where its port's count shows it.
-use Rattle.std.specs.Prelude.{ℕ, ◌+◌, ◌-◌, ◌^◌, ◌≤◌, min, Result, OnErr}
+use Rattle.std.specs.Prelude.{ℕ, ◌+◌, ◌-◌, ◌^◌, ◌≤◌, ◌≡◌, min, Result, MatchResult, OnErr}
 
 -- a count after one more, which stops at its last value
 abbrev pub next_count : ℕ → ℕ
@@ -13,3 +13,7 @@ Rose before now = next_count before ≤ now
 pub record HasCause {T E : Type 0} (before now : ℕ) (result : Result T E) : Type 0 where
   pub later : before ≤ now
   pub failed : OnErr result (Rose before now)
+
+-- the count rises at a failed call, and at no other
+abbrev pub CountsFaults : {T E : Type 0} → ℕ → ℕ → Result T E → Type 0
+CountsFaults before now result = MatchResult result (λ _. now ≡ before) (λ _. now ≡ next_count before)

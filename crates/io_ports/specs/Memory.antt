@@ -1,5 +1,5 @@
 -- The ports in memory, as their callers see them.
-use Rattle.std.specs.Prelude.{ℕ, ◌+◌, ◌-◌, List, ◌++◌, length, take, drop, min}
+use Rattle.std.specs.Prelude.{ℕ, ◌-◌, List, ◌++◌, length, take, drop, min}
 use Rattle.io_ports.specs.Faults.{next_count}
 
 -- a source: the bytes to come, the most that one read gives, the numbers of the reads that fail, and the counts of reads and of faults

@@ -6,20 +6,18 @@
 #![tactic(auto)]
 
 mod answers;
-mod broken;
-mod in_memory;
 mod ports;
+mod sinks;
+mod sources;
 mod std_ports;
 mod transfer;
 
 pub use answers::{Failed, InFault, Memory, WriteFault};
-pub use broken::{BrokenSink, BrokenSource, DropSink};
-pub use in_memory::{MemSink, MemSource, SureSource};
 pub use ports::{Sink, Source};
+pub use sinks::{BrokenSink, DropSink, MemSink};
+pub use sources::{BrokenSource, MemSource, SureSource};
 pub use std_ports::{ReadSource, WriteSink};
 pub use transfer::{put, read_all};
-
-
 
 #[cfg(test)]
 mod tests;

@@ -1,11 +1,14 @@
 //! Ports over std's readers and writers. Here the proofs end: what a file, a pipe or a terminal
 //! gives and takes is the reader's and the writer's word.
 ghost use Rattle.std.specs.Prelude.{◌≡◌};
-
-use std::io::{Read, Write};
+ghost use Rattle.std.specs.Io.{ReadsAtMost};
+ghost use Rattle.std.specs.Io.KnownBytes.{ReadConsumes, WriteAppends};
+ghost use Rattle.io_ports.specs.Bytes.{TakesSome};
+ghost use Rattle.io_ports.specs.Faults.{CountsFaults, HasCause};
 
 use crate::answers::Failed;
 use crate::ports::{Sink, Source};
+use std::io::{Read, Write};
 
 /// A reader of std, with the count of its errors. What is left is known where the reader tells
 /// it: a file, a pipe and a terminal don't.
@@ -28,13 +31,17 @@ impl<R: Read> Source for ReadSource<R> {
 
     ghost faults = { λ s. s.faults };
 
-    fn read(&mut self, into: &mut [u8]) -> Result<usize, Failed> {
+    fn read(&mut self, into: &mut [u8]) -> Result<usize, Failed>
+        ensures counted { CountsFaults self.old.faults self.new.faults result }
+
+        // The clauses of the trait.
+        ensures bound { ReadsAtMost result into.new }
+        ensures bytes { ReadConsumes (R.remaining self.old.inner) (R.remaining self.new.inner) result into.new }
+        ensures cause { HasCause self.old.faults self.new.faults result }
+    {
         match self.inner.read(into) {
             Ok(count) => Ok(count),
-            Err(_) => {
-                self.faults = self.faults.saturating_add(1);
-                Err(Failed)
-            }
+            Err(_) => Err(Failed::counted(&mut self.faults)),
         }
     }
 }
@@ -61,13 +68,17 @@ impl<W: Write> Sink for WriteSink<W> {
 
     ghost faults = { λ s. s.faults };
 
-    fn write(&mut self, piece: &[u8]) -> Result<usize, Failed> {
+    fn write(&mut self, piece: &[u8]) -> Result<usize, Failed>
+        ensures counted { CountsFaults self.old.faults self.new.faults result }
+
+        // The clauses of the trait.
+        ensures bound { TakesSome result piece.now }
+        ensures bytes { WriteAppends (W.contents self.old.inner) (W.contents self.new.inner) result piece.now }
+        ensures cause { HasCause self.old.faults self.new.faults result }
+    {
         match self.inner.write(piece) {
             Ok(count) if count > 0 || piece.is_empty() => Ok(count),
-            _ => {
-                self.faults = self.faults.saturating_add(1);
-                Err(Failed)
-            }
+            _ => Err(Failed::counted(&mut self.faults)),
         }
     }
 }

@@ -4,10 +4,9 @@ ghost use Rattle.std.specs.Io.KnownBytes.{Appends, Consumes};
 ghost use Rattle.io_ports.specs.Bytes.{AppendsPrefix, GivesAll};
 ghost use Rattle.io_ports.specs.Faults.{HasCause, Rose};
 
-use std::alloc::Global;
-
 use crate::answers::{InFault, WriteFault};
 use crate::ports::{Sink, Source};
+use std::alloc::Global;
 
 // How many bytes one read of `read_all` asks for.
 const CHUNK: usize = 4096;

@@ -1,4 +1,4 @@
-use Rattle.std.proofs.Common.{◌≡◌, ◌+◌, ◌≤◌, ◌<◌, ◌++◌, take, length, refl, arith, length-append, length-take, vec_len}
+use Rattle.std.proofs.Common.{◌≡◌, ◌+◌, ◌≤◌, ◌<◌, ◌++◌, take, length, refl, arith, vec_len}
 use Rattle.std.proofs.KnownBytes.{Consumes-trans}
 use Rattle.io_ports.proofs.Transfers.{length-came}
 use Rattle.io_ports.specs.declared.transfer.TheConstants.{CHUNK}

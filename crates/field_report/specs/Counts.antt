@@ -1,0 +1,49 @@
+-- The printed counts of a box: whole numbers of 10^-12.
+use Rattle.std.specs.Prelude.{ℤ, pos, ◌*ℤ◌, ◌≤ℤ◌, ◌<ℤ◌, ◌^◌, Bool, true, false}
+use Rattle.exact_math.specs.Contains.{Contains}
+use Rattle.exact_math.specs.Ends.{Ends, BoxEnds, neg_ends}
+use Rattle.exact_math.specs.Ratio.{Ratio, ComplexRatio, re_part, im_part, neg_ratio}
+use Rattle.exact_math.specs.Rounding.{floor_div, ceil_div}
+use Rattle.particle_text.specs.declared.Mode.{Mode}
+use Rattle.particle_text.specs.declared.Mode.TheVariants.{Field, Velocity}
+
+-- an end in units of 2^-40 as a count of 10^-12, rounded down, and rounded up
+abbrev pub count_below : ℤ → ℤ
+count_below n = floor_div (pos (10 ^ 12) *ℤ n) (pos (2 ^ 40))
+
+abbrev pub count_above : ℤ → ℤ
+count_above n = ceil_div (pos (10 ^ 12) *ℤ n) (pos (2 ^ 40))
+
+-- a count that was rounded down is at most 10^12 x, and one that was rounded up at least, for each fraction x on that side of the end
+abbrev pub KeepsBound : Bool → ℤ → ℤ → Type 0
+KeepsBound false n count = (x : Ratio) → pos 0 <ℤ x.denominator → (n *ℤ x.denominator) ≤ℤ (pos (2 ^ 40) *ℤ x.numerator)
+    → (count *ℤ x.denominator) ≤ℤ (pos (10 ^ 12) *ℤ x.numerator)
+KeepsBound true n count = (x : Ratio) → pos 0 <ℤ x.denominator → (pos (2 ^ 40) *ℤ x.numerator) ≤ℤ (n *ℤ x.denominator)
+    → (pos (10 ^ 12) *ℤ x.numerator) ≤ℤ (count *ℤ x.denominator)
+
+-- the counts of both ends of an interval
+abbrev pub count_ends : Ends → Ends
+count_ends i = record { lo = count_below i.lo; hi = count_above i.hi }
+
+-- the counts that one target line prints, of `re` and `im` or of `u` and `v`
+pub record TargetCounts : Type 0 where
+  pub first : Ends
+  pub second : Ends
+
+-- A field line prints both parts. In a velocity line `u` is the real part and `v` the negative of the imaginary part.
+abbrev pub second_ends : Mode → Ends → Ends
+second_ends Field im = count_ends im
+second_ends Velocity im = neg_ends (count_ends im)
+
+abbrev pub target_counts : Mode → BoxEnds → TargetCounts
+target_counts mode b = record { first = count_ends b.re; second = second_ends mode b.im }
+
+-- the second number of a target line
+abbrev pub second_part : Mode → ComplexRatio → Ratio
+second_part Field z = im_part z
+second_part Velocity z = neg_ratio (im_part z)
+
+-- the printed counts contain the parts of the fraction, in units of 10^-12
+pub record CountsContain (mode : Mode) (c : TargetCounts) (z : ComplexRatio) : Type 0 where
+  pub first : Contains (pos (10 ^ 12)) c.first.lo c.first.hi (re_part z)
+  pub second : Contains (pos (10 ^ 12)) c.second.lo c.second.hi (second_part mode z)

@@ -1,0 +1,107 @@
+//! From ends in units of 2^-40 to counts of 10^-12.
+ghost use Rattle.std.specs.Prelude.{◌≡◌, ◌*◌, ◌^◌, if◌then◌else◌, pos, neg_ℤ};
+ghost use Rattle.exact_math.specs.Contains.{Contains};
+ghost use Rattle.exact_math.specs.Ratio.{Ratio, neg_ratio};
+ghost use Rattle.exact_math.specs.Rounding.{floor_div};
+ghost use Rattle.exact_math.specs.Within.{Within};
+ghost use Rattle.exact_math.specs.Ends.{Ends, BoxEnds};
+ghost use Rattle.fixed_interval.specs.Interval.{IntervalWithin, ends_of};
+ghost use Rattle.field_report.specs.Counts.{second_ends, count_below, count_above, KeepsBound};
+
+use fixed_interval::Interval;
+use particle_text::Mode;
+
+/// The bits of the unit of boxes.
+const UNIT_BITS: u32 = 40;
+
+/// How many counts make 1.
+pub(crate) const ONE: i128 = 1_000_000_000_000;
+
+/// `10^12 n / 2^40` rounded down, or rounded up where `up` is set: the count of an end `n` of a box.
+///
+/// `n` is at most 2^84 in size, and so is its count.
+pub fn to_count(n: i128, up: bool) -> i128
+    requires { Within (2 ^ 84) n }
+    ensures value { result ≡ (if up then count_above n else count_below n) }
+    ensures size { Within (2 ^ 84) result }
+    ensures bound { KeepsBound up n result }
+{
+    if up {
+        return count_up(n);
+    }
+    count_down(n)
+}
+
+fn count_down(n: i128) -> i128
+    requires { Within (2 ^ 84) n }
+    ensures value { result ≡ count_below n }
+    ensures size { Within (2 ^ 84) result }
+{
+    in_units(n * ONE)
+}
+
+fn count_up(n: i128) -> i128
+    requires { Within (2 ^ 84) n }
+    ensures value { result ≡ count_above n }
+    ensures size { Within (2 ^ 84) result }
+{
+    -in_units(-(n * ONE))
+}
+
+// `z / 2^40` rounded down.
+fn in_units(z: i128) -> i128
+    requires { Within (10 ^ 12 * 2 ^ 84) z }
+    ensures value { result ≡ floor_div z (pos (2 ^ 40)) }
+    ensures size { Within (2 ^ 84) result }
+{
+    z >> UNIT_BITS
+}
+
+/// The printed counts of the ends of an interval.
+#[derive(Clone, Copy)]
+pub(crate) struct CountEnds {
+    pub(crate) lo: i128,
+    pub(crate) hi: i128,
+    ghost low_size: { Within (2 ^ 84) lo },
+    ghost high_size: { Within (2 ^ 84) hi },
+}
+
+impl CountEnds {
+    /// The count of the lower end rounded down, and that of the upper end rounded up.
+    pub(crate) fn of(i: Interval) -> CountEnds
+        requires { IntervalWithin (2 ^ 84) i }
+        ensures lo { result.lo ≡ count_below i.lo }
+        ensures hi { result.hi ≡ count_above i.hi }
+        ensures contains { (x : Ratio) → Contains (pos (2 ^ 40)) i.lo i.hi x → Contains (pos (10 ^ 12)) result.lo result.hi x }
+    {
+        CountEnds {
+            lo: count_down(i.lo),
+            hi: count_up(i.hi),
+        }
+    }
+
+    /// The counts of the negative.
+    pub(crate) fn neg(self) -> CountEnds
+        ensures lo { result.lo ≡ neg_ℤ self.hi }
+        ensures hi { result.hi ≡ neg_ℤ self.lo }
+        ensures contains { (x : Ratio) → Contains (pos (10 ^ 12)) self.lo self.hi x → Contains (pos (10 ^ 12)) result.lo result.hi (neg_ratio x) }
+    {
+        CountEnds {
+            lo: -self.hi,
+            hi: -self.lo,
+        }
+    }
+}
+
+/// The counts of the second pair of a target line: those of the imaginary part, or of its negative in a velocity line.
+pub(crate) fn second_counts(mode: Mode, im: Interval) -> CountEnds
+    requires { IntervalWithin (2 ^ 84) im }
+    ensures lo { result.lo ≡ (second_ends mode (ends_of im)).lo }
+    ensures hi { result.hi ≡ (second_ends mode (ends_of im)).hi }
+{
+    let counts = CountEnds::of(im);
+    match mode {
+        Mode::Field => counts,
+        Mode::Velocity => counts.neg(),
+    }
+}

@@ -1,0 +1,28 @@
+use Rattle.std.proofs.Common.{◌≡◌, to_z-of_z}
+use Rattle.exact_math.specs.Rounding.{floor_div, ceil_div}
+use Rattle.exact_math.proofs.Bridges.{contains-quot}
+use Rattle.fixed_interval.proofs.Division.{floor_le_ceil}
+use Rattle.fixed_interval.proofs.Order.{low_fits, high_fits, ordered_cast, settled, same_ends}
+use Rattle.fixed_interval.proofs.Interval.quot.Goals as goal
+use Rattle.fixed_interval.proofs.Interval.quot.Goals.{After-ceil_near-hi}
+
+-- what the two helpers gave, with no cast left
+record Quotients (c : After-ceil_near-hi) : Type 0 where
+  lo : c.floor_quot-lo.result ≡ floor_div c.args.self.lo c.args.n
+  hi : c.ceil_near-hi.result ≡ ceil_div c.args.self.hi c.args.n
+
+quotients : (c : After-ceil_near-hi) → Quotients c
+quotients c =
+    let e = low_fits c.args.self in
+    let f = high_fits c.args.self in
+    let g = c.ranges.n in
+    record { lo = simp to_z-of_z at c.floor_quot-lo.ensures.value; hi = simp to_z-of_z at c.ceil_near-hi.ensures.value }
+
+pub invariant_of-result-clause-ordered : goal.invariant_of-result-clause-ordered
+invariant_of-result-clause-ordered c =
+    ordered_cast _ _ c.floor_quot-lo.ensures.size c.ceil_near-hi.ensures.size (quotients c).lo (quotients c).hi (floor_le_ceil c.args.self.lo c.args.self.hi c.args.n c.requires c.args.self.ordered)
+
+pub returns-clause-contains : goal.returns-clause-contains
+returns-clause-contains c x p =
+    let q = quotients (goal.at.returns-clause-contains c).After-ceil_near-hi in
+    same_ends (settled _ _ c.floor_quot-lo.ensures.size q.lo) (settled _ _ c.ceil_near-hi.ensures.size q.hi) (contains-quot p c.args.n c.requires)

@@ -1,0 +1,216 @@
+//! Intervals of whole ends with directed rounding.
+//!
+//! An interval counts units of its caller's choice. One rule holds for every call: whatever fractions the
+//! arguments contain, the result contains the exact result. Sums and products are exact; a quotient rounds its
+//! lower end down and its upper end up.
+#![tactic(auto)]
+
+ghost use Rattle.std.specs.Prelude.{ℕ, ◌^◌, ℤ, ◌≤ℤ◌};
+ghost use Rattle.exact_math.specs.Within.{Within};
+
+mod products;
+mod rounding;
+#[cfg(test)]
+mod tests;
+
+use products::{high_product, low_product};
+pub use rounding::{ceil_shift, floor_shift};
+use rounding::{ceil_near, floor_quot};
+
+/// The whole ends `lo <= hi`, each from -2^126 to 2^126.
+#[derive(Clone, Copy, PartialEq, Eq, Debug)]
+pub struct Interval {
+    pub lo: i128,
+    pub hi: i128,
+    pub ghost ordered: { lo ≤ℤ hi },
+    pub ghost low_end: { Within (2 ^ 126) lo },
+    pub ghost high_end: { Within (2 ^ 126) hi },
+}
+
+impl Interval {
+    ghost use Rattle.std.specs.Prelude.{◌≡◌, ◌<◌, pos, neg_ℤ, ◌+ℤ◌, ◌-ℤ◌, ◌*ℤ◌, IsTrue, ◌↔◌};
+    ghost use Rattle.std.specs.Int.{int_min, int_max};
+    ghost use Rattle.exact_math.specs.Contains.{Contains};
+    ghost use Rattle.exact_math.specs.Ends.{EndsWithin, add_ends, sub_ends, scale_ends, times_ends, widen_ends, least, greatest};
+    ghost use Rattle.exact_math.specs.Ratio.{Ratio, whole_ratio, add_ratio, neg_ratio, sub_ratio, mul_ratio, over_ratio};
+    ghost use Rattle.exact_math.specs.Rounding.{floor_div, ceil_div};
+    ghost use Rattle.fixed_interval.specs.Interval.{ends_of, IntervalContains};
+    ghost use Rattle.fixed_interval.specs.declared.Interval.{Interval};
+
+    /// `[n, n]`. Condition: `n` is at most 2^126 in size.
+    pub fn point(n: i128) -> Interval
+        requires { Within (2 ^ 126) n }
+        ensures lo { result.lo ≡ n }
+        ensures hi { result.hi ≡ n }
+        ensures contains { IntervalContains result (whole_ratio n) }
+    {
+        Interval { lo: n, hi: n }
+    }
+
+    /// `[lo, hi]`. Conditions: `lo <= hi`, and both ends are at most 2^126 in size.
+    pub fn new(lo: i128, hi: i128) -> Interval
+        requires ordered { lo ≤ℤ hi }
+        requires low_end { Within (2 ^ 126) lo }
+        requires high_end { Within (2 ^ 126) hi }
+        ensures lo { result.lo ≡ lo }
+        ensures hi { result.hi ≡ hi }
+        ensures contains { (x : Ratio) → Contains (pos 1) lo hi x → IntervalContains result x }
+    {
+        Interval { lo, hi }
+    }
+
+    /// The sum: lower end plus lower end, upper end plus upper end. Condition: both sums are at most 2^126 in size.
+    #[inline]
+    pub fn add(self, o: Interval) -> Interval
+        requires { EndsWithin (2 ^ 126) (add_ends (ends_of self) (ends_of o)) }
+        ensures lo { result.lo ≡ self.lo +ℤ o.lo }
+        ensures hi { result.hi ≡ self.hi +ℤ o.hi }
+        ensures contains { (x y : Ratio) → IntervalContains self x → IntervalContains o y → IntervalContains result (add_ratio x y) }
+    {
+        Interval {
+            lo: self.lo + o.lo,
+            hi: self.hi + o.hi,
+        }
+    }
+
+    /// Takes a part away from a sum: lower end minus lower end, upper end minus upper end. It undoes `add`.
+    /// Conditions: the result has `lo <= hi`, and both its ends are at most 2^126 in size.
+    #[inline]
+    pub fn take(self, o: Interval) -> Interval
+        requires ordered { (self.lo -ℤ o.lo) ≤ℤ (self.hi -ℤ o.hi) }
+        requires low_end { Within (2 ^ 126) (self.lo -ℤ o.lo) }
+        requires high_end { Within (2 ^ 126) (self.hi -ℤ o.hi) }
+        ensures lo { result.lo ≡ self.lo -ℤ o.lo }
+        ensures hi { result.hi ≡ self.hi -ℤ o.hi }
+        ensures undoes { (part : Interval) → self.lo ≡ part.lo +ℤ o.lo → self.hi ≡ part.hi +ℤ o.hi → (result.lo ≡ part.lo) × (result.hi ≡ part.hi) }
+    {
+        Interval {
+            lo: self.lo - o.lo,
+            hi: self.hi - o.hi,
+        }
+    }
+
+    /// The difference `[lo - o.hi, hi - o.lo]`. Condition: both ends are at most 2^126 in size.
+    #[inline]
+    pub fn sub(self, o: Interval) -> Interval
+        requires { EndsWithin (2 ^ 126) (sub_ends (ends_of self) (ends_of o)) }
+        ensures lo { result.lo ≡ self.lo -ℤ o.hi }
+        ensures hi { result.hi ≡ self.hi -ℤ o.lo }
+        ensures contains { (x y : Ratio) → IntervalContains self x → IntervalContains o y → IntervalContains result (sub_ratio x y) }
+    {
+        Interval {
+            lo: self.lo - o.hi,
+            hi: self.hi - o.lo,
+        }
+    }
+
+    /// `[-hi, -lo]`.
+    #[inline]
+    pub fn neg(self) -> Interval
+        ensures lo { result.lo ≡ neg_ℤ self.hi }
+        ensures hi { result.hi ≡ neg_ℤ self.lo }
+        ensures contains { (x : Ratio) → IntervalContains self x → IntervalContains result (neg_ratio x) }
+    {
+        Interval {
+            lo: -self.hi,
+            hi: -self.lo,
+        }
+    }
+
+    /// The products of both ends with `k`, in order. Condition: both are at most 2^126 in size.
+    #[inline]
+    pub fn scale(self, k: i128) -> Interval
+        requires { EndsWithin (2 ^ 126) (scale_ends k (ends_of self)) }
+        ensures lo { result.lo ≡ int_min (self.lo *ℤ k) (self.hi *ℤ k) }
+        ensures hi { result.hi ≡ int_max (self.lo *ℤ k) (self.hi *ℤ k) }
+        ensures contains { (x : Ratio) → IntervalContains self x → IntervalContains result (mul_ratio (whole_ratio k) x) }
+    {
+        Interval {
+            lo: low_product(self.lo, self.hi, k),
+            hi: high_product(self.lo, self.hi, k),
+        }
+    }
+
+    /// The product: the least and the greatest of the four products of an end with an end.
+    /// Condition: these two are at most 2^126 in size.
+    ///
+    /// Where this interval doesn't straddle zero, two of the four products are enough.
+    #[inline]
+    pub fn times(self, o: Interval) -> Interval
+        requires { EndsWithin (2 ^ 126) (times_ends (ends_of self) (ends_of o)) }
+        ensures lo { result.lo ≡ least (self.lo *ℤ o.lo) (self.lo *ℤ o.hi) (self.hi *ℤ o.lo) (self.hi *ℤ o.hi) }
+        ensures hi { result.hi ≡ greatest (self.lo *ℤ o.lo) (self.lo *ℤ o.hi) (self.hi *ℤ o.lo) (self.hi *ℤ o.hi) }
+        ensures contains { (x y : Ratio) → IntervalContains self x → IntervalContains o y → IntervalContains result (mul_ratio x y) }
+    {
+        if self.lo >= 0 {
+            return Interval {
+                lo: low_product(self.lo, self.hi, o.lo),
+                hi: high_product(self.lo, self.hi, o.hi),
+            };
+        }
+        if self.hi <= 0 {
+            return Interval {
+                lo: low_product(self.lo, self.hi, o.hi),
+                hi: high_product(self.lo, self.hi, o.lo),
+            };
+        }
+        let straight = self.lo * o.lo;
+        let crossed = self.lo * o.hi;
+        Interval {
+            lo: crossed.min(self.hi * o.lo),
+            hi: straight.max(self.hi * o.hi),
+        }
+    }
+
+    /// The quotient `[floor(lo/n), ceil(hi/n)]`. Condition: `n >= 1`.
+    ///
+    /// One division serves both ends where the interval lies between two neighbouring multiples of `n`.
+    pub fn quot(self, n: i128) -> Interval
+        requires { pos 1 ≤ℤ n }
+        ensures lo { result.lo ≡ floor_div self.lo n }
+        ensures hi { result.hi ≡ ceil_div self.hi n }
+        ensures contains { (x : Ratio) → IntervalContains self x → IntervalContains result (over_ratio x n) }
+    {
+        let lo = floor_quot(self.lo, n);
+        let hi = ceil_near(self.hi, n, self.lo, lo);
+        Interval { lo, hi }
+    }
+
+    /// The quotient by 2^k, `[floor(lo/2^k), ceil(hi/2^k)]`, by shifts. Condition: `k < 127`.
+    #[inline]
+    pub fn quot_shift(self, k: u32) -> Interval
+        requires { k < 127 }
+        ensures lo { result.lo ≡ floor_div self.lo (pos (2 ^ k)) }
+        ensures hi { result.hi ≡ ceil_div self.hi (pos (2 ^ k)) }
+        ensures contains { (x : Ratio) → IntervalContains self x → IntervalContains result (over_ratio x (pos (2 ^ k))) }
+    {
+        let lo = floor_shift(self.lo, k);
+        let hi = ceil_shift(self.hi, k);
+        Interval { lo, hi }
+    }
+
+    /// `[lo - r, hi + r]`, which contains what differs by at most `r` from something that this interval contains.
+    /// Conditions: `r >= 0`, and both ends are at most 2^126 in size.
+    #[inline]
+    pub fn widen(self, r: i128) -> Interval
+        requires radius { pos 0 ≤ℤ r }
+        requires fits { EndsWithin (2 ^ 126) (widen_ends (ends_of self) r) }
+        ensures lo { result.lo ≡ self.lo -ℤ r }
+        ensures hi { result.hi ≡ self.hi +ℤ r }
+        ensures contains { (x y : Ratio) → IntervalContains self x → Contains (pos 1) (neg_ℤ r) r (sub_ratio y x) → IntervalContains result y }
+    {
+        Interval {
+            lo: self.lo - r,
+            hi: self.hi + r,
+        }
+    }
+
+    /// True exactly where `outer.lo <= lo` and `hi <= outer.hi`.
+    #[inline]
+    pub fn inside(self, outer: Interval) -> bool
+        ensures exactly { IsTrue result ↔ ((outer.lo ≤ℤ self.lo) × (self.hi ≤ℤ outer.hi)) }
+        ensures contains { IsTrue result → (x : Ratio) → IntervalContains self x → IntervalContains outer x }
+    {
+        outer.lo <= self.lo && self.hi <= outer.hi
+    }
+}

@@ -1,0 +1,92 @@
+-- Reports of one leaf, computed from the definitions and compared with texts that were worked out elsewhere.
+use Rattle.std.proofs.Common.{◌≡◌, refl, pos, negsuc, ℤ, [], ◌∷◌, ◌++◌, codes}
+use Rattle.std.specs.Fmt.{digits}
+use Rattle.particle_text.specs.declared.Kind.{Kind}
+use Rattle.particle_text.specs.declared.Kind.TheVariants.{Charge, Dipole, Vortex, Target}
+use Rattle.particle_text.specs.declared.Mode.TheVariants.{Field, Velocity}
+use Rattle.particle_text.specs.declared.Point.{Point}
+use Rattle.field_report.specs.Decimals.{digits_in}
+use Rattle.field_report.specs.Report.{line_feed}
+use Rattle.fmm_program.specs.OneLeaf.{leaf_report}
+
+abbrev at : ℤ → ℤ → Kind → Point
+at x y kind = record { x = x; y = y; kind = kind }
+
+-- a charge of 1, five places away
+five_away : leaf_report Field (at (pos 0) (pos 0) (Charge (pos 1)) ∷ at (pos 3) (pos 4) Target ∷ []) 8 8
+    ≡ codes "fmm report 1 field order 8 cap 8" ++ line_feed
+    ++ codes "target 3 4 re 0.119999999999 0.120000000001 im -0.160000000001 -0.159999999999" ++ line_feed
+    ++ codes "work translations 0 pairs 1" ++ line_feed ++ codes "end" ++ line_feed
+unfolding digits digits_in
+five_away = refl
+
+-- an exact value has no width
+one_away : leaf_report Field (at (pos 0) (pos 0) (Charge (pos 1)) ∷ at (pos 1) (pos 0) Target ∷ []) 8 8
+    ≡ codes "fmm report 1 field order 8 cap 8" ++ line_feed
+    ++ codes "target 1 0 re 1.000000000000 1.000000000000 im 0.000000000000 0.000000000000" ++ line_feed
+    ++ codes "work translations 0 pairs 1" ++ line_feed ++ codes "end" ++ line_feed
+unfolding digits digits_in
+one_away = refl
+
+-- a vortex of circulation 1: the second number is the negative of the imaginary part
+vortex : leaf_report Velocity (at (pos 0) (pos 0) (Vortex (pos 1)) ∷ at (pos 1) (pos 0) Target ∷ []) 8 8
+    ≡ codes "fmm report 1 velocity order 8 cap 8" ++ line_feed
+    ++ codes "target 1 0 u 0.000000000000 0.000000000000 v 1.000000000000 1.000000000000" ++ line_feed
+    ++ codes "work translations 0 pairs 1" ++ line_feed ++ codes "end" ++ line_feed
+unfolding digits digits_in
+vortex = refl
+
+-- a source at the place of the target is left out
+same_place : leaf_report Field (at (pos 5) (pos 5) (Charge (pos 7)) ∷ at (pos 5) (pos 5) Target ∷ []) 8 8
+    ≡ codes "fmm report 1 field order 8 cap 8" ++ line_feed
+    ++ codes "target 5 5 re 0.000000000000 0.000000000000 im 0.000000000000 0.000000000000" ++ line_feed
+    ++ codes "work translations 0 pairs 0" ++ line_feed ++ codes "end" ++ line_feed
+unfolding digits digits_in
+same_place = refl
+
+-- the largest difference
+across : leaf_report Field (at (negsuc 32767) (negsuc 32767) (Charge (pos 1)) ∷ at (pos 32767) (pos 32767) Target ∷ []) 8 8
+    ≡ codes "fmm report 1 field order 8 cap 8" ++ line_feed
+    ++ codes "target 32767 32767 re 0.000007629510 0.000007629512 im -0.000007629512 -0.000007629510" ++ line_feed
+    ++ codes "work translations 0 pairs 1" ++ line_feed ++ codes "end" ++ line_feed
+unfolding digits digits_in
+across = refl
+
+-- a dipole, two places away
+dipole : leaf_report Field (at (pos 0) (pos 0) (Dipole (pos 1) (pos 0)) ∷ at (pos 0) (pos 2) Target ∷ []) 8 8
+    ≡ codes "fmm report 1 field order 8 cap 8" ++ line_feed
+    ++ codes "target 0 2 re -0.250000000000 -0.250000000000 im 0.000000000000 0.000000000000" ++ line_feed
+    ++ codes "work translations 0 pairs 1" ++ line_feed ++ codes "end" ++ line_feed
+unfolding digits digits_in
+dipole = refl
+
+-- no point, and a target alone
+nothing : leaf_report Field [] 8 8 ≡ codes "fmm report 1 field order 8 cap 8" ++ line_feed ++ codes "work translations 0 pairs 0" ++ line_feed ++ codes "end" ++ line_feed
+unfolding digits digits_in
+nothing = refl
+
+alone : leaf_report Field (at (pos 0) (pos 0) Target ∷ []) 8 8
+    ≡ codes "fmm report 1 field order 8 cap 8" ++ line_feed
+    ++ codes "target 0 0 re 0.000000000000 0.000000000000 im 0.000000000000 0.000000000000" ++ line_feed
+    ++ codes "work translations 0 pairs 0" ++ line_feed ++ codes "end" ++ line_feed
+unfolding digits digits_in
+alone = refl
+
+-- strengths that cancel
+cancel : leaf_report Field (at (pos 0) (pos 0) (Charge (pos 1048576)) ∷ at (pos 1) (pos 0) (Charge (negsuc 1048575)) ∷ at (pos 100) (pos 0) Target ∷ []) 8 8
+    ≡ codes "fmm report 1 field order 8 cap 8" ++ line_feed
+    ++ codes "target 100 0 re -105.916767676770 -105.916767676767 im 0.000000000000 0.000000000000" ++ line_feed
+    ++ codes "work translations 0 pairs 2" ++ line_feed ++ codes "end" ++ line_feed
+unfolding digits digits_in
+cancel = refl
+
+abbrev unit : Point
+unit = at (pos 0) (pos 0) (Charge (pos 1))
+
+-- seven charges at one place
+seven : leaf_report Field (unit ∷ unit ∷ unit ∷ unit ∷ unit ∷ unit ∷ unit ∷ at (pos 1) (pos 0) Target ∷ []) 8 8
+    ≡ codes "fmm report 1 field order 8 cap 8" ++ line_feed
+    ++ codes "target 1 0 re 7.000000000000 7.000000000000 im 0.000000000000 0.000000000000" ++ line_feed
+    ++ codes "work translations 0 pairs 7" ++ line_feed ++ codes "end" ++ line_feed
+unfolding digits digits_in
+seven = refl

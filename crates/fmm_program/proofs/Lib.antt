@@ -1,0 +1,4 @@
+pub mod Examples
+pub mod LeafContains
+pub mod Commands
+pub mod LeafSums

@@ -1,0 +1,32 @@
+-- The forms of the command line.
+use Rattle.std.specs.Prelude.{ℕ, ◌≡◌, ◌≢◌, List, [], ◌∷◌, codes}
+use Rattle.exact_math.specs.Orders.{IsOrder, IsCapacity}
+use Rattle.number_text.specs.Numbers.{IsUint}
+use Rattle.fmm_program.specs.declared.words.Command.{Command}
+use Rattle.fmm_program.specs.declared.words.Command.TheVariants.{Solve}
+use Rattle.fmm_program.specs.declared.words.Opening.{Opening}
+use Rattle.fmm_program.specs.declared.words.Opening.TheVariants.{Nothing, SolveInput, SolveFile}
+
+-- the words are `solve ORDER CAP FILE`
+pub record IsSolve (words : List (List ℕ)) (order cap : ℕ) (file : List ℕ) : Type 0 where
+  pub order_word : List ℕ
+  pub cap_word : List ℕ
+  pub words_are : words ≡ codes "solve" ∷ order_word ∷ cap_word ∷ file ∷ []
+  pub spells_order : IsUint order_word order
+  pub spells_cap : IsUint cap_word cap
+  pub is_order : IsOrder order
+  pub is_capacity : IsCapacity cap
+
+-- the words are of no form
+abbrev pub IsUsage : List (List ℕ) → Type 0
+IsUsage words = (order cap : ℕ) (file : List ℕ) → IsSolve words order cap file → ⊥
+
+-- what is to be opened for these words
+abbrev pub Opens : List (List ℕ) → Opening → Type 0
+Opens words Nothing = IsUsage words
+Opens words SolveInput = (order : ℕ) × (cap : ℕ) × IsSolve words order cap (codes "-")
+Opens words (SolveFile file) = (order : ℕ) × (cap : ℕ) × (file.now ≢ codes "-") × IsSolve words order cap file.now
+
+-- the words ask for the command
+abbrev pub Asks : List (List ℕ) → Command → Type 0
+Asks words (Solve order cap file) = IsSolve words order cap file.now

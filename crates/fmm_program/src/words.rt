@@ -1,0 +1,142 @@
+//! The words of the command line, and what they ask for.
+ghost use Rattle.std.specs.Prelude.{◌≡◌, ℕ, ◌+◌, ◌<◌, ◌≤◌, List, [], ◌∷◌, ◌++◌, length, slice_get, codes, decimal, ◌≢◌, IfSome, IfNone, OnOk, OnErr, Some, None};
+ghost use Rattle.exact_math.specs.Orders.{IsOrder, IsCapacity};
+ghost use Rattle.number_text.specs.Numbers.{IsUint};
+ghost use Rattle.fmm_program.specs.Forms.{Asks, IsUsage, Opens};
+
+use io_ports::Memory;
+use number_text::read_uint;
+use std::alloc::Global;
+use std::marker::Model;
+
+/// The words after the program's name. A contract sees the list that has, for each word in
+/// order, the list of its bytes.
+#[derive(Drop)]
+pub struct Words {
+    words: Vec<String>,
+}
+
+impl Model for Words {
+    ghost use Rattle.std.specs.Prelude.{ℕ, List, map, string_bytes};
+
+    ghost Value = { List (List ℕ) };
+
+    ghost view = { λ w. map string_bytes w.words.items };
+}
+
+impl Words {
+    /// No words. It takes no memory.
+    pub fn new(alloc: Global) -> Words
+        ensures { result ≡ [] }
+    {
+        Words {
+            words: Vec::new(alloc),
+        }
+    }
+
+    /// Appends a word.
+    pub fn push(&mut self, alloc: Global, word: &str) -> Result<(), Memory>
+        ensures pushed { OnOk result (self.new ≡ self.old ++ word.now ∷ []) }
+        ensures kept { OnErr result (self.new ≡ self.old) }
+    {
+        let Ok(text) = String::from_str(alloc, word) else {
+            return Err(Memory);
+        };
+        match self.words.push(text) {
+            Ok(()) => Ok(()),
+            Err(_) => Err(Memory),
+        }
+    }
+
+    /// How many words there are.
+    pub fn count(&self) -> usize
+        ensures { result ≡ length self.now }
+    {
+        self.words.len()
+    }
+
+    /// The k-th word, counted from 0.
+    pub fn word(&self, k: usize) -> &str
+        requires { k < length self.now }
+        ensures { slice_get self.now k ≡ Some result.now }
+    {
+        self.words[k].as_str()
+    }
+}
+
+/// What is to be opened before the run.
+#[derive(Clone, Copy, Debug, PartialEq, Eq)]
+pub enum Opening<'a> {
+    /// No file: the words are of no form.
+    Nothing,
+    /// The points come from standard input.
+    SolveInput,
+    /// The points come from this file.
+    SolveFile { file: &'a str },
+}
+
+/// What the words ask for.
+#[derive(Clone, Copy, Debug, PartialEq, Eq)]
+pub(crate) enum Command<'a> {
+    /// `solve ORDER CAP FILE`
+    Solve { order: u32, cap: u32, file: &'a str },
+}
+
+/// The number that a word spells, where it is at least `least` and at most `most`.
+fn number_in(word: &str, least: u32, most: u32) -> Option<u32>
+    ensures some { IfSome result (λ n. IsUint word.now n × (least ≤ n) × (n ≤ most)) }
+    ensures none { IfNone result ((n : ℕ) → IsUint word.now n → least ≤ n → n ≤ most → ⊥) }
+{
+    let number = read_uint(word.as_bytes())?;
+    if number < u64::from(least) || u64::from(most) < number {
+        return None;
+    }
+    Some(number as u32)
+}
+
+/// The order that a word spells.
+fn order_of(word: &str) -> Option<u32>
+    ensures some { IfSome result (λ n. IsUint word.now n × IsOrder n) }
+    ensures none { IfNone result ((n : ℕ) → IsUint word.now n → IsOrder n → ⊥) }
+{
+    let number = number_in(word, 4, 24)?;
+    match number {
+        4 | 8 | 16 | 24 => Some(number),
+        _ => None,
+    }
+}
+
+/// The capacity that a word spells.
+fn capacity_of(word: &str) -> Option<u32>
+    ensures some { IfSome result (λ n. IsUint word.now n × IsCapacity n) }
+    ensures none { IfNone result ((n : ℕ) → IsUint word.now n → IsCapacity n → ⊥) }
+{
+    number_in(word, 8, 1024)
+}
+
+/// The command that the words ask for; `None` where they are of no form.
+pub(crate) fn asked(words: &Words) -> Option<Command<'_>>
+    ensures some { IfSome result (λ c. Asks words.now c) }
+    ensures none { IfNone result (IsUsage words.now) }
+{
+    if words.count() != 4 || words.word(0) != "solve" {
+        return None;
+    }
+    let order = order_of(words.word(1))?;
+    let cap = capacity_of(words.word(2))?;
+    let file = words.word(3);
+    Some(Command::Solve { order, cap, file })
+}
+
+/// What is to be opened for these words. It takes no memory.
+///
+/// `Nothing` exactly where they are of no form; a FILE `-` is standard input.
+pub fn plan(words: &Words) -> Opening<'_>
+    ensures { Opens words.now result }
+{
+    match asked(words) {
+        Some(Command::Solve { file: "-", .. }) => Opening::SolveInput,
+        Some(Command::Solve { file, .. }) => Opening::SolveFile { file },
+        None => Opening::Nothing,
+    }
+}

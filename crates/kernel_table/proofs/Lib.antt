@@ -1,0 +1,10 @@
+mod PowersOfTwo
+mod Chosen
+mod Contained
+mod Widths
+mod Sizes
+mod Norms
+mod Places
+mod Lookups
+mod Pushed
+mod Signs

@@ -1,0 +1,44 @@
+-- The kernel that turns a multipole row into a local row: C(k + l, k)/e^(k + l + 1) with the sign of (-1)^l, for two cells of one side whose centres are e sides apart.
+use Rattle.std.specs.Prelude.{ℕ, zero, suc, ◌+◌, ◌^◌, ◌≤◌, pos, neg_ℤ, ◌*ℤ◌, unsigned_abs, max}
+use Rattle.exact_math.specs.Ends.{BoxEnds, point_box, neg_box, scale_box, quot_box, gquot_box}
+use Rattle.exact_math.specs.Gaussian.{Gaussian, gaussian, norm_gaussian}
+use Rattle.exact_math.specs.Ratio.{ComplexRatio, neg_complex, mul_complex}
+use Rattle.exact_math.specs.Sums.{count, pow_complex}
+use Rattle.exact_math.specs.Binomials.{choose}
+use Rattle.truncation.specs.CutTerms.{reciprocal}
+
+-- the centre of the target's cell less that of the source's, in sides: the greater of the sizes of its parts is 2 or 3
+pub record IsKernelDistance (e : Gaussian) : Type 0 where
+  pub apart : 2 ≤ max (unsigned_abs e.re) (unsigned_abs e.im)
+  pub near : max (unsigned_abs e.re) (unsigned_abs e.im) ≤ 3
+
+-- ---- the rounded kernel
+-- m conj e
+abbrev pub conj_multiple : ℕ → Gaussian → Gaussian
+conj_multiple m e = gaussian (pos m *ℤ e.re) (neg_ℤ (pos m *ℤ e.im))
+
+-- 2^60 conj e / norm e, and then times 2 conj e / norm e each time, rounded outward: 2^(60 + n)/e^(n + 1)
+unfoldable pub kernel_power : Gaussian → ℕ → BoxEnds
+kernel_power e zero =
+    let g = conj_multiple (2 ^ 60) e in
+    quot_box (point_box g.re g.im) (norm_gaussian e)
+kernel_power e (suc n) = gquot_box (kernel_power e n) (conj_multiple 2 e) (norm_gaussian e)
+
+-- (-1)^l b
+abbrev pub alternate_box : ℕ → BoxEnds → BoxEnds
+alternate_box zero b = b
+alternate_box (suc l) b = neg_box (alternate_box l b)
+
+-- (-1)^l C(k + l, k) of the power k + l, rounded outward to units of 2^-40
+unfoldable pub kernel_entry : Gaussian → ℕ → ℕ → BoxEnds
+kernel_entry e k l = alternate_box l (quot_box (scale_box (pos (choose (k + l) k)) (kernel_power e (k + l))) (pos (2 ^ (k + l + 20))))
+
+-- ---- the exact kernel
+-- (-1)^l z
+abbrev pub alternate_complex : ℕ → ComplexRatio → ComplexRatio
+alternate_complex zero z = z
+alternate_complex (suc l) z = neg_complex (alternate_complex l z)
+
+-- (-1)^l C(k + l, k)/e^(k + l + 1)
+unfoldable pub kernel_fraction : Gaussian → ℕ → ℕ → ComplexRatio
+kernel_fraction e k l = alternate_complex l (mul_complex (count (choose (k + l) k)) (pow_complex (reciprocal e) (suc (k + l))))

@@ -1,0 +1,4 @@
+pub mod PairContains
+pub mod TermSizes
+pub mod PairSizes
+pub mod PairCall

@@ -1,0 +1,12 @@
+pub mod Counting
+pub mod CutValues
+pub mod Discs
+pub mod Distances
+pub mod EntryBounds
+pub mod PairBound
+pub mod PairRemainder
+pub mod Quotients
+pub mod SingleBound
+pub mod SourceBounds
+pub mod Tails
+pub mod Worked
