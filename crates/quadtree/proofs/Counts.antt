@@ -1,11 +1,9 @@
 -- How many points cells have.
 use Rattle.std.proofs.Common.{ℕ, ◌≡◌, ◌<◌, ◌≤◌, suc, zero, Bool, true, false, cond, List, [], ◌∷◌, length, get_or, arith, refl, sym, ap, ◌∙◌, subst}
-use Rattle.std.specs.Prelude.{ℤ, ◌≤ℤ◌, ◌<ℤ◌, int_le, int_lt, count_by, Contains}
-use Rattle.std.proofs.lemmas.Int.{ints}
-use Rattle.std.proofs.lemmas.Bool.{and_from, and_parts}
+use Rattle.std.specs.Prelude.{count_by, Contains}
 use Rattle.std.proofs.lemmas.List.Sums.{sum_by-cons}
 use Rattle.particle_text.specs.declared.Point.{Point}
-use Rattle.cell_name.specs.Square.{Square, Holds, holds_test, parent}
+use Rattle.cell_name.specs.Square.{Square, holds_test, parent}
 use Rattle.cell_name.proofs.Cells.{Holds-parent}
 use Rattle.cell_name.proofs.HoldsTest.{Holds-from_test, test-from_Holds}
 use Rattle.quadtree.specs.Tree.{count_in}
