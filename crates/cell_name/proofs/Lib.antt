@@ -2,6 +2,7 @@
 pub mod Ancestors
 pub mod Axis
 pub mod Cells
+pub mod HoldsTest
 pub mod Levels
 pub mod Comparisons
 pub mod Distances

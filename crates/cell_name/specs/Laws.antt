@@ -1,12 +1,16 @@
 -- The laws of cells, each over plain variables.
-use Rattle.std.specs.Prelude.{ℕ, ◌≡◌, ◌+◌, ◌*◌, ◌≤◌, ◌<◌, ◌⊎◌, ◌↔◌, ℤ, pos, ◌+ℤ◌, ◌*ℤ◌, unsigned_abs}
-use Rattle.cell_name.specs.Square.{Square, side, parent, child, ancestor, square_at, IsInGrid, Holds, ClosedHolds, Touches, offset_x, offset_y, doubled_centre_x, doubled_centre_y}
+use Rattle.std.specs.Prelude.{ℕ, ◌≡◌, ◌+◌, ◌*◌, ◌≤◌, ◌<◌, ◌⊎◌, ◌↔◌, ℤ, IsTrue, pos, ◌+ℤ◌, ◌*ℤ◌, unsigned_abs}
+use Rattle.cell_name.specs.Square.{Square, side, parent, child, ancestor, square_at, IsInGrid, Holds, holds_test, ClosedHolds, Touches, offset_x, offset_y, doubled_centre_x, doubled_centre_y}
 use Rattle.cell_name.specs.Apart.{AreTwoOrThreeSidesApart, AreApart, IsLarge, columns_between, rows_between}
 use Rattle.cell_name.specs.Quarters.{LiesInOneChild}
 
 -- a cell holds a place exactly where it is the place's cell of its level
 abbrev pub OneCellHolds : Type 0
 OneCellHolds = (c : Square) (x y : ℤ) → IsInGrid c.grid x y → Holds c x y ↔ (c ≡ square_at c.grid c.level x y)
+
+-- the test by which points are counted says whether a cell holds a place
+abbrev pub TestIsHolding : Type 0
+TestIsHolding = (c : Square) (x y : ℤ) → IsTrue (holds_test c x y) ↔ Holds c x y
 
 -- the parent of a place's cell is the place's cell of the level above
 abbrev pub ParentHolds : Type 0

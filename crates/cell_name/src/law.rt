@@ -1,10 +1,11 @@
 //! The laws of cells, for whoever wants to rest on them.
 
-ghost use Rattle.cell_name.specs.Laws.{OneCellHolds, ParentHolds, ParentHoldsPlaces, AncestorHolds, ChildrenTile, ParentOfChild, TouchesIsMeeting, TouchesIsReflexive, TouchesIsSymmetric, ParentTouches, ParentsTouch, AncestorTouches, OffsetIsSmall, CentresDifferBySides, PairIsTwoOrThreeApart, PlacesAreASideApart, OffsetIsLarge};
+ghost use Rattle.cell_name.specs.Laws.{OneCellHolds, TestIsHolding, ParentHolds, ParentHoldsPlaces, AncestorHolds, ChildrenTile, ParentOfChild, TouchesIsMeeting, TouchesIsReflexive, TouchesIsSymmetric, ParentTouches, ParentsTouch, AncestorTouches, OffsetIsSmall, CentresDifferBySides, PairIsTwoOrThreeApart, PlacesAreASideApart, OffsetIsLarge};
 
 /// Cells, their places, parents and children.
 pub fn cells_tile_the_grid()
     ensures one { OneCellHolds }
+    ensures test { TestIsHolding }
     ensures parent { ParentHolds }
     ensures places_of_parent { ParentHoldsPlaces }
     ensures ancestor { AncestorHolds }

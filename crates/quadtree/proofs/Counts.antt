@@ -1,12 +1,11 @@
 -- How many points cells have.
 use Rattle.std.proofs.Common.{ℕ, ◌≡◌, ◌<◌, ◌≤◌, suc, zero, Bool, true, false, cond, List, [], ◌∷◌, length, get_or, arith, refl, sym, ap, ◌∙◌, subst}
-use Rattle.std.specs.Prelude.{ℤ, ◌≤ℤ◌, ◌<ℤ◌, int_le, int_lt, count_by, Contains}
-use Rattle.std.proofs.lemmas.Int.{ints}
-use Rattle.std.proofs.lemmas.Bool.{and_from, and_parts}
+use Rattle.std.specs.Prelude.{count_by, Contains}
 use Rattle.std.proofs.lemmas.List.Sums.{sum_by-cons}
 use Rattle.particle_text.specs.declared.Point.{Point}
-use Rattle.cell_name.specs.Square.{Square, Holds, holds_test, parent}
+use Rattle.cell_name.specs.Square.{Square, holds_test, parent}
 use Rattle.cell_name.proofs.Cells.{Holds-parent}
+use Rattle.cell_name.proofs.HoldsTest.{Holds-from_test, test-from_Holds}
 use Rattle.quadtree.specs.Tree.{count_in}
 
 -- a test that passes wherever another does counts at least as many
@@ -26,35 +25,6 @@ count_by-at p (y ∷ xs) (suc k) x h e t = rw (sum_by-cons (λ z. cond (p z) 1 0
 
 pub count_by-listed : {A : Type 0} (p : A → Bool) (xs : List A) (x : A) → Contains xs x → p x ≡ true → 1 ≤ count_by p xs
 count_by-listed p xs x h t = count_by-at p xs h.0 x h.1 h.2 t
-
-le_from_test : (a b : ℤ) → int_le a b ≡ true → a ≤ℤ b
-le_from_test a b e = grind (arith, ints)
-
-lt_from_test : (a b : ℤ) → int_lt a b ≡ true → a <ℤ b
-lt_from_test a b e = grind (arith, ints)
-
-test-from_le : (a b : ℤ) → a ≤ℤ b → int_le a b ≡ true
-test-from_le a b h = grind (arith, ints)
-
-test-from_lt : (a b : ℤ) → a <ℤ b → int_lt a b ≡ true
-test-from_lt a b h = grind (arith, ints)
-
--- the test by which points are counted says whether a cell holds them
-pub Holds-from_test : (c : Square) (x y : ℤ) → holds_test c x y ≡ true → Holds c x y
-Holds-from_test c x y e =
-    let three = and_parts _ _ e in
-    let two = and_parts _ _ three.0 in
-    let one = and_parts _ _ two.0 in
-    record {
-      west = le_from_test _ _ one.0;
-      east = lt_from_test _ _ one.1;
-      south = le_from_test _ _ two.1;
-      north = lt_from_test _ _ three.1;
-    }
-
-pub test-from_Holds : (c : Square) (x y : ℤ) → Holds c x y → holds_test c x y ≡ true
-test-from_Holds c x y h =
-    and_from _ _ (and_from _ _ (and_from _ _ (test-from_le _ _ h.west) (test-from_lt _ _ h.east)) (test-from_le _ _ h.south)) (test-from_lt _ _ h.north)
 
 -- a parent has at least as many points as its child
 pub count_in-parent : (points : List Point) (c : Square) → 0 < c.level → c.level ≤ c.grid → count_in points c ≤ count_in points (parent c)

@@ -1,11 +1,12 @@
 -- Lists of different elements, joined end to end and put in another order.
-use Rattle.std.proofs.Common.{ℕ, ◌≡◌, ◌≢◌, ◌+◌, ◌<◌, ◌≤◌, zero, suc, List, [], ◌∷◌, ◌++◌, length, get_or, Bool, true, false, cond, filter, Decides, inl, inr, refl, sym, ap, ◌∙◌, subst, arith}
+use Rattle.std.proofs.Common.{ℕ, ◌≡◌, ◌≢◌, ◌<◌, ◌≤◌, zero, suc, List, [], ◌∷◌, ◌++◌, length, get_or, Bool, true, false, cond, filter, Decides, inl, inr, refl, sym, ap, ◌∙◌, subst, arith}
 use Rattle.std.specs.Prelude.{All, AllPairs, Contains}
-use Rattle.std.specs.List.{flat_map, IsDistinct}
+use Rattle.std.specs.List.{flat_map, remove}
 use Rattle.std.specs.List.Sorted.{IsPermutation}
 use Rattle.std.proofs.lemmas.Bool.{false≢true}
 use Rattle.std.proofs.lemmas.List.Elements.{All-append, All-contains, All-contains_itself, All-filter, filter_passes, Contains-get_or, Contains-append_left, Contains-append_right, Contains-append_cases}
 use Rattle.std.proofs.lemmas.List.Kept.{AllPairs-cons}
+use Rattle.std.proofs.lemmas.List.Sorted.{IsPermutation-remove, Contains-permutation, length_permutation}
 use Rattle.std.proofs.lemmas.Map.Keys.{IsDistinct-IsPermutation}
 use Rattle.std.proofs.lemmas.Map.Made.{AllPairs-from_IsDistinct, IsDistinct-from_AllPairs}
 
@@ -96,3 +97,20 @@ different-permutation same decides xs ys moved p =
 
     flips : {X : Type 0} (same : X → X → Bool) → ((a b : X) → Decides (same a b) (a ≡ b)) → (a b : X) → same a b ≡ same b a
     flips same decides a b = same_bool (same a b) (same b a) (λ h. (decides b a).1 (sym ((decides a b).0 h))) (λ h. (decides a b).1 (sym ((decides b a).0 h)))
+
+-- different elements of a list are at most as many as it has
+pub length-le_from_different : {X : Type 0} (xs ys : List X) → AllPairs (λ a b. a ≢ b) xs → ((x : X) → Contains xs x → Contains ys x) → length xs ≤ length ys
+length-le_from_different [] ys p sub = omega arith
+length-le_from_different {X} (x ∷ xs) ys p sub =
+    let h = sub x (0, omega arith, refl) in
+    let rest : List X = remove ys h.0 in
+    let moved : IsPermutation ys (x ∷ rest) = IsPermutation-remove ys h.0 x h.1 (sym h.2) in
+    let shorter : length (x ∷ rest) ≡ length ys = length_permutation ys (x ∷ rest) moved in
+    let apart = AllPairs-head (λ a b. a ≢ b) x xs p in
+    let fewer = length-le_from_different xs rest (AllPairs-tail (λ a b. a ≢ b) x xs p)
+    (λ a c. other x rest a (λ e. apart c.0 a c.1 (e ∙ sym c.2)) (Contains-permutation ys (x ∷ rest) a moved (sub a (suc c.0, omega (arith, c.1), c.2)))) in
+    omega arith
+  where
+    other : {X : Type 0} (x : X) (zs : List X) (a : X) → x ≢ a → Contains (x ∷ zs) a → Contains zs a
+    other x zs a ne (zero, lt, e) = absurd (ne e)
+    other x zs a ne (suc n, lt, e) = (n, omega arith, e)

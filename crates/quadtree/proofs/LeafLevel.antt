@@ -7,7 +7,8 @@ use Rattle.cell_name.proofs.Levels.{first_stop, above_le}
 use Rattle.cell_name.specs.Square.{Square, parent, square_at, IsInGrid, holds_test}
 use Rattle.cell_name.proofs.Cells.{Holds-square_at, parent-square_at, square_at-root}
 use Rattle.quadtree.specs.Tree.{count_in, IsSplit, IsTreeCell, IsLeaf}
-use Rattle.quadtree.proofs.Counts.{count_by-listed, test-from_Holds, count_in-parent}
+use Rattle.cell_name.proofs.HoldsTest.{test-from_Holds}
+use Rattle.quadtree.proofs.Counts.{count_by-listed, count_in-parent}
 
 -- the cell of the point at a level
 abbrev pub cell_of : ℕ → Point → ℕ → Square

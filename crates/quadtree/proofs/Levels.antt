@@ -1,17 +1,17 @@
 -- The cells below those of a level, one cell more at a time.
-use Rattle.std.proofs.Common.{ℕ, ◌≡◌, ◌+◌, ◌-◌, ◌<◌, ◌≤◌, zero, suc, List, [], ◌∷◌, ◌++◌, length, get_or, take, drop, map, cond, ltb, Bool, true, false, refl, sym, ap, ◌∙◌, subst, arith, length-append, append-nil, append_assoc}
-use Rattle.std.specs.Prelude.{slice_range, All}
+use Rattle.std.proofs.Common.{ℕ, ◌≡◌, ◌+◌, ◌-◌, ◌<◌, ◌≤◌, List, [], ◌∷◌, ◌++◌, length, get_or, cond, ltb, Bool, true, false, sym, ap, ◌∙◌, subst, arith, length-append, append-nil, append_assoc}
+use Rattle.std.specs.Prelude.{slice_range}
 use Rattle.std.specs.List.{flat_map}
 use Rattle.std.proofs.lemmas.Bool.Decides.{nat_tests}
-use Rattle.std.proofs.lemmas.List.{get_or-map, get_or_append_left, length-map, drop_at, take_all, length-drop}
+use Rattle.std.proofs.lemmas.List.{get_or-map, get_or_append_left, length-map}
 use Rattle.std.proofs.lemmas.List.Concat.{flat_map-append}
 use Rattle.std.proofs.lemmas.List.Edits.{between_more, length-between}
-use Rattle.std.proofs.lemmas.List.Elements.{All-get_or, All-append}
+use Rattle.std.proofs.lemmas.List.Elements.{All-get_or}
 use Rattle.particle_text.specs.declared.Point.{Point}
 use Rattle.cell_name.specs.Cell.{square}
 use Rattle.cell_name.specs.Square.{Square, root}
 use Rattle.quadtree.specs.declared.split.Run.{Run}
-use Rattle.quadtree.specs.Splitting.{squares_of, occupied, quarters, below, cells_of_level, cells_to_level, IsRun, AreRuns}
+use Rattle.quadtree.specs.Splitting.{squares_of, occupied, quarters, below, IsRun, AreRuns}
 use Rattle.quadtree.specs.Tree.{count_in}
 use Rattle.quadtree.proofs.Positions.{length-members}
 

@@ -6,7 +6,7 @@ use Rattle.std.proofs.lemmas.Option.{slice_get-get_or}
 use Rattle.particle_text.specs.declared.Point.{Point}
 use Rattle.cell_name.specs.Square.{Square, Holds, holds_test}
 use Rattle.quadtree.specs.Members.{holds_point, holds_position, members_among}
-use Rattle.quadtree.proofs.Counts.{Holds-from_test, test-from_Holds}
+use Rattle.cell_name.proofs.HoldsTest.{Holds-from_test, test-from_Holds}
 
 -- the answer of a test of the cell is the test by which points are counted
 pub holds_test-answer : (c : Square) (x y : ℤ) (r : Bool) → (IsTrue r ↔ Holds c x y) → r ≡ holds_test c x y

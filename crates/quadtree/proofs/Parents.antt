@@ -8,7 +8,7 @@ use Rattle.particle_text.specs.declared.Point.{Point}
 use Rattle.cell_name.specs.Square.{Square, parent, square_at, IsInGrid, Holds, holds_test}
 use Rattle.cell_name.proofs.Cells.{square_at-unique, parent-square_at}
 use Rattle.quadtree.specs.Tree.{AreInGrid, count_in, IsSplit, IsTreeCell, IsLeaf}
-use Rattle.quadtree.proofs.Counts.{Holds-from_test}
+use Rattle.cell_name.proofs.HoldsTest.{Holds-from_test}
 use Rattle.quadtree.proofs.LeafLevel.{cell_of, IsListed, InTreeAt, tree_above}
 
 -- an element of a list that passes a test

@@ -1,9 +1,8 @@
 -- The points of a cell, by their positions, and their kinds.
-use Rattle.std.proofs.Common.{ℕ, ◌≡◌, ◌+◌, ◌<◌, ◌≤◌, List, length, get_or, Option, Some, None, Bool, true, false, not, refl, sym, ap, ◌∙◌, subst, arith}
+use Rattle.std.proofs.Common.{ℕ, ◌≡◌, ◌<◌, List, length, get_or, Option, Some, None, Bool, true, not, refl, sym, ap, ◌∙◌, arith}
 use Rattle.std.specs.Prelude.{Contains, IsTrue, ◌↔◌, slice_get}
 use Rattle.std.specs.List.{list_any, range_with_len}
 use Rattle.std.proofs.lemmas.Bool.{false≢true}
-use Rattle.std.proofs.lemmas.List.Elements.{All-contains}
 use Rattle.std.proofs.lemmas.List.Folds.{Any-from_list_any, list_any-from_Any}
 use Rattle.std.proofs.lemmas.List.FromFn.{get_or-range_with_len, length-range_with_len}
 use Rattle.std.proofs.lemmas.Option.{slice_get-get_or, slice_get_within, get_or_from_slice_get}
@@ -15,9 +14,8 @@ use Rattle.cell_name.specs.Square.{Square, Holds}
 use Rattle.quadtree.specs.Members.{holds_point, holds_position, members_of}
 use Rattle.quadtree.specs.Nodes.{target_test, is_target, is_source}
 use Rattle.quadtree.specs.Tree.{HasPoint, HasSource, HasTarget}
-use Rattle.quadtree.proofs.Counts.{Holds-from_test, test-from_Holds}
+use Rattle.cell_name.proofs.HoldsTest.{Holds-from_test, test-from_Holds}
 use Rattle.quadtree.proofs.Distinct.{Contains-filter, Contains-into_filter}
-use Rattle.quadtree.proofs.Runs.{members_below}
 
 -- the point at a position
 pub record IsPointAt (points : List Point) (k : ℕ) (p : Point) : Type 0 where

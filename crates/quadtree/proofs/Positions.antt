@@ -10,7 +10,7 @@ use Rattle.cell_name.specs.Square.{Square, holds_test, parent}
 use Rattle.cell_name.proofs.Cells.{Holds-parent}
 use Rattle.quadtree.specs.Members.{holds_point, holds_position, members_among, members_of}
 use Rattle.quadtree.specs.Tree.{count_in}
-use Rattle.quadtree.proofs.Counts.{Holds-from_test, test-from_Holds}
+use Rattle.cell_name.proofs.HoldsTest.{Holds-from_test, test-from_Holds}
 
 -- one step of the next lemma, by what the two tests say
 filter_step : {A : Type 0} (p q : A → Bool) (x : A) (xs : List A) → filter p (filter q xs) ≡ filter p xs → (p x ≡ true → q x ≡ true) → (a b : Bool) → q x ≡ a → p x ≡ b → filter p (cond a (x ∷ filter q xs) (filter q xs)) ≡ cond b (x ∷ filter p xs) (filter p xs)

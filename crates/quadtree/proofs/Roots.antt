@@ -1,6 +1,6 @@
 -- The whole grid holds each point.
-use Rattle.std.proofs.Common.{ℕ, ◌≡◌, ◌+◌, ◌-◌, ◌<◌, ◌≤◌, zero, suc, List, [], ◌∷◌, ◌++◌, length, get_or, take, filter, cond, Bool, true, false, Some, refl, sym, ap, ◌∙◌, subst, arith, lit<}
-use Rattle.std.specs.Prelude.{ℤ, All, slice_range, slice_get}
+use Rattle.std.proofs.Common.{ℕ, ◌≡◌, ◌+◌, ◌-◌, ◌<◌, ◌≤◌, List, [], ◌∷◌, ◌++◌, length, get_or, filter, cond, Bool, true, refl, sym, ap, ◌∙◌, subst, arith, lit<}
+use Rattle.std.specs.Prelude.{ℤ, All, slice_range}
 use Rattle.std.specs.List.{range_with_len}
 use Rattle.std.proofs.lemmas.List.{take_all}
 use Rattle.std.proofs.lemmas.List.Elements.{All-head, All-tail, All-weaker, All-from_recursion, All-nil}
@@ -8,13 +8,13 @@ use Rattle.std.proofs.lemmas.List.FromFn.{length-range_with_len}
 use Rattle.std.proofs.lemmas.Option.{slice_get-get_or}
 use Rattle.particle_text.specs.declared.Point.{Point}
 use Rattle.cell_name.specs.Cell.{square}
-use Rattle.cell_name.specs.Square.{Square, root, square_at, IsInGrid, Holds, holds_test}
+use Rattle.cell_name.specs.Square.{Square, root, IsInGrid, Holds}
 use Rattle.cell_name.proofs.Cells.{Holds-square_at, square_at-root}
 use Rattle.quadtree.specs.declared.split.Run.{Run}
 use Rattle.quadtree.specs.Members.{holds_point, holds_position, members_of}
 use Rattle.quadtree.specs.Splitting.{squares_of, occupied, IsRun, AreRuns}
 use Rattle.quadtree.specs.Tree.{AreInGrid, count_in}
-use Rattle.quadtree.proofs.Counts.{test-from_Holds}
+use Rattle.cell_name.proofs.HoldsTest.{test-from_Holds}
 use Rattle.quadtree.proofs.Positions.{length-members}
 use Rattle.quadtree.proofs.Runs.{range_below, occupied-one, occupied-none}
 

@@ -1,7 +1,7 @@
 -- What a binary search in ascending cells finds.
-use Rattle.std.proofs.Common.{ℕ, ◌≡◌, ◌+◌, ◌<◌, ◌≤◌, length, get_or, map, Ordering, Less, Equal, Greater, Option, Some, None, Result, Ok, Err, List, Bool, false, refl, sym, ap, ◌∙◌, subst, arith, inl, inr}
+use Rattle.std.proofs.Common.{ℕ, ◌≡◌, ◌+◌, ◌<◌, length, get_or, map, Ordering, Less, Equal, Greater, Option, Result, Ok, Err, List, refl, sym, ◌∙◌, subst, arith, inl, inr}
 use Rattle.std.specs.Prelude.{MatchOption, AllPairs, Contains}
-use Rattle.std.specs.List.{HoldsAt, AllWithin}
+use Rattle.std.specs.List.{AllWithin}
 use Rattle.std.specs.List.Sorted.{IsSortedBy, IsNonDecreasingBy, IsSearchInRange, IsBinarySearchResult}
 use Rattle.std.specs.Ordering.{is_lt, ordering_index}
 use Rattle.std.specs.Result.{result_ok}

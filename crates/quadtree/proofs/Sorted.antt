@@ -1,21 +1,19 @@
 -- The cells of the tree, sorted.
-use Rattle.std.proofs.Common.{ℕ, ◌≡◌, ◌≢◌, ◌+◌, ◌<◌, ◌≤◌, List, [], ◌∷◌, length, get_or, map, Bool, true, false, Decides, Ordering, Less, Equal, Greater, refl, sym, ap, ◌∙◌, subst, arith, eqb, lit<}
-use Rattle.std.specs.Prelude.{All, AllPairs, Contains, nat_eq, ◌&&◌}
+use Rattle.std.proofs.Common.{ℕ, ◌≡◌, ◌≢◌, ◌+◌, List, [], ◌∷◌, get_or, Bool, true, false, Decides, Ordering, Less, Equal, Greater, refl, sym, ap, ◌∙◌, subst, arith, eqb, lit<}
+use Rattle.std.specs.Prelude.{All, AllPairs, ◌&&◌}
 use Rattle.std.specs.List.Sorted.{IsPermutation, IsSortedBy}
 use Rattle.std.specs.Ordering.{is_lt, is_eq, nat_cmp, ordering_then}
 use Rattle.std.proofs.lemmas.Bool.{and_from, and_parts}
 use Rattle.std.proofs.lemmas.Bool.Decides.{Decides-eqb}
 use Rattle.std.proofs.lemmas.List.{get_or-map, length-map}
-use Rattle.std.proofs.lemmas.List.Elements.{All-contains, All-get_or, Contains-get_or}
 use Rattle.std.proofs.lemmas.List.Sorted.{IsPermutation-map, All-permutation, Contains-permutation, ranks_by, sorted_far}
 use Rattle.particle_text.specs.declared.Point.{Point}
 use Rattle.cell_name.specs.Cell.{square}
-use Rattle.cell_name.specs.Order.{IsBefore}
-use Rattle.cell_name.specs.Square.{Square, root}
+use Rattle.cell_name.specs.Square.{Square}
 use Rattle.cell_name.proofs.Order.{square_cmp, square_cmp_total, IsBefore-from_not_less, same-from_Equal, Equal-from_same}
 use Rattle.quadtree.specs.declared.split.Run.{Run}
 use Rattle.quadtree.specs.Splitting.{squares_of, cells_to_level, AreRuns, IsRun}
-use Rattle.quadtree.specs.Tree.{AreInGrid, IsTreeCell, AreTreeCells}
+use Rattle.quadtree.specs.Tree.{AreInGrid, AreTreeCells}
 use Rattle.quadtree.proofs.Distinct.{different-permutation}
 use Rattle.quadtree.proofs.TreeLevels.{IsCellToLevel, cells_to_level_are, cells_to_level_whole, cells_to_level_differ}
 

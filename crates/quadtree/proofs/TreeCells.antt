@@ -1,16 +1,15 @@
 -- The cells of the levels are the cells of the tree, each once.
-use Rattle.std.proofs.Common.{ℕ, ◌≡◌, ◌≢◌, ◌+◌, ◌-◌, ◌*◌, ◌/◌, ◌%◌, ◌<◌, ◌≤◌, zero, suc, ◌⊎◌, inl, inr, List, [], ◌∷◌, ◌++◌, length, get_or, filter, Bool, true, false, cond, ltb, refl, sym, ap, ◌∙◌, subst, arith, add-one}
+use Rattle.std.proofs.Common.{ℕ, ◌≡◌, ◌≢◌, ◌+◌, ◌*◌, ◌/◌, ◌%◌, ◌<◌, ◌≤◌, zero, suc, inl, inr, List, [], ◌∷◌, get_or, true, ltb, refl, sym, ap, ◌∙◌, subst, arith}
 use Rattle.std.specs.Prelude.{All, AllPairs, Contains}
-use Rattle.std.specs.List.{flat_map}
-use Rattle.std.proofs.lemmas.Bool.{cases_lt, false≢true}
+use Rattle.std.proofs.lemmas.Bool.{cases_lt}
 use Rattle.std.proofs.lemmas.Bool.Decides.{nat_tests}
-use Rattle.std.proofs.lemmas.List.Elements.{All-append, All-from_recursion, All-nil, All-contains, All-filter, All-weaker, filter_passes, Contains-append_left, Contains-append_right, Contains-append_cases, Contains-get_or, All-contains_itself}
+use Rattle.std.proofs.lemmas.List.Elements.{All-from_recursion, All-nil, All-contains, Contains-get_or}
 use Rattle.std.proofs.lemmas.List.Kept.{AllPairs-cons, AllPairs-filter}
 use Rattle.particle_text.specs.declared.Point.{Point}
 use Rattle.cell_name.specs.Square.{Square, root, parent, child}
 use Rattle.cell_name.proofs.Cells.{same_square}
 use Rattle.cell_name.proofs.Quarters.{parent-child}
-use Rattle.quadtree.specs.Splitting.{quarters, occupied, below, cells_of_level, cells_to_level}
+use Rattle.quadtree.specs.Splitting.{quarters, occupied, below, cells_of_level}
 use Rattle.quadtree.specs.Tree.{AreInGrid, count_in, IsSplit, IsTreeCell}
 use Rattle.quadtree.proofs.Distinct.{Contains-filter, Contains-into_filter, Contains-flat_map, All-flat_map, different-flat_map}
 use Rattle.quadtree.proofs.Levels.{below-split, below-whole}

@@ -1,27 +1,29 @@
 -- Cells, nodes, positions and leaves together are the tree.
-use Rattle.std.proofs.Common.{ℕ, ◌≡◌, ◌+◌, ◌-◌, ◌<◌, ◌≤◌, ◌⊎◌, zero, inl, inr, List, [], ◌∷◌, length, get_or, map, Option, Some, None, Bool, true, false, refl, sym, ap, ◌∙◌, subst, arith, lit<}
-use Rattle.std.specs.Prelude.{All, AllPairs, Contains, IsTrue, ◌↔◌, slice_get, slice_index, slice_range}
+use Rattle.std.proofs.Common.{ℕ, ◌≡◌, ◌<◌, ◌≤◌, inl, inr, List, [], ◌∷◌, length, get_or, map, Option, Some, refl, sym, ap, ◌∙◌, subst, arith, lit<}
+use Rattle.std.specs.Prelude.{All, AllPairs, Contains, IsTrue, ◌↔◌, slice_get, slice_index}
 use Rattle.std.proofs.lemmas.Bool.{cases_lt}
 use Rattle.std.proofs.lemmas.List.{get_or-map, get_or_default, length-map}
 use Rattle.std.proofs.lemmas.List.Edits.{length-between}
-use Rattle.std.proofs.lemmas.List.Elements.{All-contains, All-get_or, All-from_get_or, Contains-get_or}
+use Rattle.std.proofs.lemmas.List.Elements.{All-contains, All-from_get_or}
 use Rattle.particle_text.specs.declared.Point.{Point}
 use Rattle.cell_name.specs.declared.cell.Cell.{Cell}
 use Rattle.cell_name.specs.Cell.{square}
 use Rattle.cell_name.specs.Order.{IsBefore}
-use Rattle.cell_name.specs.Square.{Square, root, parent, square_at, IsInGrid, Holds}
+use Rattle.cell_name.specs.Square.{Square, root, square_at, IsInGrid, Holds}
 use Rattle.cell_name.proofs.Cells.{Holds-square_at, square_at-unique}
 use Rattle.cell_name.proofs.Order.{IsBefore-irrefl}
 use Rattle.quadtree.specs.declared.split.Run.{Run}
 use Rattle.quadtree.specs.declared.tree.Node.{Node}
+use Rattle.quadtree.specs.Faults.{HasMoreCells}
 use Rattle.quadtree.specs.Fields.{node_model, tree_of, IsRange, AreFieldsOfTree}
 use Rattle.quadtree.specs.Members.{members_of}
-use Rattle.quadtree.specs.Nodes.{IsParentNumber, IsNodeOf, AreNodesTo, IsInLeaf, LeavesAreApart, LeavesAreTo, blank_node}
+use Rattle.quadtree.specs.Nodes.{AreNodesTo, IsInLeaf, LeavesAreApart, LeavesAreTo, blank_node}
 use Rattle.quadtree.specs.Splitting.{squares_of}
-use Rattle.quadtree.specs.Tree.{AreInGrid, count_in, IsTreeCell, IsLeaf, HasSource, HasTarget, AreTreeCells}
-use Rattle.quadtree.specs.TreeModel.{NodeModel, TreeModel, squares, size, square_of, node_of, leaf_of, no_node, HasParent, IsNode, IsLeafOf, IsTreeOf, IsTree}
+use Rattle.quadtree.specs.Tree.{AreInGrid, IsTreeCell, IsLeaf, HasSource, HasTarget, AreTreeCells}
+use Rattle.quadtree.specs.TreeModel.{NodeModel, TreeModel, squares, node_of, no_node, IsNode, IsLeafOf, IsTreeOf}
+use Rattle.quadtree.proofs.Distinct.{length-le_from_different}
 use Rattle.quadtree.proofs.LeafLevel.{cell_of, IsListed, IsLeafLevel, leaf_level_exists}
-use Rattle.quadtree.proofs.PointKinds.{IsPointAt, point_at, IsMember, member_point, Contains-members_of}
+use Rattle.quadtree.proofs.PointKinds.{point_at, IsMember, member_point, Contains-members_of}
 use Rattle.quadtree.proofs.Parents.{cell_of_point}
 use Rattle.quadtree.proofs.Positions.{length-members}
 
@@ -225,3 +227,9 @@ nodes_moved points cap xs positions cs cells rs runs nodes e f g long h =
     let Q : List Cell → Type 0 = λ l. AreNodesTo points cap positions (map square l) nodes (length rs) in
     let R : ℕ → Type 0 = λ n. AreNodesTo points cap positions (map square cells) nodes n in
     subst R (ap length g ∙ long) (subst Q f (subst P e h))
+
+-- a tree has all cells of the tree, so there are no more
+pub no_more_cells : (tree : TreeModel) (points : List Point) (cap : ℕ) → IsTreeOf 16 tree points cap → HasMoreCells 16 points cap 65536 → ⊥
+no_more_cells tree points cap t h =
+    let fewer : length h.cells ≤ length (squares tree) = length-le_from_different h.cells (squares tree) h.different (λ c d. t.cells_are.whole c (All-contains (IsTreeCell 16 points cap) h.cells c h.in_tree d)) in
+    omega (arith, fewer, h.more, t.few, length-map tree.cells square)

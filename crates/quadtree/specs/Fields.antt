@@ -1,5 +1,5 @@
 -- What a tree's fields show.
-use Rattle.std.specs.Prelude.{ℕ, ◌≡◌, ◌-◌, ◌≤◌, List, length, map, slice_range, All}
+use Rattle.std.specs.Prelude.{ℕ, ◌-◌, ◌≤◌, List, length, map, slice_range, All}
 use Rattle.cell_name.specs.declared.cell.Cell.{Cell}
 use Rattle.quadtree.specs.declared.tree.Node.{Node}
 use Rattle.quadtree.specs.TreeModel.{NodeModel, TreeModel, IsTree}

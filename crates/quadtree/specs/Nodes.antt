@@ -1,5 +1,5 @@
 -- What the build keeps of each cell, and of each point. No public contract cites it.
-use Rattle.std.specs.Prelude.{ℕ, ◌≡◌, ◌<◌, ◌≤◌, ◌↔◌, Bool, true, false, not, IsTrue, List, length, Option, Some, None, slice_get, slice_index, slice_index_or, slice_range, All, Contains}
+use Rattle.std.specs.Prelude.{ℕ, ◌≡◌, ◌<◌, ◌↔◌, Bool, true, false, not, IsTrue, List, length, Option, Some, None, slice_index, slice_index_or, slice_range, Contains}
 use Rattle.particle_text.specs.declared.Kind.{Kind}
 use Rattle.particle_text.specs.declared.Kind.TheVariants.{Charge, Dipole, Vortex, Target}
 use Rattle.particle_text.specs.declared.Point.{Point}

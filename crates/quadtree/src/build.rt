@@ -1,8 +1,9 @@
 //! Building the tree of a list of points.
 
 ghost use Rattle.std.specs.Prelude.{◌≡◌, ◌≤◌, length, map, All, IfErr, IfNone, IfOk, IfSome, OnOk};
+ghost use Rattle.exact_math.specs.Orders.{IsCapacity};
 ghost use Rattle.particle_text.specs.Limits.{WithinLimits, most_points};
-ghost use Rattle.quadtree.specs.Faults.{most_cells, NoneIsCrowded, IsFaultOf};
+ghost use Rattle.quadtree.specs.Faults.{most_cells, NoneIsCrowded, HasMoreCells, IsFaultOf};
 ghost use Rattle.quadtree.specs.Splitting.{squares_of, AreRuns, IsCrowdedRun, IsFirstCrowdedRun};
 ghost use Rattle.quadtree.specs.Tree.{AreInGrid, AreTreeCells};
 ghost use Rattle.quadtree.specs.TreeModel.{IsTreeOf};
@@ -96,12 +97,12 @@ impl Tree {
     /// cells, it is `Cells`.
     pub fn build(alloc: Global, points: &Points, cap: u32) -> Result<Tree, TreeFault>
         requires list { WithinLimits points.now.mode points.now.list }
-        requires cap_low { 8 ≤ cap }
-        requires cap_high { cap ≤ 1024 }
+        requires cap { IsCapacity cap }
 
         // Every answer but `Memory` is the one that the list and the capacity determine.
         ensures tree { IfOk result (λ tree. IsTreeOf 16 tree points.now.list cap) }
         ensures none_crowded { OnOk result (NoneIsCrowded 16 points.now.list) }
+        ensures no_more { OnOk result (HasMoreCells 16 points.now.list cap most_cells → ⊥) }
         ensures fault { IfErr result (IsFaultOf 16 points.now.list cap) }
     {
         let list = points.list.points();

@@ -9,3 +9,6 @@ mod tree;
 
 pub use fault::TreeFault;
 pub use tree::Tree;
+
+#[cfg(test)]
+mod tests;

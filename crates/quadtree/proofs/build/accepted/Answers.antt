@@ -1,5 +1,5 @@
 -- A crowded run has a crowded place, and the first run the first place.
-use Rattle.std.proofs.Common.{◌≡◌, List, subst, arith}
+use Rattle.std.proofs.Common.{List, subst, arith}
 use Rattle.std.specs.Prelude.{All}
 use Rattle.quadtree.specs.declared.split.Run.{Run}
 use Rattle.quadtree.specs.Splitting.{IsCrowdedRun, IsFirstCrowdedRun}

@@ -1,6 +1,5 @@
 -- The parts make the tree.
-use Rattle.std.proofs.Common.{ℕ, ◌≡◌, ◌≤◌, List, length, map, sym, ap, ◌∙◌, subst, arith}
-use Rattle.std.specs.Prelude.{All}
+use Rattle.std.proofs.Common.{ℕ, ◌≡◌, List, length, map, sym, ap, ◌∙◌, subst, arith}
 use Rattle.std.proofs.lemmas.List.{length-map}
 use Rattle.particle_text.specs.declared.Point.{Point}
 use Rattle.cell_name.specs.declared.cell.Cell.{Cell}
@@ -8,11 +7,10 @@ use Rattle.cell_name.specs.Cell.{square}
 use Rattle.cell_name.specs.Square.{Square}
 use Rattle.quadtree.specs.declared.split.Run.{Run}
 use Rattle.quadtree.specs.declared.tree.Node.{Node}
-use Rattle.quadtree.specs.Fields.{IsRange}
 use Rattle.quadtree.specs.Nodes.{AreNodesTo, LeavesAreApart, LeavesAreTo}
 use Rattle.quadtree.specs.Splitting.{squares_of}
 use Rattle.quadtree.specs.Tree.{AreInGrid, AreTreeCells}
-use Rattle.quadtree.proofs.Whole.{AreParts, leaves_apart, ranges, tree_is, fields_are, squares_of-cells, nodes_moved, nodes_whole}
+use Rattle.quadtree.proofs.Whole.{AreParts, leaves_apart, tree_is, fields_are, squares_of-cells, nodes_moved, nodes_whole}
 use Rattle.quadtree.proofs.build.assembled.Goals as goal
 
 -- the tree's cells, as the code's list of them

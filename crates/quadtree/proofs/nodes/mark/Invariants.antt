@@ -1,5 +1,5 @@
 -- The positions so far have the number, and the others what they had.
-use Rattle.std.proofs.Common.{ℕ, ◌≡◌, ◌≤◌, take, length, get_or}
+use Rattle.std.proofs.Common.{ℕ, ◌≡◌, take, get_or}
 use Rattle.std.specs.Prelude.{Contains}
 use Rattle.quadtree.proofs.nodes.mark.Given as goal
 

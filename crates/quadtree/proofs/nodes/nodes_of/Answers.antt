@@ -1,16 +1,14 @@
 -- One more node.
-use Rattle.std.proofs.Common.{ℕ, ◌≡◌, ◌+◌, ◌<◌, ◌≤◌, ◌⊎◌, inl, inr, List, [], ◌∷◌, ◌++◌, length, get_or, map, refl, sym, ap, ◌∙◌, subst, arith, length-append}
-use Rattle.std.specs.Prelude.{Contains}
+use Rattle.std.proofs.Common.{ℕ, ◌≡◌, ◌+◌, ◌<◌, inl, inr, List, [], ◌∷◌, ◌++◌, length, get_or, map, sym, ap, ◌∙◌, subst, arith, length-append}
 use Rattle.std.proofs.lemmas.Bool.{cases_lt}
-use Rattle.std.proofs.lemmas.List.{get_or-map, get_or_append_left, get_or_push, length-map}
-use Rattle.std.proofs.lemmas.List.Elements.{All-get_or}
+use Rattle.std.proofs.lemmas.List.{get_or-map, get_or_append_left, get_or_push}
 use Rattle.particle_text.specs.declared.Point.{Point}
 use Rattle.cell_name.specs.Cell.{square}
 use Rattle.cell_name.specs.Square.{Square, root}
 use Rattle.quadtree.specs.declared.split.Run.{Run}
 use Rattle.quadtree.specs.declared.tree.Node.{Node}
 use Rattle.quadtree.specs.Nodes.{IsNodeOf, AreNodesTo, blank_node}
-use Rattle.quadtree.specs.Splitting.{squares_of, IsRun}
+use Rattle.quadtree.specs.Splitting.{squares_of}
 use Rattle.quadtree.proofs.nodes.nodes_of.Goals as goal
 
 one_more : (points : List Point) (cap : ℕ) (positions : List ℕ) (cells : List Square) (was now : List Node) (node : Node) (n : ℕ) → now ≡ was ++ node ∷ [] → AreNodesTo points cap positions cells was n → IsNodeOf points cap positions cells (get_or cells n (root 16)) node → AreNodesTo points cap positions cells now (n + 1)

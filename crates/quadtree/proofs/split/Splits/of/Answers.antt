@@ -1,7 +1,7 @@
 -- Each turn splits the cells of one more level.
-use Rattle.std.proofs.Common.{◌≡◌, List, arith}
+use Rattle.std.proofs.Common.{arith}
 use Rattle.quadtree.specs.Splitting.{squares_of}
-use Rattle.quadtree.proofs.TreeLevels.{next_level, room}
+use Rattle.quadtree.proofs.TreeLevels.{room}
 use Rattle.quadtree.proofs.split.Splits.of.Goals as goal
 
 pub split_level-requires-clause-runs : goal.split_level-requires-clause-runs

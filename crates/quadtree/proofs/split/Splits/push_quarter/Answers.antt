@@ -1,6 +1,5 @@
 -- The quarter is added where it has a point.
-use Rattle.std.proofs.Common.{ℕ, ◌≡◌, ◌++◌, [], ◌∷◌, length, List, sym, ap, ◌∙◌, subst, arith, append-nil}
-use Rattle.cell_name.specs.Square.{Square}
+use Rattle.std.proofs.Common.{◌++◌, List, sym, ap, ◌∙◌, subst, arith, append-nil}
 use Rattle.cell_name.specs.Cell.{square}
 use Rattle.quadtree.specs.declared.split.Run.{Run}
 use Rattle.quadtree.specs.Splitting.{squares_of, quarter, AreRuns}

@@ -1,6 +1,5 @@
 -- The root's run has all positions.
-use Rattle.std.proofs.Common.{◌≡◌, [], length, List, refl, ap, ◌∙◌, arith}
-use Rattle.quadtree.specs.declared.split.Run.{Run}
+use Rattle.std.proofs.Common.{◌≡◌, refl, ◌∙◌, arith}
 use Rattle.quadtree.proofs.Roots.{IsBegun, begun_pushed, begun_not}
 use Rattle.quadtree.proofs.split.Splits.root.Goals as goal
 use Rattle.quadtree.proofs.split.Splits.root.Goals.{then-count-gt0+in_ok-push, else-count-gt0}

@@ -1,5 +1,5 @@
 -- What is kept of a cell is right.
-use Rattle.std.proofs.Common.{ℕ, ◌≡◌, ◌-◌, ◌≤◌, ◌<◌, ◌⊎◌, inl, inr, List, length, map, Bool, ap, ◌∙◌, arith}
+use Rattle.std.proofs.Common.{ℕ, ◌≡◌, ◌≤◌, ◌⊎◌, inl, inr, List, length, map, Bool, ap, ◌∙◌, arith}
 use Rattle.std.specs.Prelude.{IsTrue, ◌↔◌, slice_get}
 use Rattle.std.specs.List.{list_any}
 use Rattle.std.proofs.lemmas.List.Elements.{All-contains}
@@ -7,7 +7,6 @@ use Rattle.particle_text.specs.declared.Point.{Point}
 use Rattle.cell_name.specs.Cell.{square}
 use Rattle.cell_name.specs.Square.{Square}
 use Rattle.quadtree.specs.Nodes.{is_target, is_source}
-use Rattle.quadtree.specs.Splitting.{IsRun}
 use Rattle.quadtree.specs.Tree.{IsTreeCell, IsLeaf, count_in}
 use Rattle.quadtree.proofs.PointKinds.{has_target_is, has_source_is}
 use Rattle.quadtree.proofs.Positions.{length-members}

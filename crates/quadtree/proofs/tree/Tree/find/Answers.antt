@@ -1,7 +1,6 @@
 -- A tree's cells ascend, so the search finds the cell where it is among them.
-use Rattle.std.proofs.Common.{subst, sym, ◌≡◌, List}
-use Rattle.std.specs.Prelude.{MatchOption, Contains}
-use Rattle.std.specs.List.Sorted.{IsBinarySearchResult, IsSearchInRange}
+use Rattle.std.proofs.Common.{◌≡◌, List}
+use Rattle.std.specs.List.Sorted.{IsBinarySearchResult}
 use Rattle.cell_name.specs.declared.cell.Cell.{Cell}
 use Rattle.quadtree.proofs.Searches.{cell_cmp, found}
 use Rattle.quadtree.proofs.tree.Tree.find.Goals as goal
