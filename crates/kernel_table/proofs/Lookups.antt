@@ -13,7 +13,7 @@ use Rattle.exact_math.specs.Orders.{IsOrder}
 use Rattle.complex_box.specs.Box.{box_ends}
 use Rattle.complex_box.specs.declared.CBox.{CBox}
 use Rattle.kernel_table.specs.Kernel.{IsKernelDistance, kernel_power, kernel_entry, alternate_box, kernel_fraction}
-use Rattle.kernel_table.specs.Narrow.{BoxEndsNarrow}
+use Rattle.exact_math.specs.Ends.{BoxEndsNarrow}
 use Rattle.kernel_table.specs.Table.{distance_at, IsKernelTable, IsKernelColumn}
 use Rattle.kernel_table.proofs.Contained.{kernel_entry_contains}
 use Rattle.kernel_table.proofs.Norms.{squares}

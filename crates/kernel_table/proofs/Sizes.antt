@@ -21,7 +21,7 @@ use Rattle.exact_math.proofs.Enclosures.{floor_div_le}
 use Rattle.complex_box.specs.Box.{GscaleFits}
 use Rattle.kernel_table.specs.Kernel.{IsKernelDistance, kernel_power, kernel_entry, alternate_box}
 use Rattle.truncation.specs.CutTerms.{reciprocal}
-use Rattle.kernel_table.specs.Narrow.{EndsNarrow}
+use Rattle.exact_math.specs.Ends.{EndsNarrow}
 use Rattle.kernel_table.proofs.Contained.{kernel_power_contains}
 use Rattle.kernel_table.proofs.PowersOfTwo.{two_power, power_positive, power_add, choose_le}
 use Rattle.kernel_table.proofs.Widths.{norm_count-is, norm_count≥4, widths, widths_le, kernel_power_narrow, floor_div_gt, at_most}

@@ -18,7 +18,7 @@ use Rattle.exact_math.proofs.Integers as Z
 use Rattle.exact_math.specs.Binomials.{choose}
 use Rattle.exact_math.proofs.Enclosures.{floor_div_le, ceil_div_ge}
 use Rattle.kernel_table.specs.Kernel.{IsKernelDistance, kernel_power, kernel_entry, alternate_box}
-use Rattle.kernel_table.specs.Narrow.{EndsNarrow, BoxEndsNarrow}
+use Rattle.exact_math.specs.Ends.{EndsNarrow, BoxEndsNarrow}
 use Rattle.kernel_table.proofs.PowersOfTwo.{power_positive, power_add, choose_le}
 
 -- ---- operations
