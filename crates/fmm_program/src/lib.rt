@@ -5,6 +5,8 @@ mod leaf;
 mod report;
 mod solve;
 mod status;
+#[cfg(test)]
+mod tests;
 mod top;
 mod words;
 
