@@ -1,5 +1,7 @@
 -- A list of words from its words.
-use Rattle.std.proofs.Common.{◌≡◌, ℕ, List, [], ◌∷◌, length, slice_get, Some, arith}
+use Rattle.std.proofs.Common.{◌≡◌, ℕ, List, [], ◌∷◌, length, slice_get, Some, arith, sym, ap, ◌∙◌}
+use Rattle.number_text.specs.Numbers.{value_after}
+use Rattle.fmm_program.specs.Forms.{IsSolve}
 
 -- the four words of a list of four
 pub four_words : (xs : List (List ℕ)) (a b c d : List ℕ) → length xs ≡ 4 → slice_get xs 0 ≡ Some a → slice_get xs 1 ≡ Some b → slice_get xs 2 ≡ Some c → slice_get xs 3 ≡ Some d → xs ≡ a ∷ b ∷ c ∷ d ∷ []
@@ -9,3 +11,10 @@ four_words (w ∷ x ∷ []) a b c d n p q r s = absurd (omega arith)
 four_words (w ∷ x ∷ y ∷ []) a b c d n p q r s = absurd (omega arith)
 four_words (w ∷ x ∷ y ∷ z ∷ []) a b c d n p q r s = cc
 four_words (w ∷ x ∷ y ∷ z ∷ v ∷ rest) a b c d n p q r s = absurd (omega arith)
+
+-- the words of one form have one capacity
+pub one_capacity : (words : List (List ℕ)) (order cap other limit : ℕ) (file rest : List ℕ) → IsSolve words order cap file → IsSolve words other limit rest → cap ≡ limit
+one_capacity words order cap other limit file rest p q =
+    let e = sym p.words_are ∙ q.words_are in
+    let same : p.cap_word ≡ q.cap_word = cc in
+    sym p.spells_cap.value ∙ ap (value_after 0) same ∙ q.spells_cap.value

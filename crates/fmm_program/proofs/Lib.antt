@@ -6,3 +6,4 @@ pub mod Pieces
 pub mod LeafReports
 pub mod Certified
 pub mod RunEnds
+pub mod Complete

@@ -75,6 +75,14 @@ pub record IsSolved (order cap : ℕ) (input out : List ℕ) : Type 0 where
   pub fits : length points ≤ cap
   pub report : out ≡ leaf_report mode points order cap
 
+-- the input is a text that fits one leaf
+pub record FitsLeaf (cap : ℕ) (input : List ℕ) : Type 0 where
+  pub mode : Mode
+  pub points : List Point
+  pub within : length input ≤ most_input
+  pub spelled : Spells input mode points
+  pub fits : length points ≤ cap
+
 -- the answer to this input, and what goes out with it
 abbrev pub Answers : ℕ → ℕ → List ℕ → Status → List ℕ → Type 0
 Answers order cap input Done out = IsSolved order cap input out
@@ -127,8 +135,3 @@ abbrev pub IsSolveStatus : Status → Type 0
 IsSolveStatus Usage = ⊥
 IsSolveStatus Rejected = ⊥
 IsSolveStatus _ = Unit {0}
-
--- ---- which answers need no input to be known
-abbrev pub IsWriteFault : Status → Type 0
-IsWriteFault WriteFault = Unit {0}
-IsWriteFault _ = ⊥

@@ -2,7 +2,7 @@
 ghost use Rattle.std.specs.Prelude.{◌≡◌, ℕ, ◌+◌, ◌≤◌, ◌⊎◌, List, IfSome, Some, [], length};
 ghost use Rattle.std.specs.Io.KnownBytes.{Appends, Consumes};
 ghost use Rattle.io_ports.specs.Faults.{Rose};
-ghost use Rattle.fmm_program.specs.Answers.{IsCertified, SolveEnds, UsageEnds, most_input};
+ghost use Rattle.fmm_program.specs.Answers.{FitsLeaf, IsCertified, SolveEnds, UsageEnds, most_input};
 ghost use Rattle.fmm_program.specs.Forms.{IsSolve, IsUsage};
 
 use crate::solve::solve;
@@ -34,6 +34,8 @@ pub fn run<A: Source, B: Source, O: Sink, C: Sink>(
     // Each answer, and what goes out with it.
     ensures solve { (order cap : ℕ) (file : List ℕ) → IsSolve words.now order cap file
         → IfSome (A.left points.old) (λ input. SolveEnds order cap input result (O.held out.old) (O.held out.new)) }
+    ensures complete { (order cap : ℕ) (file input : List ℕ) → IsSolve words.now order cap file → A.left points.old ≡ Some input → FitsLeaf cap input
+        → (Rose (A.faults points.old) (A.faults points.new) → ⊥) → (Rose (O.faults out.old) (O.faults out.new) → ⊥) → (result ≡ Status.Done) ⊎ (result ≡ Status.Memory) }
     ensures usage { IsUsage words.now → UsageEnds result (O.held out.old) (O.held out.new) × (points.new ≡ points.old) }
     ensures usage_only { result ≡ Status.Usage → IsUsage words.now }
     ensures rejected { result ≡ Status.Rejected → ⊥ }
