@@ -124,6 +124,40 @@ fn refusals(rt: HostRuntime) -> Result<(), Fail> {
 }
 
 #[test]
+fn faults(rt: HostRuntime) -> Result<(), Fail> {
+    let words = solve_words(rt.alloc(), &SOLVE)?;
+    // One byte more than an input may have.
+    let mut points = SureSource::new(vec![in rt.alloc(); b'a'; 16_777_217]?);
+    let mut out = MemSink::with_room(rt.alloc(), 64, 64, Vec::new(rt.alloc()))?;
+    let mut nothing = SureSource::new(Vec::new(rt.alloc()));
+    let answer = run(
+        rt.alloc(),
+        &words,
+        &mut points,
+        &mut nothing,
+        &mut out,
+        &mut DropSink,
+    );
+    assert_eq!(rt; answer, Status::Refused);
+    assert_eq!(rt; out.held(), b"refused long\n".as_slice());
+    // A first write that fails.
+    let text = b"fmm 1 field\ncharge 0 0 1\ntarget 3 4\n";
+    let mut points = SureSource::new(Vec::from_slice(rt.alloc(), text)?);
+    let mut out = MemSink::with_room(rt.alloc(), 4096, 64, vec![in rt.alloc(); 1u64]?)?;
+    let answer = run(
+        rt.alloc(),
+        &words,
+        &mut points,
+        &mut nothing,
+        &mut out,
+        &mut DropSink,
+    );
+    assert_eq!(rt; answer, Status::WriteFault);
+    assert_eq!(rt; out.held(), b"".as_slice());
+    Ok(())
+}
+
+#[test]
 fn usage(rt: HostRuntime) -> Result<(), Fail> {
     let line =
         b"usage: fmm solve ORDER CAP FILE [WORKERS] | check FILE | session ORDER CAP | sample SEED N ORDER CAP [WORKERS]\n";

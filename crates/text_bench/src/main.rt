@@ -1,0 +1,107 @@
+//! Reads, prints and writes 65,536 lines: with no argument it says what came out, and with the word `time` how many
+//! megabytes a second.
+#![tactic(auto)]
+
+ghost use Rattle.particle_text.specs.Limits.{WithinLimits};
+
+use complex_box::CBox;
+use field_report::write_target;
+use io_ports::{DropSink, MemSink, Sink};
+use particle_text::{Mode, Points, parse, print};
+use std::time::Instant;
+use std::{env, io};
+
+/// How many lines there are.
+const LINES: u32 = 65_536;
+
+/// Whether the command line has the word `time`.
+fn is_timed(rt: &HostRuntime) -> io::Result<bool> {
+    let mut timed = false;
+    for word in env::args(rt)? {
+        timed = word.as_str() == "time";
+    }
+    Ok(timed)
+}
+
+/// A text of that many charges.
+fn sample(rt: &HostRuntime) -> Option<Vec<u8>> {
+    let mut text = Vec::from_slice(rt.alloc(), b"fmm 1 field\n").ok()?;
+    for _ in 0..LINES {
+        text.extend_from_slice(b"charge -12345 23456 -54321\n")
+            .ok()?;
+    }
+    Some(text)
+}
+
+/// Says how many bytes went through since the start, or how fast.
+fn tell(rt: &HostRuntime, timed: bool, name: &str, bytes: usize, start: Instant) -> io::Result<()> {
+    if !timed {
+        return println!(rt; "{name} {bytes} bytes");
+    }
+    let micros = start.elapsed(rt)?.as_micros().max(1);
+    let rate = bytes as u128 / micros;
+    println!(rt; "{name} {bytes} bytes in {micros} us, {rate} MB/s")
+}
+
+/// Writes the line of one target.
+fn write_line<S: Sink>(sink: &mut S) -> bool {
+    let v = CBox::point(123_456_789_012_345, -98_765_432_101_234);
+    write_target(Mode::Field, -12345, 23456, v, sink).is_ok()
+}
+
+/// How many bytes the line of one target has.
+fn line_length(rt: &HostRuntime) -> usize {
+    match MemSink::with_room(rt.alloc(), 256, 256, Vec::new(rt.alloc())) {
+        Ok(mut sink) => {
+            if write_line(&mut sink) {
+                sink.held().len()
+            } else {
+                0
+            }
+        }
+        Err(_) => 0,
+    }
+}
+
+/// Writes as many lines of targets to a sink that keeps nothing.
+fn write_lines() -> bool {
+    let mut sink = DropSink;
+    let mut all = true;
+    for _ in 0..LINES {
+        all = all && write_line(&mut sink);
+    }
+    all
+}
+
+/// Prints the points.
+fn printed(rt: &HostRuntime, points: &Points) -> usize
+    requires { WithinLimits points.now.mode points.now.list }
+{
+    match print(rt.alloc(), points) {
+        Ok(bytes) => bytes.len(),
+        Err(_) => 0,
+    }
+}
+
+fn main(rt: HostRuntime) -> io::Result<()> {
+    let timed = is_timed(&rt)?;
+    let Some(text) = sample(&rt) else {
+        return Ok(());
+    };
+    let start = Instant::now(&rt)?;
+    let Ok(points) = parse(rt.alloc(), text.as_slice()) else {
+        return Ok(());
+    };
+    tell(&rt, timed, "parse", text.len(), start)?;
+    let start = Instant::now(&rt)?;
+    let bytes = printed(&rt, &points);
+    tell(&rt, timed, "print", bytes, start)?;
+    let line = line_length(&rt).min(256);
+    let start = Instant::now(&rt)?;
+    let bytes = if write_lines() {
+        line * LINES as usize
+    } else {
+        0
+    };
+    tell(&rt, timed, "write_target", bytes, start)
+}
