@@ -1,5 +1,5 @@
 // The loops of crates/arithmetic_bench in plain Rust with i128 and the plain formulas, for comparison.
-// rustc -O bench/plain_arithmetic.rs -o /tmp/plain_arithmetic && /tmp/plain_arithmetic
+// rustc -O bench/plain_arithmetic.rs -o plain_arithmetic && ./plain_arithmetic
 use std::time::Instant;
 
 #[derive(Clone, Copy)]
