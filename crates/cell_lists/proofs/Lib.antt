@@ -1,0 +1,3 @@
+-- The theorem of the lists and what its proof needs.
+pub mod Descent
+pub mod OneEntry

@@ -1,0 +1,4 @@
+-- Definitions that the contracts cite.
+pub mod Cases
+pub mod Entries
+pub mod Walk

@@ -1,0 +1,4 @@
+//! The four lists of the adaptive quadtree.
+#![tactic(auto)]
+
+pub mod law;
