@@ -194,14 +194,14 @@ case_like T T' m n like X k l h =
       fails = λ t. h.fails ((like k l h.in_second (omega (arith, h.first_ends))).1 t);
     }
 
-levels_of_case : (T : ℕ → ℕ → Type 0) (m n : ℕ) (letter : Letter) (k l : ℕ) → IsCase T m n letter k l → (k ≤ m) × (l ≤ n)
+pub levels_of_case : (T : ℕ → ℕ → Type 0) (m n : ℕ) (letter : Letter) (k l : ℕ) → IsCase T m n letter k l → (k ≤ m) × (l ≤ n)
 levels_of_case T m n U k l h = (omega (arith, h.first_ends), omega (arith, h.second_ends))
 levels_of_case T m n V k l h = (h.in_first, h.in_second)
 levels_of_case T m n W k l h = (omega (arith, h.first_ends), h.in_second)
 levels_of_case T m n X k l h = (h.in_second, omega (arith, h.first_ends))
 
 -- the ancestor of a cell that holds a point is the point's cell
-ancestor_of : (grid : ℕ) (b : Square) (p : Point) (k : ℕ) → b ≡ cell_of grid p b.level → b.level ≤ grid → k ≤ b.level → cell_of grid p k ≡ ancestor b k
+pub ancestor_of : (grid : ℕ) (b : Square) (p : Point) (k : ℕ) → b ≡ cell_of grid p b.level → b.level ≤ grid → k ≤ b.level → cell_of grid p k ≡ ancestor b k
 ancestor_of grid b p k e le kb =
     let a : ancestor (cell_of grid p b.level) k ≡ cell_of grid p k = ancestor-square_at grid b.level k p.x p.y kb le in
     sym a ∙ ap (λ v. ancestor v k) (sym e)

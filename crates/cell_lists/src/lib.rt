@@ -2,3 +2,6 @@
 #![tactic(auto)]
 
 pub mod law;
+mod walk;
+
+pub use walk::first_apart;
