@@ -1,4 +1,9 @@
 -- The theorem of the lists and what its proof needs.
+pub mod CellNumbers
 pub mod Descent
 pub mod OneEntry
+pub mod PairTests
+pub mod Picks
+pub mod RowLists
 pub mod TreeNumbers
+pub mod WalkSteps

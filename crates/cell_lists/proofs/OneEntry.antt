@@ -62,30 +62,30 @@ case_of grid points cap p q m n lp lq U k l h =
     record { first_ends = lp.no_other k h.first_leaf; second_ends = lq.no_other l h.second_leaf; holds = h.touch }
 case_of grid points cap p q m n lp lq V k l h =
     record {
-      same = h.same_level;
-      below = h.below_root;
+      same = h.come_apart.same_level;
+      below = h.come_apart.below_root;
       in_first = lp.no_deeper k h.first_in_tree;
       in_second = lq.no_deeper l h.second_in_tree;
       holds_above =
-          touches_along _ _ _ _ (parent_of grid p k h.below_root h.first_in_tree.level_in_grid)
-          (parent_of grid q l (omega (arith, h.same_level, h.below_root)) h.second_in_tree.level_in_grid) h.parents_touch;
-      fails = h.apart;
+          touches_along _ _ _ _ (parent_of grid p k h.come_apart.below_root h.first_in_tree.level_in_grid)
+          (parent_of grid q l (omega (arith, h.come_apart.same_level, h.come_apart.below_root)) h.second_in_tree.level_in_grid) h.come_apart.parents_touch;
+      fails = h.come_apart.apart;
     }
 case_of grid points cap p q m n lp lq W k l h =
     record {
       first_ends = lp.no_other k h.first_leaf;
-      deeper = h.deeper;
+      deeper = h.comes_apart.deeper;
       in_second = lq.no_deeper l h.second_in_tree;
-      holds_above = Touches-sym (cell_of grid q (l - 1)) (cell_of grid p k) (touches_along _ _ _ _ (parent_of grid q l (omega (arith, h.deeper)) h.second_in_tree.level_in_grid) refl h.parent_touches);
-      fails = λ t. h.apart (Touches-sym (cell_of grid p k) (cell_of grid q l) t);
+      holds_above = Touches-sym (cell_of grid q (l - 1)) (cell_of grid p k) (touches_along _ _ _ _ (parent_of grid q l (omega (arith, h.comes_apart.deeper)) h.second_in_tree.level_in_grid) refl h.comes_apart.parent_touches);
+      fails = λ t. h.comes_apart.apart (Touches-sym (cell_of grid p k) (cell_of grid q l) t);
     }
 case_of grid points cap p q m n lp lq X k l h =
     record {
       first_ends = lq.no_other l h.first_leaf;
-      deeper = h.deeper;
+      deeper = h.comes_apart.deeper;
       in_second = lp.no_deeper k h.second_in_tree;
-      holds_above = touches_along _ _ _ _ (parent_of grid p k (omega (arith, h.deeper)) h.second_in_tree.level_in_grid) refl h.parent_touches;
-      fails = h.apart;
+      holds_above = touches_along _ _ _ _ (parent_of grid p k (omega (arith, h.comes_apart.deeper)) h.second_in_tree.level_in_grid) refl h.comes_apart.parent_touches;
+      fails = h.comes_apart.apart;
     }
 
 leaf_at_level : (grid : ℕ) (points : List Point) (cap : ℕ) (p : Point) (last : ℕ) → IsLeafLevel grid points cap p last → (k : ℕ) → k ≡ last → IsLeaf grid points cap (cell_of grid p k)
@@ -99,28 +99,34 @@ pair_of grid points cap p q m n lp lq V k l h =
     record {
       first_in_tree = lp.in_tree k h.in_first;
       second_in_tree = lq.in_tree l h.in_second;
+      come_apart = record {
       same_level = h.same;
       below_root = h.below;
       parents_touch =
           touches_along _ _ _ _ (sym (parent_of grid p k h.below (omega (arith, h.in_first, lp.in_grid))))
           (sym (parent_of grid q l (omega (arith, h.same, h.below)) (omega (arith, h.in_second, lq.in_grid)))) h.holds_above;
       apart = h.fails;
+      };
     }
 pair_of grid points cap p q m n lp lq W k l h =
     record {
       first_leaf = leaf_at_level grid points cap p m lp k h.first_ends;
       second_in_tree = lq.in_tree l h.in_second;
+      comes_apart = record {
       deeper = h.deeper;
       parent_touches = touches_along _ _ _ _ (sym (parent_of grid q l (omega (arith, h.deeper)) (omega (arith, h.in_second, lq.in_grid)))) refl (Touches-sym (cell_of grid p k) (cell_of grid q (l - 1)) h.holds_above);
       apart = λ t. h.fails (Touches-sym (cell_of grid q l) (cell_of grid p k) t);
+      };
     }
 pair_of grid points cap p q m n lp lq X k l h =
     record {
       first_leaf = leaf_at_level grid points cap q n lq l h.first_ends;
       second_in_tree = lp.in_tree k h.in_second;
+      comes_apart = record {
       deeper = h.deeper;
       parent_touches = touches_along _ _ _ _ (sym (parent_of grid p k (omega (arith, h.deeper)) (omega (arith, h.in_second, lp.in_grid)))) refl h.holds_above;
       apart = h.fails;
+      };
     }
 
 pair_along : (grid : ℕ) (points : List Point) (cap : ℕ) (letter : Letter) (b b' c c' : Square) → b ≡ b' → c ≡ c' → IsPair grid points cap letter b c → IsPair grid points cap letter b' c'

@@ -14,21 +14,28 @@ pub record IsUPair (grid : ℕ) (points : List Point) (cap : ℕ) (b c : Square)
   pub touch : Touches b c
 
 -- they have one level of at least 1, their parents touch, and they don't touch
-pub record IsVPair (grid : ℕ) (points : List Point) (cap : ℕ) (b c : Square) : Type 0 where
-  pub first_in_tree : IsTreeCell grid points cap b
-  pub second_in_tree : IsTreeCell grid points cap c
+pub record ComeApart (b c : Square) : Type 0 where
   pub same_level : b.level ≡ c.level
   pub below_root : 1 ≤ b.level
   pub parents_touch : Touches (parent b) (parent c)
   pub apart : Touches b c → ⊥
 
--- `b` is a leaf, `c` has a greater level, the parent of `c` touches `b`, and `c` doesn't touch `b`
-pub record IsWPair (grid : ℕ) (points : List Point) (cap : ℕ) (b c : Square) : Type 0 where
-  pub first_leaf : IsLeaf grid points cap b
+pub record IsVPair (grid : ℕ) (points : List Point) (cap : ℕ) (b c : Square) : Type 0 where
+  pub first_in_tree : IsTreeCell grid points cap b
   pub second_in_tree : IsTreeCell grid points cap c
+  pub come_apart : ComeApart b c
+
+-- `c` has a greater level than `b`, its parent touches `b`, and `c` doesn't
+pub record ComesApartBelow (b c : Square) : Type 0 where
   pub deeper : b.level < c.level
   pub parent_touches : Touches (parent c) b
   pub apart : Touches c b → ⊥
+
+-- `b` is a leaf, and `c` comes apart from it below its level
+pub record IsWPair (grid : ℕ) (points : List Point) (cap : ℕ) (b c : Square) : Type 0 where
+  pub first_leaf : IsLeaf grid points cap b
+  pub second_in_tree : IsTreeCell grid points cap c
+  pub comes_apart : ComesApartBelow b c
 
 -- the condition of each letter; X is W with the two cells exchanged
 abbrev pub IsPair : ℕ → List Point → ℕ → Letter → Square → Square → Type 0

@@ -1,0 +1,34 @@
+-- One more row.
+use Rattle.std.proofs.Common.{ℕ, ◌≡◌, ◌+◌, ◌-◌, ◌<◌, ◌≤◌, List, [], ◌∷◌, ◌++◌, length, map, take, drop, refl, sym, ap, ◌∙◌, subst, arith, length-append, length-drop}
+use Rattle.std.specs.Prelude.{All, slice_range}
+use Rattle.std.proofs.lemmas.List.{take-append-le, drop-append-le, map-append}
+use Rattle.std.proofs.lemmas.List.Elements.{All-head, All-tail}
+use Rattle.std.proofs.lemmas.Slice.{between_to_end}
+use Rattle.std.proofs.Math.Seq.{drop-append_seam}
+use Rattle.cell_lists.specs.declared.rows.Range.{Range}
+use Rattle.cell_lists.specs.Rows.{rows_of, IsRange}
+
+-- a range stays as it was where the vector goes on
+range_kept : (items more : List ℕ) (from to : ℕ) → from ≤ to → to ≤ length items → slice_range (items ++ more) from to ≡ slice_range items from to
+range_kept items more from to le hi =
+    ap (take (to - from)) (drop-append-le from items more (omega arith)) ∙ take-append-le (to - from) (drop from items) more (omega (arith, length-drop from items))
+
+rows_kept : (items more : List ℕ) (ranges : List Range) → All (IsRange items) ranges → rows_of (items ++ more) ranges ≡ rows_of items ranges
+rows_kept items more [] h = refl
+rows_kept items more (r ∷ rs) h =
+    let here = All-head (IsRange items) r rs h in
+    let e = range_kept items more r.from r.to here.ordered here.in_range in
+    let rest = rows_kept items more rs (All-tail (IsRange items) r rs h) in
+    ap (λ l. l ∷ rows_of (items ++ more) rs) e ∙ ap (λ l. slice_range items r.from r.to ∷ l) rest
+
+-- the range of what was appended has just that
+last_row : (items more : List ℕ) (from to : ℕ) → from ≡ length items → to ≡ length (items ++ more) → slice_range (items ++ more) from to ≡ more
+last_row items more from to lo hi =
+    between_to_end (items ++ more) from to (omega (arith, hi)) ∙ ap (λ n. drop n (items ++ more)) lo ∙ drop-append_seam items more
+
+pub rows_push : (items more items' : List ℕ) (ranges ranges' : List Range) (r : Range) (was : List (List ℕ)) → items' ≡ items ++ more → ranges' ≡ ranges ++ r ∷ [] → r.from ≡ length items → r.to ≡ length items' → All (IsRange items) ranges → rows_of items ranges ≡ was → rows_of items' ranges' ≡ was ++ more ∷ []
+rows_push items more items' ranges ranges' r was grown pushed from to ordered is =
+    let f : Range → List ℕ = λ (q : Range). slice_range (items ++ more) q.from q.to in
+    let last : slice_range (items ++ more) r.from r.to ≡ more = last_row items more r.from r.to from (to ∙ ap length grown) in
+    ap (λ l. rows_of l ranges') grown ∙ ap (rows_of (items ++ more)) pushed ∙ map-append f ranges (r ∷ []) ∙
+    ap (λ l. l ++ slice_range (items ++ more) r.from r.to ∷ []) (rows_kept items more ranges ordered ∙ is) ∙ ap (λ l. was ++ l ∷ []) last

@@ -1,0 +1,64 @@
+//! Lists of numbers that stand end to end in one vector.
+
+ghost use Rattle.std.specs.Prelude.{◌≡◌, ◌<◌, [], ◌∷◌, ◌++◌, length, OnOk};
+ghost use Rattle.cell_lists.specs.Row.{row};
+
+use std::alloc::{AllocError, Global};
+use std::marker::Model;
+
+/// Where a row stands.
+#[derive(Clone, Copy)]
+pub struct Range {
+    pub(crate) from: usize,
+    pub(crate) to: usize,
+}
+
+/// Lists of numbers that stand end to end in one vector.
+#[derive(Drop)]
+pub struct Rows {
+    items: Vec<u32>,
+    ranges: Vec<Range>,
+}
+
+impl Model for Rows {
+    ghost use Rattle.std.specs.Prelude.{ℕ, List, All};
+    ghost use Rattle.cell_lists.specs.Rows.{rows_of, IsRange};
+
+    ghost Value = { List (List ℕ) };
+
+    ghost view = { λ r. rows_of r.items.items r.ranges.items };
+
+    ghost invariant = { λ r. All (IsRange r.items.items) r.ranges.items };
+}
+
+impl Rows {
+    /// No rows.
+    pub(crate) fn new(alloc: Global) -> Rows
+        ensures { result ≡ [] }
+    {
+        Rows {
+            items: Vec::new(alloc),
+            ranges: Vec::new(alloc),
+        }
+    }
+
+    /// Appends a row.
+    pub(crate) fn push(&mut self, more: &[u32]) -> Result<(), AllocError>
+        ensures { OnOk result (self.new ≡ self.old ++ more.now ∷ []) }
+    {
+        let from = self.items.len();
+        self.items.extend_from_slice(more)?;
+        let to = self.items.len();
+        self.ranges.push(Range { from, to })?;
+        Ok(())
+    }
+
+    /// The row of a number.
+    pub(crate) fn row(&self, n: usize) -> &[u32]
+        requires { n < length self.now }
+        ensures { result.now ≡ row self.now n }
+    {
+        let range = self.ranges[n];
+        &self.items[range.from..range.to]
+    }
+}
