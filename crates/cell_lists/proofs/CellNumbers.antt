@@ -1,6 +1,6 @@
 -- Numbers, levels and parents of a tree's cells.
 use Rattle.std.proofs.Common.{ℕ, ◌≡◌, ◌+◌, ◌-◌, ◌*◌, ◌/◌, ◌%◌, ◌<◌, ◌≤◌, ◌⊎◌, inl, inr, List, length, map, get_or, refl, sym, ap, ◌∙◌, subst, arith, lit<}
-use Rattle.std.specs.Prelude.{Contains, IsTrue, Bool, ◌↔◌, [], ◌∷◌, ◌++◌}
+use Rattle.std.specs.Prelude.{AllPairs, Contains, IsTrue, Bool, ◌↔◌, [], ◌∷◌, ◌++◌}
 use Rattle.std.proofs.lemmas.List.Elements.{Contains-get_or, Contains-push}
 use Rattle.std.proofs.lemmas.Bool.{cases_lt}
 use Rattle.std.proofs.lemmas.List.{get_or_default, length-map}
@@ -21,17 +21,17 @@ pub number_listed : (tree : TreeModel) (s : Square) → Contains (squares tree) 
 number_listed tree s h = (h.0, omega (arith, h.1, length-map tree.cells square), get_or_default (squares tree) h.0 (root 16) s h.1 ∙ h.2)
 
 -- of two numbers the smaller is that of the earlier cell
-number_before : (tree : TreeModel) → IsTree tree → (m n : ℕ) → m < n → n < size tree → IsBefore (square_of tree m) (square_of tree n)
-number_before tree h m n lt hi = h.is_tree.cells_are.ascending m n (root 16) lt (omega (arith, length-map tree.cells square))
+number_before : (tree : TreeModel) → AllPairs IsBefore (squares tree) → (m n : ℕ) → m < n → n < size tree → IsBefore (square_of tree m) (square_of tree n)
+number_before tree up m n lt hi = up m n (root 16) lt (omega (arith, length-map tree.cells square))
 
 -- a cell has one number
-pub same_number : (tree : TreeModel) → IsTree tree → (m n : ℕ) → m < size tree → n < size tree → square_of tree m ≡ square_of tree n → m ≡ n
-same_number tree h m n lm ln e =
+pub same_number : (tree : TreeModel) → AllPairs IsBefore (squares tree) → (m n : ℕ) → m < size tree → n < size tree → square_of tree m ≡ square_of tree n → m ≡ n
+same_number tree up m n lm ln e =
     elim (cases_lt m n) [
-      | inl lt ↦ absurd (IsBefore-irrefl (square_of tree m) (square_of tree n) e (number_before tree h m n lt ln))
+      | inl lt ↦ absurd (IsBefore-irrefl (square_of tree m) (square_of tree n) e (number_before tree up m n lt ln))
       | inr ge ↦
           elim (cases_lt n m) [
-            | inl gt ↦ absurd (IsBefore-irrefl (square_of tree n) (square_of tree m) (sym e) (number_before tree h n m gt lm))
+            | inl gt ↦ absurd (IsBefore-irrefl (square_of tree n) (square_of tree m) (sym e) (number_before tree up n m gt lm))
             | inr le ↦ omega arith
           ]
     ]
@@ -57,7 +57,7 @@ level_positive tree h n lo hi =
           let e = level_zero_root 16 h.points h.cap (square_of tree n) (tree_cell_at tree h.points h.cap n h.is_tree hi) zero in
           let i : (square_of tree n).i ≡ 0 = ap (λ (s : Square). s.i) e in
           let j : (square_of tree n).j ≡ 0 = ap (λ (s : Square). s.j) e in
-          let before = number_before tree h 0 n lo hi in
+          let before = number_before tree h.is_tree.cells_are.ascending 0 n lo hi in
           absurd (elim before.before [
             | inl lt ↦ omega arith
             | inr rest ↦ elim rest.1 [ inl lt ↦ omega arith | inr last ↦ absurd (omega (arith, last.1)) ]
@@ -77,7 +77,7 @@ first_level tree h lt =
           let up = number_listed tree (parent (square_of tree 0)) (h.is_tree.cells_are.whole (parent (square_of tree 0)) (IsTreeCell-parent 16 h.points h.cap (square_of tree 0) (lit< tt) h.in_grid cell lo)) in
           let level : (square_of tree up.0).level ≡ (square_of tree 0).level - 1 = ap (λ (s : Square). s.level) up.2 in
           elim (cases_lt 0 up.0) [
-            | inl after ↦ elim (number_before tree h 0 up.0 after up.1).before [ inl less ↦ absurd (omega (arith, less, level, lo)) | inr rest ↦ absurd (omega (arith, rest.0, level, lo)) ]
+            | inl after ↦ elim (number_before tree h.is_tree.cells_are.ascending 0 up.0 after up.1).before [ inl less ↦ absurd (omega (arith, less, level, lo)) | inr rest ↦ absurd (omega (arith, rest.0, level, lo)) ]
             | inr first ↦ let same : (square_of tree up.0).level ≡ (square_of tree 0).level = ap (λ n. (square_of tree n).level) (omega arith) in absurd (omega (arith, same, level, lo))
           ]
     ]
@@ -115,7 +115,7 @@ parent_before tree h b lo hi = record { before = before; in_range = has.in_range
                 | inr le ↦
                     let same : (square_of tree p).level ≡ (square_of tree b).level = ap (λ n. (square_of tree n).level) (omega arith) in
                     absurd (omega (arith, same, level, positive))
-                | inl gt ↦ elim (number_before tree h b p gt has.in_range).before [ inl lt ↦ absurd (omega (arith, lt, level, positive)) | inr rest ↦ absurd (omega (arith, rest.0, level, positive)) ]
+                | inl gt ↦ elim (number_before tree h.is_tree.cells_are.ascending b p gt has.in_range).before [ inl lt ↦ absurd (omega (arith, lt, level, positive)) | inr rest ↦ absurd (omega (arith, rest.0, level, positive)) ]
               ]
         ]
 
@@ -146,7 +146,7 @@ not_listed tree s c lt e h = let P : Square → Type 0 = λ v. Contains (squares
 -- the number that a search found
 pub found_number_listed : (tree : TreeModel) (s : Square) (n c : ℕ) (was now : List ℕ) → IsTree tree → now ≡ was ++ n ∷ [] → n < size tree → square_of tree n ≡ s → c < size tree → square_of tree c ≡ s → Contains now c
 found_number_listed tree s n c was now is grown ln en lc ec =
-    let same : n ≡ c = same_number tree is n c ln lc (en ∙ sym ec) in
+    let same : n ≡ c = same_number tree is.is_tree.cells_are.ascending n c ln lc (en ∙ sym ec) in
     let P : List ℕ → Type 0 = λ l. Contains l c in
     let Q : ℕ → Type 0 = λ v. Contains (was ++ n ∷ []) v in
     subst P (sym grown) (subst Q same (Contains-push was n))

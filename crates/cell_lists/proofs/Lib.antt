@@ -2,6 +2,7 @@
 pub mod CellNumbers
 pub mod Descent
 pub mod OneEntry
+pub mod OneListed
 pub mod PairTests
 pub mod Picks
 pub mod RowLists

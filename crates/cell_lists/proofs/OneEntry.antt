@@ -100,12 +100,12 @@ pair_of grid points cap p q m n lp lq V k l h =
       first_in_tree = lp.in_tree k h.in_first;
       second_in_tree = lq.in_tree l h.in_second;
       come_apart = record {
-      same_level = h.same;
-      below_root = h.below;
-      parents_touch =
-          touches_along _ _ _ _ (sym (parent_of grid p k h.below (omega (arith, h.in_first, lp.in_grid))))
-          (sym (parent_of grid q l (omega (arith, h.same, h.below)) (omega (arith, h.in_second, lq.in_grid)))) h.holds_above;
-      apart = h.fails;
+        same_level = h.same;
+        below_root = h.below;
+        parents_touch =
+            touches_along _ _ _ _ (sym (parent_of grid p k h.below (omega (arith, h.in_first, lp.in_grid))))
+            (sym (parent_of grid q l (omega (arith, h.same, h.below)) (omega (arith, h.in_second, lq.in_grid)))) h.holds_above;
+        apart = h.fails;
       };
     }
 pair_of grid points cap p q m n lp lq W k l h =
@@ -113,9 +113,9 @@ pair_of grid points cap p q m n lp lq W k l h =
       first_leaf = leaf_at_level grid points cap p m lp k h.first_ends;
       second_in_tree = lq.in_tree l h.in_second;
       comes_apart = record {
-      deeper = h.deeper;
-      parent_touches = touches_along _ _ _ _ (sym (parent_of grid q l (omega (arith, h.deeper)) (omega (arith, h.in_second, lq.in_grid)))) refl (Touches-sym (cell_of grid p k) (cell_of grid q (l - 1)) h.holds_above);
-      apart = λ t. h.fails (Touches-sym (cell_of grid q l) (cell_of grid p k) t);
+        deeper = h.deeper;
+        parent_touches = touches_along _ _ _ _ (sym (parent_of grid q l (omega (arith, h.deeper)) (omega (arith, h.in_second, lq.in_grid)))) refl (Touches-sym (cell_of grid p k) (cell_of grid q (l - 1)) h.holds_above);
+        apart = λ t. h.fails (Touches-sym (cell_of grid q l) (cell_of grid p k) t);
       };
     }
 pair_of grid points cap p q m n lp lq X k l h =
@@ -123,9 +123,9 @@ pair_of grid points cap p q m n lp lq X k l h =
       first_leaf = leaf_at_level grid points cap q n lq l h.first_ends;
       second_in_tree = lp.in_tree k h.in_second;
       comes_apart = record {
-      deeper = h.deeper;
-      parent_touches = touches_along _ _ _ _ (sym (parent_of grid p k (omega (arith, h.deeper)) (omega (arith, h.in_second, lp.in_grid)))) refl h.holds_above;
-      apart = h.fails;
+        deeper = h.deeper;
+        parent_touches = touches_along _ _ _ _ (sym (parent_of grid p k (omega (arith, h.deeper)) (omega (arith, h.in_second, lp.in_grid)))) refl h.holds_above;
+        apart = h.fails;
       };
     }
 

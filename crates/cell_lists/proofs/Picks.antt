@@ -128,11 +128,14 @@ picks_all tree letter b met count cells all meets h points cap inside is =
     record {
       numbers = h.numbers;
       ascending = h.ascending;
-      exact = λ c lt. (p.sound c, λ entry.
-          let at = place_of met c (meets points cap inside is letter c lt entry) in
-          let P : ℕ → Type 0 = λ v. IsEntry 16 points cap letter (square_of tree b) (square_of tree v) in
-          let Q : ℕ → Type 0 = λ v. Contains cells v in
-          subst Q at.here (p.whole at.at (omega (arith, at.inside)) (subst P (sym at.here) entry)));
+      exact = λ c lt. (
+        p.sound c,
+        λ entry.
+            let at = place_of met c (meets points cap inside is letter c lt entry) in
+            let P : ℕ → Type 0 = λ v. IsEntry 16 points cap letter (square_of tree b) (square_of tree v) in
+            let Q : ℕ → Type 0 = λ v. Contains cells v in
+            subst Q at.here (p.whole at.at (omega (arith, at.inside)) (subst P (sym at.here) entry)),
+      );
     }
 
 -- ---- each entry is met

@@ -6,7 +6,7 @@ use Rattle.quadtree.specs.TreeModel.{TreeModel, size, square_of}
 use Rattle.cert_text.specs.declared.Letter.{Letter}
 use Rattle.cert_text.specs.declared.Letter.TheVariants.{U, V, W, X}
 use Rattle.cell_lists.specs.declared.entry_lists.EntryLists.{EntryLists}
-use Rattle.cell_lists.specs.Entries.{IsEntry}
+use Rattle.cell_lists.specs.Entries.{IsEntry, Accounts, IsTargetAndSource}
 use Rattle.cell_lists.specs.Numbers.{OfEachList}
 use Rattle.cell_lists.specs.Row.{row}
 
@@ -31,3 +31,17 @@ pub record AreListsTo (tree : TreeModel) (lists : EntryLists) (count : ℕ) : Ty
 -- the four lists of each cell of the tree
 abbrev pub AreLists : TreeModel → EntryLists → Type 0
 AreLists tree lists = AreListsTo tree lists (size tree)
+
+-- exactly one entry of the lists accounts for a target and a source
+pub record HasOneListed (tree : TreeModel) (lists : EntryLists) (target source : Point) : Type 0 where
+  pub letter : Letter
+  pub b : ℕ
+  pub c : ℕ
+  pub in_range : b < size tree
+  pub listed : Contains (row (lists_of lists letter) b) c
+  pub accounts : Accounts (square_of tree b) (square_of tree c) target source
+  pub no_other : (letter' : Letter) (b' c' : ℕ) → b' < size tree → Contains (row (lists_of lists letter') b') c' → Accounts (square_of tree b') (square_of tree c') target source → (letter' ≡ letter) × (b' ≡ b) × (c' ≡ c)
+
+-- each target and source of the list of points
+abbrev pub EachPairHasOneListed : TreeModel → EntryLists → Type 0
+EachPairHasOneListed tree lists = OfEachList tree (λ points cap. (target source : Point) → IsTargetAndSource points target source → HasOneListed tree lists target source)

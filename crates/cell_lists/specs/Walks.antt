@@ -25,7 +25,7 @@ pub record IsAround (tree : TreeModel) (b c : ℕ) : Type 0 where
   pub in_range : c < size tree
   pub below_root : 0 < (square_of tree b).level
   pub reached :
-    (((square_of tree c).level ≡ (square_of tree b).level) × Touches (parent (square_of tree b)) (parent (square_of tree c))) ⊎ (IsTrue (node_of tree c).is_leaf × ((square_of tree c).level < (square_of tree b).level) × Touches (parent (square_of tree b)) (square_of tree c))
+      (((square_of tree c).level ≡ (square_of tree b).level) × Touches (parent (square_of tree b)) (parent (square_of tree c))) ⊎ (IsTrue (node_of tree c).is_leaf × ((square_of tree c).level < (square_of tree b).level) × Touches (parent (square_of tree b)) (square_of tree c))
 
 -- `c` is deeper than `b`, and its parent touches `b`
 pub record IsBelow (tree : TreeModel) (b c : ℕ) : Type 0 where

@@ -1,12 +1,11 @@
 //! The four lists of each cell.
 
-ghost use Rattle.std.specs.Prelude.{◌≡◌, ◌<◌, ℕ, length, IfOk, OnOk, Contains, All};
-ghost use Rattle.std.specs.List.Sorted.{IsStrictlyIncreasing};
-ghost use Rattle.cell_lists.specs.Numbers.{OfEachList};
+ghost use Rattle.std.specs.Prelude.{◌≡◌, ◌<◌, length, sum_by};
+ghost use Rattle.cell_lists.specs.Lists.{lists_of};
 ghost use Rattle.cell_lists.specs.Row.{row};
-ghost use Rattle.quadtree.specs.TreeModel.{size};
 
 use crate::rows::Rows;
+use cert_text::Letter;
 
 /// The entries of the four lists: for each letter and each cell `b` the cells `c`, ascending.
 #[derive(Drop)]
@@ -48,5 +47,17 @@ impl EntryLists {
         ensures { result.now ≡ row self.now.x b }
     {
         self.x.row(b)
+    }
+
+    /// How many entries of a letter there are.
+    pub fn total(&self, letter: Letter) -> u64
+        ensures { result ≡ sum_by (λ list. length list) (lists_of self.now letter) }
+    {
+        match letter {
+            Letter::U => self.u.total(),
+            Letter::V => self.v.total(),
+            Letter::W => self.w.total(),
+            Letter::X => self.x.total(),
+        }
     }
 }

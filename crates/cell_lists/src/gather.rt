@@ -2,7 +2,7 @@
 
 ghost use Rattle.std.specs.Prelude.{◌+◌, ◌<◌, ℕ, IfOk, OnOk, Contains};
 ghost use Rattle.std.specs.List.Sorted.{IsStrictlyIncreasing};
-ghost use Rattle.cell_lists.specs.Lists.{IsListOf, AreListsTo, AreLists};
+ghost use Rattle.cell_lists.specs.Lists.{IsListOf, AreListsTo, AreLists, EachPairHasOneListed};
 ghost use Rattle.cell_lists.specs.Numbers.{OfEachList};
 ghost use Rattle.cell_lists.specs.Walks.{AreNumbers, IsMet, IsBelow, AreChildren, AreColleagues};
 ghost use Rattle.cell_lists.specs.Meetings.{MeetsAll};
@@ -51,21 +51,20 @@ impl EntryLists {
         requires lists { AreListsTo tree.now self.old b }
         ensures { OnOk result (AreListsTo tree.now self.new (b + 1)) }
     {
-        self.u.push(list(alloc, tree, Letter::U, b, met)?.as_slice())?;
-        self.v.push(list(alloc, tree, Letter::V, b, met)?.as_slice())?;
-        self.w.push(list(alloc, tree, Letter::W, b, met)?.as_slice())?;
-        self.x.push(list(alloc, tree, Letter::X, b, met)?.as_slice())?;
+        self.u
+            .push(list(alloc, tree, Letter::U, b, met)?.as_slice())?;
+        self.v
+            .push(list(alloc, tree, Letter::V, b, met)?.as_slice())?;
+        self.w
+            .push(list(alloc, tree, Letter::W, b, met)?.as_slice())?;
+        self.x
+            .push(list(alloc, tree, Letter::X, b, met)?.as_slice())?;
         Ok(())
     }
 }
 
 /// The cells that may be in a list of `b`, ascending.
-fn met(
-    tree: &Tree,
-    children: &Rows,
-    mut found: Vec<u32>,
-    b: usize,
-) -> Result<Vec<u32>, AllocError>
+fn met(tree: &Tree, children: &Rows, mut found: Vec<u32>, b: usize) -> Result<Vec<u32>, AllocError>
     requires tree { IsTree tree.now }
     requires number { b < size tree.now }
     requires children { AreChildren tree.now children.now }
@@ -107,7 +106,8 @@ fn gathered(alloc: Global, tree: &Tree) -> Result<EntryLists, AllocError>
 /// A cell meets the colleagues of its parent or their quarters, and a leaf goes on to the quarters of what touches it,
 /// so the time is about in proportion to the cells and the entries.
 pub fn lists(alloc: Global, tree: &Tree) -> Result<EntryLists, Memory>
-    ensures { IfOk result (λ v. AreLists tree.now v) }
+    ensures lists { IfOk result (λ v. AreLists tree.now v) }
+    ensures one_entry { IfOk result (λ v. EachPairHasOneListed tree.now v) }
 {
     match gathered(alloc, tree) {
         Ok(lists) => Ok(lists),

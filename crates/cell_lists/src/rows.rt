@@ -1,6 +1,6 @@
 //! Lists of numbers that stand end to end in one vector.
 
-ghost use Rattle.std.specs.Prelude.{◌≡◌, ◌<◌, [], ◌∷◌, ◌++◌, length, OnOk};
+ghost use Rattle.std.specs.Prelude.{◌≡◌, ◌<◌, [], ◌∷◌, ◌++◌, length, sum_by, OnOk};
 ghost use Rattle.cell_lists.specs.Row.{row};
 
 use std::alloc::{AllocError, Global};
@@ -21,14 +21,14 @@ pub struct Rows {
 }
 
 impl Model for Rows {
-    ghost use Rattle.std.specs.Prelude.{ℕ, List, All};
-    ghost use Rattle.cell_lists.specs.Rows.{rows_of, IsRange};
+    ghost use Rattle.std.specs.Prelude.{ℕ, List};
+    ghost use Rattle.cell_lists.specs.Rows.{rows_of, AreRanges};
 
     ghost Value = { List (List ℕ) };
 
     ghost view = { λ r. rows_of r.items.items r.ranges.items };
 
-    ghost invariant = { λ r. All (IsRange r.items.items) r.ranges.items };
+    ghost invariant = { λ r. AreRanges r.items.items r.ranges.items };
 }
 
 impl Rows {
@@ -46,6 +46,7 @@ impl Rows {
     pub(crate) fn push(&mut self, more: &[u32]) -> Result<(), AllocError>
         ensures { OnOk result (self.new ≡ self.old ++ more.now ∷ []) }
     {
+        self.ranges.reserve(1)?;
         let from = self.items.len();
         self.items.extend_from_slice(more)?;
         let to = self.items.len();
@@ -60,5 +61,12 @@ impl Rows {
     {
         let range = self.ranges[n];
         &self.items[range.from..range.to]
+    }
+
+    /// How many numbers all rows have.
+    pub(crate) fn total(&self) -> u64
+        ensures { result ≡ sum_by (λ row. length row) self.now }
+    {
+        self.items.len() as u64
     }
 }

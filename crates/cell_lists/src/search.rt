@@ -6,7 +6,7 @@ ghost use Rattle.cell_name.specs.Cell.{square, half_number};
 ghost use Rattle.cell_name.specs.Square.{Touches, child};
 ghost use Rattle.cell_lists.specs.Row.{row};
 ghost use Rattle.cell_lists.specs.Walks.{AreNumbers, AreChildren, AreColleagues, IsChild, IsColleague, IsMet, IsBelow, AddsChildren};
-ghost use Rattle.quadtree.specs.TreeModel.{size, square_of, node_of};
+ghost use Rattle.quadtree.specs.TreeModel.{size, square_of, node_of, IsTree};
 
 use crate::rows::Rows;
 use cell_name::{Cell, GRID, Quadrant};
@@ -16,12 +16,12 @@ use std::alloc::{AllocError, Global};
 
 /// Appends the number of a cell, where it is in the tree.
 fn push_number(tree: &Tree, cell: Cell, found: &mut SmallVec<u32, 4>) -> Result<(), AllocError>
-    requires { AreNumbers tree.now found.old.items }
+    requires tree { IsTree tree.now }
+    requires numbers { AreNumbers tree.now found.old.items }
     ensures numbers { OnOk result (AreNumbers tree.now found.new.items) }
     ensures kept { OnOk result ((c : ℕ) → Contains found.old.items c → Contains found.new.items c) }
     ensures found { OnOk result ((c : ℕ) → c < size tree.now → square_of tree.now c ≡ square cell → Contains found.new.items c) }
 {
-    let _cells = tree.cells();
     if let Some(c) = tree.find(cell) {
         found.push(c as u32)?;
     }
@@ -125,13 +125,13 @@ pub(crate) fn around(
     near: &Rows,
     b: usize,
 ) -> Result<Vec<u32>, AllocError>
+    requires tree { IsTree tree.now }
     requires number { b < size tree.now }
     requires children { AreChildren tree.now children.now }
     requires near { AreColleagues tree.now near.now b }
     ensures numbers { IfOk result (λ v. AreNumbers tree.now v.items) }
     ensures whole { IfOk result (λ v. (c : ℕ) → IsMet tree.now b c → Contains v.items c) }
 {
-    let _cells = tree.cells();
     let mut found = Vec::new(alloc);
     if b == 0 {
         found.push(0)?;

@@ -15,20 +15,20 @@ pub returns-then-b-eq0-clause-whole : goal.returns-then-b-eq0-clause-whole
 returns-then-b-eq0-clause-whole c n met =
     let P : List ℕ → Type 0 = λ l. Contains l 0 in
     let first : Contains c.push.new.self.items 0 = subst P (sym c.in_ok-push.ensures.items) (Contains-push c.new-found.result.items 0) in
-    root_met c.args.tree.now c.args.b n c.push.new.self.items c.cells-cells.ensures.tree c.if-b-eq0.true c.requires.number first met
+    root_met c.args.tree.now c.args.b n c.push.new.self.items c.requires.tree c.if-b-eq0.true c.requires.number first met
 
 pub row-colleagues-requires : goal.row-colleagues-requires
 row-colleagues-requires c =
-    let up = parent_before c.args.tree.now c.cells-cells.ensures.tree c.args.b (omega arith) c.requires.number in
+    let up = parent_before c.args.tree.now c.requires.tree c.args.b (omega arith) c.requires.number in
     omega (arith, up.before, c.parent.ensures, c.requires.near.as_many)
 
 pub is_leaf-requires : goal.is_leaf-requires
 is_leaf-requires c =
-    parent_row_numbers c.args.tree.now c.args.b c.parent.result c.args.near.now c.row-colleagues.result.now c.cells-cells.ensures.tree (omega arith) c.requires.number c.parent.ensures c.requires.near c.row-colleagues.ensures c.loop-c.c-index 0 (omega arith)
+    parent_row_numbers c.args.tree.now c.args.b c.parent.result c.args.near.now c.row-colleagues.result.now c.requires.tree (omega arith) c.requires.number c.parent.ensures c.requires.near c.row-colleagues.ensures c.loop-c.c-index 0 (omega arith)
 
 pub row-requires : goal.row-requires
 row-requires c =
-    let lt = parent_row_numbers c.args.tree.now c.args.b c.parent.result c.args.near.now c.row-colleagues.result.now c.cells-cells.ensures.tree (omega arith) c.requires.number c.parent.ensures c.requires.near c.row-colleagues.ensures c.loop-c.c-index 0 (omega arith) in
+    let lt = parent_row_numbers c.args.tree.now c.args.b c.parent.result c.args.near.now c.row-colleagues.result.now c.requires.tree (omega arith) c.requires.number c.parent.ensures c.requires.near c.row-colleagues.ensures c.loop-c.c-index 0 (omega arith) in
     omega (arith, lt, c.requires.children.as_many)
 
 pub loop-c-preserved : goal.loop-c-preserved
@@ -37,7 +37,7 @@ loop-c-preserved c =
     let near : List ℕ = c.row-colleagues.result.now in
     let count : ℕ = c.loop-c.c-index in
     let n : ℕ = slice_index near count in
-    let lt : n < size tree = parent_row_numbers tree c.args.b c.parent.result c.args.near.now near c.cells-cells.ensures.tree (omega arith) c.requires.number c.parent.ensures c.requires.near c.row-colleagues.ensures count 0 (omega arith) in
+    let lt : n < size tree = parent_row_numbers tree c.args.b c.parent.result c.args.near.now near c.requires.tree (omega arith) c.requires.number c.parent.ensures c.requires.near c.row-colleagues.ensures count 0 (omega arith) in
     let e : c.row.result.now ≡ row c.args.children.now n = c.row.ensures in
     let P : List ℕ → Type 0 = λ l. AreNumbers tree l in
     let Q : List ℕ → Type 0 = λ l. (k : ℕ) → IsChild tree n k → Contains l k in
@@ -55,4 +55,4 @@ loop-c-preserved c =
 
 pub returns-clause-whole : goal.returns-clause-whole
 returns-clause-whole c n met =
-    around_row c.args.tree.now c.args.b c.parent.result c.loop-c.c-index c.args.near.now c.row-colleagues.result.now c.loop-c.found.items c.cells-cells.ensures.tree (omega arith) c.requires.number c.parent.ensures c.requires.near c.row-colleagues.ensures (omega arith) c.loop-c.invariant n met
+    around_row c.args.tree.now c.args.b c.parent.result c.loop-c.c-index c.args.near.now c.row-colleagues.result.now c.loop-c.found.items c.requires.tree (omega arith) c.requires.number c.parent.ensures c.requires.near c.row-colleagues.ensures (omega arith) c.loop-c.invariant n met
