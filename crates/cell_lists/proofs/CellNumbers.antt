@@ -21,7 +21,7 @@ pub number_listed : (tree : TreeModel) (s : Square) → Contains (squares tree) 
 number_listed tree s h = (h.0, omega (arith, h.1, length-map tree.cells square), get_or_default (squares tree) h.0 (root 16) s h.1 ∙ h.2)
 
 -- of two numbers the smaller is that of the earlier cell
-number_before : (tree : TreeModel) → AllPairs IsBefore (squares tree) → (m n : ℕ) → m < n → n < size tree → IsBefore (square_of tree m) (square_of tree n)
+pub number_before : (tree : TreeModel) → AllPairs IsBefore (squares tree) → (m n : ℕ) → m < n → n < size tree → IsBefore (square_of tree m) (square_of tree n)
 number_before tree up m n lt hi = up m n (root 16) lt (omega (arith, length-map tree.cells square))
 
 -- a cell has one number

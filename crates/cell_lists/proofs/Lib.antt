@@ -7,4 +7,5 @@ pub mod PairTests
 pub mod Picks
 pub mod RowLists
 pub mod TreeNumbers
+pub mod VLists
 pub mod WalkSteps

@@ -45,3 +45,7 @@ pub record HasOneListed (tree : TreeModel) (lists : EntryLists) (target source :
 -- each target and source of the list of points
 abbrev pub EachPairHasOneListed : TreeModel → EntryLists → Type 0
 EachPairHasOneListed tree lists = OfEachList tree (λ points cap. (target source : Point) → IsTargetAndSource points target source → HasOneListed tree lists target source)
+
+-- no V list has more than 27 cells: the parent's colleagues have 36 quarters, and 9 of them touch
+abbrev pub VListsAreShort : EntryLists → Type 0
+VListsAreShort lists = All (λ cells. length cells ≤ 27) lists.v

@@ -2,7 +2,7 @@
 
 ghost use Rattle.std.specs.Prelude.{◌+◌, ◌<◌, ℕ, IfOk, OnOk, Contains};
 ghost use Rattle.std.specs.List.Sorted.{IsStrictlyIncreasing};
-ghost use Rattle.cell_lists.specs.Lists.{IsListOf, AreListsTo, AreLists, EachPairHasOneListed};
+ghost use Rattle.cell_lists.specs.Lists.{IsListOf, AreListsTo, AreLists, EachPairHasOneListed, VListsAreShort};
 ghost use Rattle.cell_lists.specs.Numbers.{OfEachList};
 ghost use Rattle.cell_lists.specs.Walks.{AreNumbers, IsMet, IsBelow, AreChildren, AreColleagues};
 ghost use Rattle.cell_lists.specs.Meetings.{MeetsAll};
@@ -81,7 +81,8 @@ fn met(tree: &Tree, children: &Rows, mut found: Vec<u32>, b: usize) -> Result<Ve
 
 /// The lists of all cells.
 fn gathered(alloc: Global, tree: &Tree) -> Result<EntryLists, AllocError>
-    ensures { IfOk result (λ v. AreLists tree.now v) }
+    ensures lists { IfOk result (λ v. AreLists tree.now v) }
+    ensures short { IfOk result (λ v. VListsAreShort v) }
 {
     let count = tree.cells().len();
     let children = children_of(alloc, tree)?;
@@ -108,6 +109,7 @@ fn gathered(alloc: Global, tree: &Tree) -> Result<EntryLists, AllocError>
 pub fn lists(alloc: Global, tree: &Tree) -> Result<EntryLists, Memory>
     ensures lists { IfOk result (λ v. AreLists tree.now v) }
     ensures one_entry { IfOk result (λ v. EachPairHasOneListed tree.now v) }
+    ensures short { IfOk result (λ v. VListsAreShort v) }
 {
     match gathered(alloc, tree) {
         Ok(lists) => Ok(lists),

@@ -5,6 +5,7 @@ use Rattle.cell_name.specs.Square.{Touches}
 use Rattle.quadtree.specs.TreeModel.{size, square_of}
 use Rattle.cell_lists.specs.Lists.{AreListsTo}
 use Rattle.cell_lists.specs.Meetings.{MeetsAll}
+use Rattle.cell_lists.proofs.VLists.{v_lists_are_short}
 use Rattle.cell_lists.proofs.WalkSteps.{colleagues_more}
 use Rattle.cell_lists.proofs.gather.gathered.Goals as goal
 
@@ -28,8 +29,14 @@ loop-b-preserved c =
       lists = c.in_ok-push-2.ensures;
     }
 
-pub returns : goal.returns
-returns c =
+pub returns-clause-lists : goal.returns-clause-lists
+returns-clause-lists c =
     let all : c.loop-b.b ≡ size c.args.tree.now = omega (arith, ap length c.cells-count.ensures.all) in
     let P : ℕ → Type 0 = λ n. AreListsTo c.args.tree.now c.loop-b.lists n in
     subst P all c.loop-b.invariant.lists
+
+pub returns-clause-short : goal.returns-clause-short
+returns-clause-short c =
+    let all : c.loop-b.b ≡ size c.args.tree.now = omega (arith, ap length c.cells-count.ensures.all) in
+    let P : ℕ → Type 0 = λ n. AreListsTo c.args.tree.now c.loop-b.lists n in
+    v_lists_are_short c.args.tree.now c.loop-b.lists c.cells-count.ensures.tree (subst P all c.loop-b.invariant.lists)
