@@ -39,7 +39,8 @@ fn lists_are(
     cells: [&[u32]; 4],
 ) -> Result<(), Fail> {
     let found = lists(alloc, tree)?;
-    assert!(rt; b < tree.cells().len());
+    let count = tree.cells().len();
+    assert!(rt; b < count);
     assert_eq!(rt; found.total(Letter::U), totals[0]);
     assert_eq!(rt; found.total(Letter::V), totals[1]);
     assert_eq!(rt; found.total(Letter::W), totals[2]);
