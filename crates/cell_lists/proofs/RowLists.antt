@@ -1,0 +1,62 @@
+-- One more row.
+use Rattle.std.proofs.Common.{ℕ, ◌≡◌, ◌+◌, ◌-◌, ◌<◌, ◌≤◌, List, [], ◌∷◌, ◌++◌, length, map, take, drop, refl, sym, ap, ◌∙◌, subst, arith, length-append, length-drop}
+use Rattle.std.specs.Prelude.{All, slice_range, sum_by}
+use Rattle.std.proofs.lemmas.List.{take-append-le, drop-append-le, map-append}
+use Rattle.std.proofs.lemmas.List.Elements.{All-head, All-tail, All-push, All-weaker}
+use Rattle.std.proofs.lemmas.List.Edits.{length-between}
+use Rattle.std.proofs.lemmas.List.Sums.{sum_by-append, sum_by-cons}
+use Rattle.std.proofs.lemmas.Slice.{between_to_end}
+use Rattle.std.proofs.Math.Seq.{drop-append_seam}
+use Rattle.cell_lists.specs.declared.rows.Range.{Range}
+use Rattle.cell_lists.specs.Rows.{rows_of, IsRange, AreRanges}
+
+-- a range stays as it was where the vector goes on
+range_kept : (items more : List ℕ) (from to : ℕ) → from ≤ to → to ≤ length items → slice_range (items ++ more) from to ≡ slice_range items from to
+range_kept items more from to le hi =
+    ap (take (to - from)) (drop-append-le from items more (omega arith)) ∙ take-append-le (to - from) (drop from items) more (omega (arith, length-drop from items))
+
+rows_kept : (items more : List ℕ) (ranges : List Range) → All (IsRange items) ranges → rows_of (items ++ more) ranges ≡ rows_of items ranges
+rows_kept items more [] h = refl
+rows_kept items more (r ∷ rs) h =
+    let here = All-head (IsRange items) r rs h in
+    let e = range_kept items more r.from r.to here.ordered here.in_range in
+    let rest = rows_kept items more rs (All-tail (IsRange items) r rs h) in
+    ap (λ l. l ∷ rows_of (items ++ more) rs) e ∙ ap (λ l. slice_range items r.from r.to ∷ l) rest
+
+-- the range of what was appended has just that
+last_row : (items more : List ℕ) (from to : ℕ) → from ≡ length items → to ≡ length (items ++ more) → slice_range (items ++ more) from to ≡ more
+last_row items more from to lo hi =
+    between_to_end (items ++ more) from to (omega (arith, hi)) ∙ ap (λ n. drop n (items ++ more)) lo ∙ drop-append_seam items more
+
+pub rows_push : (items more items' : List ℕ) (ranges ranges' : List Range) (r : Range) (was : List (List ℕ)) → items' ≡ items ++ more → ranges' ≡ ranges ++ r ∷ [] → r.from ≡ length items → r.to ≡ length items' → All (IsRange items) ranges → rows_of items ranges ≡ was → rows_of items' ranges' ≡ was ++ more ∷ []
+rows_push items more items' ranges ranges' r was grown pushed from to ordered is =
+    let f : Range → List ℕ = λ (q : Range). slice_range (items ++ more) q.from q.to in
+    let last : slice_range (items ++ more) r.from r.to ≡ more = last_row items more r.from r.to from (to ∙ ap length grown) in
+    ap (λ l. rows_of l ranges') grown ∙ ap (rows_of (items ++ more)) pushed ∙ map-append f ranges (r ∷ []) ∙
+    ap (λ l. l ++ slice_range (items ++ more) r.from r.to ∷ []) (rows_kept items more ranges ordered ∙ is) ∙ ap (λ l. was ++ l ∷ []) last
+
+-- a range is as long as its row
+rows_total : (items : List ℕ) (ranges : List Range) → All (IsRange items) ranges → sum_by (λ (l : List ℕ). length l) (rows_of items ranges) ≡ sum_by (λ (r : Range). r.to - r.from) ranges
+rows_total items [] h = refl
+rows_total items (r ∷ rs) h =
+    let here = All-head (IsRange items) r rs h in
+    let rest = rows_total items rs (All-tail (IsRange items) r rs h) in
+    let size : length (slice_range items r.from r.to) ≡ r.to - r.from = length-between items r.from r.to here.in_range in
+    rw (sum_by-cons (λ (l : List ℕ). length l) (slice_range items r.from r.to) (rows_of items rs), sum_by-cons (λ (q : Range). q.to - q.from) r rs) (omega (arith, rest, size))
+
+pub total_is : (items : List ℕ) (ranges : List Range) (rows : List (List ℕ)) → AreRanges items ranges → rows_of items ranges ≡ rows → length items ≡ sum_by (λ (l : List ℕ). length l) rows
+total_is items ranges rows h is = h.filled ∙ sym (rows_total items ranges h.each) ∙ ap (sum_by (λ (l : List ℕ). length l)) is
+
+-- one more range, to the new end
+pub ranges_push : (items more items' : List ℕ) (ranges ranges' : List Range) (r : Range) → items' ≡ items ++ more → ranges' ≡ ranges ++ r ∷ [] → r.from ≡ length items → r.to ≡ length items' → AreRanges items ranges → AreRanges items' ranges'
+ranges_push items more items' ranges ranges' r grown pushed from to h =
+    let n : length items' ≡ length items + length more = ap length grown ∙ length-append items more in
+    let P : List Range → Type 0 = λ l. AreRanges items' l in
+    subst P (sym pushed) (record {
+      each = All-push (IsRange items') ranges r (All-weaker (IsRange items) (IsRange items') (λ q k. record { ordered = k.ordered; in_range = omega (arith, k.in_range, n) }) ranges h.each) (record { ordered = omega (arith, from, to, n); in_range = omega (arith, to) });
+      filled = omega (arith, n, h.filled, from, to, sum_by-append (λ (q : Range). q.to - q.from) ranges (r ∷ []), sum_by-cons (λ (q : Range). q.to - q.from) r []);
+    })
+
+-- what is kept where the ranges stay
+pub ranges_kept : (items items' : List ℕ) (ranges ranges' : List Range) → items' ≡ items → ranges' ≡ ranges → AreRanges items ranges → AreRanges items' ranges'
+ranges_kept items items' ranges ranges' ei er h = let P : List ℕ → Type 0 = λ l. AreRanges l ranges' in let Q : List Range → Type 0 = λ l. AreRanges items l in subst P (sym ei) (subst Q (sym er) h)

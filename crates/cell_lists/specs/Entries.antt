@@ -1,0 +1,77 @@
+-- The entries of the four lists, as predicates over pairs of cells of the tree, and what an entry accounts for.
+use Rattle.std.specs.Prelude.{ℕ, ◌≡◌, ◌<◌, ◌≤◌, List, Contains}
+use Rattle.particle_text.specs.declared.Point.{Point}
+use Rattle.particle_text.specs.Points.{IsTarget, IsSource}
+use Rattle.cell_name.specs.Square.{Square, parent, Holds, Touches}
+use Rattle.quadtree.specs.Tree.{IsTreeCell, IsLeaf, HasTarget, HasSource, AreInGrid}
+use Rattle.cert_text.specs.declared.Letter.{Letter}
+use Rattle.cert_text.specs.declared.Letter.TheVariants.{U, V, W, X}
+
+-- both are leaves and they touch; a leaf touches itself
+pub record IsUPair (grid : ℕ) (points : List Point) (cap : ℕ) (b c : Square) : Type 0 where
+  pub first_leaf : IsLeaf grid points cap b
+  pub second_leaf : IsLeaf grid points cap c
+  pub touch : Touches b c
+
+-- they have one level of at least 1, their parents touch, and they don't touch
+pub record ComeApart (b c : Square) : Type 0 where
+  pub same_level : b.level ≡ c.level
+  pub below_root : 1 ≤ b.level
+  pub parents_touch : Touches (parent b) (parent c)
+  pub apart : Touches b c → ⊥
+
+pub record IsVPair (grid : ℕ) (points : List Point) (cap : ℕ) (b c : Square) : Type 0 where
+  pub first_in_tree : IsTreeCell grid points cap b
+  pub second_in_tree : IsTreeCell grid points cap c
+  pub come_apart : ComeApart b c
+
+-- `c` has a greater level than `b`, its parent touches `b`, and `c` doesn't
+pub record ComesApartBelow (b c : Square) : Type 0 where
+  pub deeper : b.level < c.level
+  pub parent_touches : Touches (parent c) b
+  pub apart : Touches c b → ⊥
+
+-- `b` is a leaf, and `c` comes apart from it below its level
+pub record IsWPair (grid : ℕ) (points : List Point) (cap : ℕ) (b c : Square) : Type 0 where
+  pub first_leaf : IsLeaf grid points cap b
+  pub second_in_tree : IsTreeCell grid points cap c
+  pub comes_apart : ComesApartBelow b c
+
+-- the condition of each letter; X is W with the two cells exchanged
+abbrev pub IsPair : ℕ → List Point → ℕ → Letter → Square → Square → Type 0
+IsPair grid points cap U b c = IsUPair grid points cap b c
+IsPair grid points cap V b c = IsVPair grid points cap b c
+IsPair grid points cap W b c = IsWPair grid points cap b c
+IsPair grid points cap X b c = IsWPair grid points cap c b
+
+-- an entry of the lists: `b` has a target, `c` has a source, and the pair meets the condition of its letter
+pub record IsEntry (grid : ℕ) (points : List Point) (cap : ℕ) (letter : Letter) (b c : Square) : Type 0 where
+  pub target : HasTarget points b
+  pub source : HasSource points c
+  pub pair : IsPair grid points cap letter b c
+
+-- an entry of `b` and `c` accounts for a target and a source
+pub record Accounts (b c : Square) (target source : Point) : Type 0 where
+  pub target_held : Holds b target.x target.y
+  pub source_held : Holds c source.x source.y
+
+-- exactly one entry accounts for a target and a source
+pub record HasOneEntry (grid : ℕ) (points : List Point) (cap : ℕ) (target source : Point) : Type 0 where
+  pub letter : Letter
+  pub b : Square
+  pub c : Square
+  pub entry : IsEntry grid points cap letter b c
+  pub accounts : Accounts b c target source
+  pub no_other : (letter' : Letter) (b' c' : Square) → IsEntry grid points cap letter' b' c' → Accounts b' c' target source → (letter' ≡ letter) × (b' ≡ b) × (c' ≡ c)
+
+-- a target and a source of the list
+pub record IsTargetAndSource (points : List Point) (target source : Point) : Type 0 where
+  pub target_listed : Contains points target
+  pub is_target : IsTarget target.kind
+  pub source_listed : Contains points source
+  pub is_source : IsSource source.kind
+
+-- each target and source of a list within the grid, for any capacity of the leaves
+abbrev pub EachPairHasOneEntry : Type 0
+EachPairHasOneEntry =
+    (grid : ℕ) (points : List Point) (cap : ℕ) (target source : Point) → 0 < grid → AreInGrid grid points → IsTargetAndSource points target source → HasOneEntry grid points cap target source

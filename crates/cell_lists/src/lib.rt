@@ -1,0 +1,17 @@
+//! The four lists of the adaptive quadtree.
+#![tactic(auto)]
+
+mod entry_lists;
+mod gather;
+pub mod law;
+mod pairs;
+mod rows;
+mod search;
+mod walk;
+
+pub use entry_lists::EntryLists;
+pub use gather::lists;
+pub use walk::first_apart;
+
+#[cfg(test)]
+mod tests;
