@@ -1,0 +1,67 @@
+//! Builds the tree and the lists of 20,000 points that a generator makes, and counts the cells, the leaves and the
+//! entries of each letter; with the word `time` it says how long both took.
+#![tactic(auto)]
+
+mod sample;
+
+use cell_lists::{EntryLists, lists};
+use cert_text::Letter;
+use particle_text::parse;
+use quadtree::Tree;
+use std::time::Instant;
+use std::{env, io};
+
+/// Whether the command line has the word `time`.
+fn is_timed(rt: &HostRuntime) -> io::Result<bool> {
+    let mut timed = false;
+    for word in env::args(rt)? {
+        timed = word.as_str() == "time";
+    }
+    Ok(timed)
+}
+
+/// How many leaves the tree has.
+fn leaf_count(tree: &Tree) -> usize {
+    let mut leaves = 0usize;
+    for n in 0..tree.cells().len() {
+        if tree.is_leaf(n) {
+            leaves = leaves.saturating_add(1);
+        }
+    }
+    leaves
+}
+
+/// Says what was built.
+fn tell(rt: &HostRuntime, tree: &Tree, entries: &EntryLists) -> io::Result<()> {
+    let cells = tree.cells().len();
+    let leaves = leaf_count(tree);
+    let u = entries.total(Letter::U);
+    let v = entries.total(Letter::V);
+    let w = entries.total(Letter::W);
+    let x = entries.total(Letter::X);
+    println!(rt; "tree cells {cells} leaves {leaves}")?;
+    println!(rt; "lists u {u} v {v} w {w} x {x}")
+}
+
+fn main(rt: HostRuntime) -> io::Result<()> {
+    let timed = is_timed(&rt)?;
+    let text = sample::sample_text(rt.alloc(), 7, 20_000)?;
+    let Ok(points) = parse(rt.alloc(), text.as_bytes()) else {
+        return Err(io::Error::from(io::ErrorKind::InvalidData));
+    };
+    let start = Instant::now(&rt)?;
+    let Ok(tree) = Tree::build(rt.alloc(), &points, 32) else {
+        return Err(io::Error::from(io::ErrorKind::InvalidData));
+    };
+    let built = start.elapsed(&rt)?.as_micros();
+    let start = Instant::now(&rt)?;
+    let Ok(entries) = lists(rt.alloc(), &tree) else {
+        return Err(io::Error::from(io::ErrorKind::OutOfMemory));
+    };
+    let listed = start.elapsed(&rt)?.as_micros();
+    tell(&rt, &tree, &entries)?;
+    if timed {
+        println!(rt; "tree in {built} us, lists in {listed} us")?;
+    }
+    Ok(())
+}
