@@ -1,5 +1,5 @@
 -- Numbers, levels and parents of a tree's cells.
-use Rattle.std.proofs.Common.{ℕ, ◌≡◌, ◌+◌, ◌-◌, ◌*◌, ◌/◌, ◌%◌, ◌<◌, ◌≤◌, ◌⊎◌, inl, inr, List, length, map, get_or, refl, sym, ap, ◌∙◌, subst, arith, lit<}
+use Rattle.std.proofs.Common.{ℕ, ◌≡◌, ◌-◌, ◌%◌, ◌<◌, ◌≤◌, inl, inr, List, refl, sym, ap, ◌∙◌, subst, arith, lit<}
 use Rattle.std.specs.Prelude.{AllPairs, Contains, IsTrue, Bool, ◌↔◌, [], ◌∷◌, ◌++◌}
 use Rattle.std.proofs.lemmas.List.Elements.{Contains-get_or, Contains-push}
 use Rattle.std.proofs.lemmas.Bool.{cases_lt}
@@ -10,8 +10,8 @@ use Rattle.cell_name.specs.Order.{IsBefore}
 use Rattle.cell_name.specs.Square.{Square, root, parent, child, Touches}
 use Rattle.cell_name.proofs.Cells.{same_square}
 use Rattle.cell_name.proofs.Order.{IsBefore-irrefl}
-use Rattle.quadtree.specs.Tree.{AreInGrid, IsTreeCell}
-use Rattle.quadtree.specs.TreeModel.{TreeModel, size, squares, square_of, node_of, HasParent, IsTreeOf, IsTree}
+use Rattle.quadtree.specs.Tree.{IsTreeCell}
+use Rattle.quadtree.specs.TreeModel.{TreeModel, size, squares, square_of, node_of, HasParent, IsTree}
 use Rattle.quadtree.proofs.Parents.{IsTreeCell-parent}
 use Rattle.cell_lists.specs.Walks.{IsChild}
 use Rattle.cell_lists.proofs.TreeNumbers.{tree_cell_at}

@@ -1,15 +1,11 @@
 -- Exactly one entry of the lists accounts for each pair of a target and a source.
-use Rattle.std.proofs.Common.{ℕ, ◌≡◌, ◌<◌, List, refl, sym, ap, ◌∙◌, subst, arith, lit<}
-use Rattle.std.specs.Prelude.{Contains}
+use Rattle.std.proofs.Common.{◌<◌, sym, ◌∙◌, subst, lit<}
 use Rattle.std.proofs.lemmas.List.Elements.{All-contains}
-use Rattle.particle_text.specs.declared.Point.{Point}
 use Rattle.cell_name.specs.Square.{Square}
-use Rattle.cert_text.specs.declared.Letter.{Letter}
-use Rattle.quadtree.specs.Tree.{AreInGrid}
-use Rattle.quadtree.specs.TreeModel.{TreeModel, size, square_of, IsTreeOf}
+use Rattle.quadtree.specs.TreeModel.{TreeModel, size, square_of}
 use Rattle.cell_lists.specs.declared.entry_lists.EntryLists.{EntryLists}
-use Rattle.cell_lists.specs.Entries.{IsEntry, Accounts, IsTargetAndSource}
-use Rattle.cell_lists.specs.Lists.{lists_of, AreLists, HasOneListed, EachPairHasOneListed}
+use Rattle.cell_lists.specs.Entries.{IsEntry, Accounts}
+use Rattle.cell_lists.specs.Lists.{lists_of, AreLists, EachPairHasOneListed}
 use Rattle.cell_lists.specs.Row.{row}
 use Rattle.cell_lists.proofs.CellNumbers.{number_listed, same_number}
 use Rattle.cell_lists.proofs.OneEntry.{in_tree_of, each_pair_has_one_entry}

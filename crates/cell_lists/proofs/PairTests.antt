@@ -1,14 +1,14 @@
 -- What the program tests of a pair of cells is the condition of its letter.
-use Rattle.std.proofs.Common.{ℕ, ◌≡◌, ◌<◌, List, Bool, true, false, refl, sym, ap, ◌∙◌, subst, arith}
+use Rattle.std.proofs.Common.{ℕ, ◌≡◌, ◌<◌, List, Bool, false, sym, ◌∙◌, subst}
 use Rattle.std.specs.Prelude.{IsTrue, ◌↔◌}
 use Rattle.std.proofs.lemmas.Bool.{false≢true}
 use Rattle.particle_text.specs.declared.Point.{Point}
 use Rattle.cell_name.specs.Square.{Square, Touches}
 use Rattle.cert_text.specs.declared.Letter.{Letter}
 use Rattle.cert_text.specs.declared.Letter.TheVariants.{U, V, W, X}
-use Rattle.quadtree.specs.Tree.{IsTreeCell, IsLeaf}
+use Rattle.quadtree.specs.Tree.{IsLeaf}
 use Rattle.quadtree.specs.TreeModel.{TreeModel, size, square_of, node_of, IsTreeOf}
-use Rattle.cell_lists.specs.Entries.{ComeApart, ComesApartBelow, IsPair, IsEntry}
+use Rattle.cell_lists.specs.Entries.{ComeApart, ComesApartBelow, IsPair}
 use Rattle.cell_lists.proofs.TreeNumbers.{tree_cell_at}
 
 -- a relation of two cells, moved along their equations

@@ -1,6 +1,6 @@
 -- Picking the entries of a letter from the cells that were met.
-use Rattle.std.proofs.Common.{ℕ, ◌≡◌, ◌+◌, ◌-◌, ◌<◌, ◌≤◌, ◌⊎◌, inl, inr, Bool, true, false, List, [], ◌∷◌, ◌++◌, length, get_or, refl, sym, ap, ◌∙◌, subst, arith, length-append}
-use Rattle.std.specs.Prelude.{All, Contains, IsTrue, ◌↔◌, slice_index}
+use Rattle.std.proofs.Common.{ℕ, ◌≡◌, ◌+◌, ◌<◌, ◌≤◌, ◌⊎◌, inl, inr, Bool, true, false, List, [], ◌∷◌, ◌++◌, length, get_or, sym, ap, ◌∙◌, subst, arith, length-append}
+use Rattle.std.specs.Prelude.{Contains, IsTrue, ◌↔◌, slice_index}
 use Rattle.std.specs.List.Sorted.{IsStrictlyIncreasing}
 use Rattle.std.proofs.lemmas.Bool.{cases_lt, false≢true}
 use Rattle.std.proofs.lemmas.List.{get_or_append_left}
@@ -10,7 +10,6 @@ use Rattle.std.proofs.Math.Seq.{get_or-append_seam}
 use Rattle.particle_text.specs.declared.Point.{Point}
 use Rattle.cert_text.specs.declared.Letter.{Letter}
 use Rattle.cert_text.specs.declared.Letter.TheVariants.{U, V, W, X}
-use Rattle.quadtree.specs.Tree.{AreInGrid}
 use Rattle.quadtree.specs.TreeModel.{TreeModel, size, square_of, node_of, IsTreeOf, IsTree}
 use Rattle.cell_name.proofs.Cells.{Touches-sym, Touches-parent}
 use Rattle.cell_lists.specs.declared.entry_lists.EntryLists.{EntryLists}
@@ -19,7 +18,7 @@ use Rattle.cell_lists.specs.Lists.{IsListOf, lists_of, AreListsTo}
 use Rattle.cell_lists.specs.Meetings.{MeetsAll}
 use Rattle.cell_lists.specs.Numbers.{OfEachList}
 use Rattle.cell_lists.specs.Row.{row}
-use Rattle.cell_lists.specs.Walks.{AreNumbers, IsColleague, IsMet, IsBelow}
+use Rattle.cell_lists.specs.Walks.{AreNumbers, IsMet, IsBelow}
 use Rattle.cell_lists.proofs.CellNumbers.{level_in_grid}
 use Rattle.cell_lists.proofs.WalkSteps.{place_of, colleague_met, each_row_more, one_more, one_number}
 

@@ -1,6 +1,6 @@
 -- The cells of a tree by their numbers.
-use Rattle.std.proofs.Common.{ℕ, ◌≡◌, ◌+◌, ◌<◌, ◌≤◌, List, length, map, get_or, Option, Some, None, refl, sym, ap, ◌∙◌, subst, arith, lit<}
-use Rattle.std.specs.Prelude.{ℤ, ◌≤ℤ◌, ◌<ℤ◌, All, Contains, MatchOption, IsSome, IsTrue}
+use Rattle.std.proofs.Common.{ℕ, ◌≡◌, ◌<◌, ◌≤◌, List, length, map, get_or, Option, Some, None, refl, sym, ap, ◌∙◌, subst, arith, lit<}
+use Rattle.std.specs.Prelude.{ℤ, Contains, MatchOption, IsSome, IsTrue}
 use Rattle.std.proofs.lemmas.Int.{ints}
 use Rattle.std.proofs.lemmas.List.{get_or-map, length-map}
 use Rattle.std.proofs.lemmas.List.Elements.{All-get_or}
@@ -14,7 +14,7 @@ use Rattle.cell_name.proofs.Levels.{above_le}
 use Rattle.cert_text.specs.declared.Letter.{Letter}
 use Rattle.quadtree.specs.Tree.{AreInGrid, IsTreeCell}
 use Rattle.quadtree.specs.TreeModel.{TreeModel, size, squares, square_of, node_of, IsTreeOf, IsTree}
-use Rattle.quadtree.proofs.LeafLevel.{cell_of, InTreeAt, tree_above}
+use Rattle.quadtree.proofs.LeafLevel.{InTreeAt, tree_above}
 use Rattle.quadtree.proofs.Parents.{cell_of_point}
 use Rattle.cell_lists.specs.Cases.{IsCase}
 use Rattle.cell_lists.specs.Entries.{IsEntry}

@@ -1,7 +1,6 @@
 -- A V list has at most 27 cells: the parent's colleagues have 36 quarters, and 9 of them touch.
 use Rattle.std.proofs.Common.{ℕ, ◌≡◌, ◌+◌, ◌-◌, ◌*◌, ◌/◌, ◌%◌, ◌<◌, ◌≤◌, suc, zero, ◌⊎◌, inl, inr, List, [], length, refl, sym, ap, ◌∙◌, arith, add-one}
-use Rattle.std.specs.Prelude.{ℤ, pos, ◌≤ℤ◌, ◌+ℤ◌, Contains, slice_index}
-use Rattle.std.specs.List.Sorted.{IsStrictlyIncreasing}
+use Rattle.std.specs.Prelude.{slice_index}
 use Rattle.std.proofs.lemmas.Bool.{cases_lt}
 use Rattle.std.proofs.lemmas.Int.{ints}
 use Rattle.std.proofs.lemmas.List.Elements.{Contains-get_or}
@@ -12,7 +11,6 @@ use Rattle.cell_name.specs.Order.{IsBefore}
 use Rattle.cell_name.specs.Square.{Square, side, half, parent, Touches}
 use Rattle.cell_name.proofs.Distances.{same_side}
 use Rattle.cert_text.specs.declared.Letter.TheVariants.{V}
-use Rattle.quadtree.specs.Tree.{AreInGrid}
 use Rattle.quadtree.specs.TreeModel.{TreeModel, size, square_of, IsTreeOf, IsTree}
 use Rattle.cell_lists.specs.Entries.{ComeApart}
 use Rattle.cell_lists.specs.Lists.{IsListOf, AreLists, VListsAreShort}

@@ -1,16 +1,15 @@
 -- What a walk of the tree meets.
-use Rattle.std.proofs.Common.{ℕ, ◌≡◌, ◌+◌, ◌-◌, ◌<◌, ◌≤◌, ◌⊎◌, inl, inr, List, [], ◌∷◌, ◌++◌, length, get_or, refl, sym, ap, ◌∙◌, subst, arith, append_assoc, append-nil, length-append}
-use Rattle.std.specs.Prelude.{All, Contains, IsTrue, slice_index}
+use Rattle.std.proofs.Common.{ℕ, ◌≡◌, ◌+◌, ◌-◌, ◌<◌, ◌≤◌, inl, inr, List, [], ◌∷◌, ◌++◌, length, get_or, sym, ap, ◌∙◌, subst, arith, append_assoc, append-nil, length-append}
+use Rattle.std.specs.Prelude.{Contains, IsTrue, slice_index}
 use Rattle.std.proofs.lemmas.Bool.{cases_lt}
 use Rattle.std.proofs.lemmas.List.{get_or_default, get_or_append_left}
 use Rattle.std.proofs.Math.Seq.{get_or-append_right, get_or-append_seam}
-use Rattle.std.proofs.lemmas.List.Elements.{All-append, All-cons, All-contains, Contains-append_left, Contains-append_right, Contains-get_or}
-use Rattle.particle_text.specs.declared.Point.{Point}
+use Rattle.std.proofs.lemmas.List.Elements.{All-append, All-cons, Contains-append_left, Contains-append_right, Contains-get_or}
 use Rattle.cell_name.specs.Square.{Square, parent, Touches}
 use Rattle.cell_name.proofs.Cells.{Touches-sym, Touches-parent, Touches-parents}
 use Rattle.quadtree.specs.TreeModel.{TreeModel, size, square_of, node_of, IsTree}
 use Rattle.cell_lists.specs.Row.{row}
-use Rattle.cell_lists.specs.Walks.{AreNumbers, IsChild, IsColleague, IsAround, IsBelow, AreRoots, IsMet, AreChildren, AreColleagues, IsFrom, AddsChildren, MeetsBelow}
+use Rattle.cell_lists.specs.Walks.{AreNumbers, IsChild, IsColleague, IsBelow, IsMet, AreChildren, AreColleagues, IsFrom, AddsChildren, MeetsBelow}
 use Rattle.cell_lists.proofs.CellNumbers.{level_in_grid, level_at_most, level_positive, first_is_root, first_level, parent_number, parent_before, IsParentOf}
 
 -- a listed number stands at a place

@@ -1,6 +1,6 @@
 -- Which cells a walk of the tree has to meet. No public contract cites these.
 use Rattle.std.specs.Prelude.{ℕ, ◌≡◌, ◌<◌, ◌≤◌, ◌⊎◌, IsTrue, List, ◌++◌, length, slice_index, All, Contains}
-use Rattle.cell_name.specs.Square.{Square, parent, Touches}
+use Rattle.cell_name.specs.Square.{parent, Touches}
 use Rattle.quadtree.specs.TreeModel.{TreeModel, size, square_of, node_of}
 use Rattle.cell_lists.specs.Row.{row}
 

@@ -1,7 +1,6 @@
 -- The next cell is an entry, and goes to the end, or it is none.
 use Rattle.std.proofs.Common.{◌≡◌, ◌+◌, ◌<◌, ◌++◌, [], ◌∷◌, ℕ, List, length, sym, ap, ◌∙◌, subst, refl, arith}
 use Rattle.std.specs.Prelude.{slice_index}
-use Rattle.quadtree.specs.TreeModel.{size}
 use Rattle.cell_lists.proofs.Picks.{PicksTo, picks_push, picks_skip, picks_all}
 use Rattle.cell_lists.proofs.gather.list.Goals as goal
 use Rattle.cell_lists.proofs.gather.list.Goals.{then-is_entry+in_ok-push, else-is_entry}

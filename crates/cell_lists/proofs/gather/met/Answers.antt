@@ -1,5 +1,5 @@
 -- What was found around and below is all that can be an entry.
-use Rattle.std.proofs.Common.{sym, inl, inr}
+use Rattle.std.proofs.Common.{inl}
 use Rattle.quadtree.specs.TreeModel.{square_of}
 use Rattle.cell_name.proofs.Cells.{Touches-sym}
 use Rattle.cell_lists.proofs.Picks.{meets_all, numbers_from_listed}

@@ -1,9 +1,9 @@
 -- The colleagues of the parent and their quarters are all around.
-use Rattle.std.proofs.Common.{◌≡◌, ◌<◌, ◌≤◌, ◌+◌, ◌++◌, [], ◌∷◌, ℕ, List, length, refl, sym, ap, ◌∙◌, subst, arith, append-nil}
-use Rattle.std.specs.Prelude.{Contains, slice_index, IsTrue}
+use Rattle.std.proofs.Common.{◌≡◌, ◌<◌, ◌++◌, [], ◌∷◌, ℕ, List, sym, ap, ◌∙◌, subst, arith, append-nil}
+use Rattle.std.specs.Prelude.{Contains, slice_index}
 use Rattle.std.proofs.lemmas.Bool.{false≢true}
 use Rattle.std.proofs.lemmas.List.Elements.{Contains-push}
-use Rattle.quadtree.specs.TreeModel.{size, node_of}
+use Rattle.quadtree.specs.TreeModel.{size}
 use Rattle.cell_lists.specs.Row.{row}
 use Rattle.cell_lists.specs.Walks.{AreNumbers, IsChild}
 use Rattle.cell_lists.proofs.CellNumbers.{parent_before}

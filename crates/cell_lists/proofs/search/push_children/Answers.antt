@@ -1,5 +1,5 @@
 -- The cell at the place touches, and its quarters are appended, or it doesn't.
-use Rattle.std.proofs.Common.{◌≡◌, ◌<◌, ◌++◌, ◌+◌, ℕ, List, length, get_or, refl, sym, ap, ◌∙◌, subst, arith}
+use Rattle.std.proofs.Common.{◌≡◌, ◌<◌, ◌++◌, ◌+◌, ℕ, List, length, sym, ap, ◌∙◌, subst, arith}
 use Rattle.std.specs.Prelude.{Contains, slice_index}
 use Rattle.std.proofs.lemmas.Bool.{false≢true}
 use Rattle.std.proofs.lemmas.List.{get_or_default}
@@ -9,7 +9,7 @@ use Rattle.cell_lists.specs.Row.{row}
 use Rattle.cell_lists.specs.Walks.{AreNumbers, IsChild, AddsChildren}
 use Rattle.cell_lists.proofs.TreeNumbers.{read_at}
 use Rattle.cell_lists.proofs.CellNumbers.{touch_from_test}
-use Rattle.cell_lists.proofs.WalkSteps.{adds_none, adds_kept, adds_row, read_before, no_shorter, place_below}
+use Rattle.cell_lists.proofs.WalkSteps.{adds_kept, adds_row, read_before, no_shorter, place_below}
 use Rattle.cell_lists.proofs.search.push_children.Goals as goal
 use Rattle.cell_lists.proofs.search.push_children.Goals.{then-touches+in_ok-extend_from_slice, else-touches}
 

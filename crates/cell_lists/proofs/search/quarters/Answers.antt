@@ -1,5 +1,5 @@
 -- Each quarter is one of the four that are looked for, and what was found stays.
-use Rattle.std.proofs.Common.{◌≡◌, ap, sym, ◌∙◌, refl}
+use Rattle.std.proofs.Common.{◌≡◌, sym, ◌∙◌}
 use Rattle.std.specs.Prelude.{Contains}
 use Rattle.cell_name.specs.Cell.{square}
 use Rattle.quadtree.specs.TreeModel.{square_of}

@@ -3,7 +3,6 @@ use Rattle.std.proofs.lemmas.List.Filters.{dedup_is}
 use Rattle.std.proofs.lemmas.List.Kept.{Contains-dedup_nat, Contains-from_dedup}
 use Rattle.std.proofs.lemmas.List.Sorted.{Contains-permutation, IsPermutation-sym}
 use Rattle.std.proofs.lemmas.Map.Keys.{IsStrictlyIncreasing-dedup}
-use Rattle.cell_lists.proofs.WalkSteps.{place_of}
 use Rattle.cell_lists.proofs.search.sort_once.Goals as goal
 
 pub returns : goal.returns

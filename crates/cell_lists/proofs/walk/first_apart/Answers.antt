@@ -1,8 +1,7 @@
 -- The descent of two leaves of the tree names an entry of the tree.
-use Rattle.std.proofs.Common.{◌≡◌, ◌<◌, ◌≤◌, refl, arith}
+use Rattle.std.proofs.Common.{◌≡◌, ◌≤◌, refl, arith}
 use Rattle.cell_name.specs.Cell.{square}
-use Rattle.cell_name.specs.Square.{Square}
-use Rattle.quadtree.specs.TreeModel.{size, square_of}
+use Rattle.quadtree.specs.TreeModel.{square_of}
 use Rattle.cell_lists.proofs.OneEntry.{roots_touch}
 use Rattle.cell_lists.proofs.TreeNumbers.{tree_cell_at, read_at, case_levels, entry_named, Holds-ancestor}
 use Rattle.cell_lists.proofs.walk.first_apart.Goals as goal

@@ -1,5 +1,5 @@
 -- The new range is that of what was appended.
-use Rattle.std.proofs.Common.{◌≡◌, ◌++◌, [], ◌∷◌, List, ap, ◌∙◌, arith}
+use Rattle.std.proofs.Common.{◌≡◌, ◌++◌, [], ◌∷◌, ap, ◌∙◌, arith}
 use Rattle.cell_lists.specs.declared.rows.Range.{Range}
 use Rattle.cell_lists.proofs.RowLists.{rows_push}
 use Rattle.cell_lists.proofs.rows.Rows.push.Goals as goal
