@@ -29,6 +29,9 @@ fn entries_two_sides_apart(rt: HostRuntime) -> Result<(), Fail> {
     let first = kernel.entry(e, 0, 0);
     assert_eq!(rt; (first.re.lo, first.re.hi), (1 << 39, 1 << 39));
     assert_eq!(rt; (first.im.lo, first.im.hi), (0, 0));
+    let next = kernel.entry(e, 0, 1);
+    assert_eq!(rt; (next.re.lo, next.re.hi), (-(1 << 38), -(1 << 38)));
+    assert_eq!(rt; (next.im.lo, next.im.hi), (0, 0));
     let second = kernel.column(e, 1);
     assert_eq!(rt; second.len(), 4);
     assert_eq!(rt;
