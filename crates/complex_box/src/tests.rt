@@ -7,6 +7,8 @@ use super::{Acc, CBox, Gauss, Row, Work, clear};
 use fixed_interval::Interval;
 use std::process::Abort;
 
+const TOP: i128 = 1 << 126;
+
 fn is(rt: &impl Abort, got: CBox, re: (i128, i128), im: (i128, i128)) {
     assert_eq!(rt; (got.re.lo, got.re.hi), re);
     assert_eq!(rt; (got.im.lo, got.im.hi), im);
@@ -25,6 +27,29 @@ fn turned_is(rt: &impl Abort, a: CBox, g: Gauss, re: (i128, i128), im: (i128, i1
     requires im { Within (2 ^ 62) g.im }
 {
     is(rt, a.gscale(g), re, im);
+}
+
+fn quotient_is(
+    rt: &impl Abort,
+    a: CBox,
+    g: Gauss,
+    n: i128,
+    re: (i128, i128),
+    im: (i128, i128),
+)
+    requires left { BoxWithin (2 ^ 62) a }
+    requires re { Within (2 ^ 62) g.re }
+    requires im { Within (2 ^ 62) g.im }
+    requires divisor { pos 1 ≤ℤ n }
+{
+    is(rt, a.gquot(g, n), re, im);
+}
+
+fn multiple_is(rt: &impl Abort, a: CBox, k: i128, re: (i128, i128), im: (i128, i128))
+    requires left { BoxWithin (2 ^ 63) a }
+    requires right { Within (2 ^ 63) k }
+{
+    is(rt, a.scale(k), re, im);
 }
 
 #[test]
@@ -47,6 +72,26 @@ fn sums(rt: HostRuntime) {
 }
 
 #[test]
+fn borders(rt: HostRuntime) {
+    let half = CBox::point(TOP / 2, -TOP / 2);
+    let all = CBox {
+        re: Interval::new(-TOP, TOP),
+        im: Interval::new(0, TOP),
+    };
+    is(&rt, half.add(half), (TOP, TOP), (-TOP, -TOP));
+    is(&rt, CBox::point(TOP, -TOP).neg(), (-TOP, -TOP), (TOP, TOP));
+    is(
+        &rt,
+        CBox::point(TOP - 1, 1 - TOP).widen(1),
+        (TOP - 2, TOP),
+        (-TOP, 2 - TOP),
+    );
+    is(&rt, all.quot(i128::MAX), (-1, 1), (0, 1));
+    is(&rt, all.quot_shift(126), (-1, 1), (0, 1));
+    assert!(rt; !all.inside(CBox { re: all.re, im: Interval::new(1, TOP) }));
+}
+
+#[test]
 fn products(rt: HostRuntime) {
     let a = CBox {
         re: Interval::new(-2, 3),
@@ -55,6 +100,16 @@ fn products(rt: HostRuntime) {
     product_is(&rt, a, CBox::point(2, -1), (0, 11), (5, 12));
     product_is(&rt, a, a, (-31, -7), (-20, 30));
     turned_is(&rt, a, Gauss { re: 2, im: -1 }, (0, 11), (5, 12));
+    // Rounded once, after the product: [0, 11]/3 and [5, 12]/3.
+    quotient_is(&rt, a, Gauss { re: 2, im: -1 }, 3, (0, 4), (1, 4));
+    multiple_is(&rt, a, -7, (-21, 14), (-35, -28));
+    multiple_is(
+        &rt,
+        CBox::point(-9_223_372_036_854_775_808, 1),
+        9_223_372_036_854_775_808,
+        (-TOP, -TOP),
+        (9_223_372_036_854_775_808, 9_223_372_036_854_775_808),
+    );
 }
 
 #[test]

@@ -29,11 +29,15 @@ pub fn run<A: Source, B: Source, O: Sink, C: Sink>(
     // The certified solve.
     ensures certified { result ≡ Status.Done → IfSome (A.left points.old) (λ input. (order : ℕ) × (cap : ℕ) × (file : List ℕ) × (bytes : List ℕ) × IsSolve words.now order cap file
         × IsCertified order cap input bytes × Appends (O.held out.old) (O.held out.new) bytes) }
+    ensures certified_came { result ≡ Status.Done → (order : ℕ) × (cap : ℕ) × (file : List ℕ) × (input : List ℕ) × (bytes : List ℕ) × IsSolve words.now order cap file
+        × Consumes (A.left points.old) (A.left points.new) input × IsCertified order cap input bytes × Appends (O.held out.old) (O.held out.new) bytes }
     ensures whole { result ≡ Status.Done → IfSome (A.left points.old) (λ _. A.left points.new ≡ Some []) }
 
     // Each answer, and what goes out with it.
     ensures solve { (order cap : ℕ) (file : List ℕ) → IsSolve words.now order cap file
         → IfSome (A.left points.old) (λ input. SolveEnds order cap input result (O.held out.old) (O.held out.new)) }
+    ensures came { (order cap : ℕ) (file : List ℕ) → IsSolve words.now order cap file
+        → (input : List ℕ) × Consumes (A.left points.old) (A.left points.new) input × SolveEnds order cap input result (O.held out.old) (O.held out.new) }
     ensures complete { (order cap : ℕ) (file input : List ℕ) → IsSolve words.now order cap file → A.left points.old ≡ Some input → FitsLeaf cap input
         → (Rose (A.faults points.old) (A.faults points.new) → ⊥) → (Rose (O.faults out.old) (O.faults out.new) → ⊥) → (result ≡ Status.Done) ⊎ (result ≡ Status.Memory) }
     ensures usage { IsUsage words.now → UsageEnds result (O.held out.old) (O.held out.new) × (points.new ≡ points.old) }
