@@ -22,6 +22,7 @@ pub certified : (order cap : ℕ) (input out : List ℕ) → IsSolved order cap 
 certified order cap input out s = record {
   mode = s.mode;
   points = s.points;
+  within = s.within;
   spelled = s.spelled;
   lines = map (leaf_line s.mode s.points) (targets_of s.points);
   pairs = pairs_at s.points s.points;

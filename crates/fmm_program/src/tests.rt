@@ -2,13 +2,13 @@
 ghost use Rattle.std.specs.Prelude.{◌<◌};
 
 use crate::{Opening, Status, Words, plan, run};
-use io_ports::{MemSink, MemSource, SureSource};
+use io_ports::{BrokenSink, BrokenSource, DropSink, MemSink, MemSource, SureSource};
 use std::alloc::Global;
 use std::process::Abort;
 use std::test::Fail;
 
-/// The words `solve ORDER CAP FILE`.
-fn solve_words(alloc: Global, words: &[&str]) -> Result<Words, Fail> {
+/// A list of these words.
+fn words_of(alloc: Global, words: &[&str]) -> Result<Words, Fail> {
     let mut list = Words::new(alloc);
     for word in words {
         list.push(alloc, word)?;
@@ -43,7 +43,7 @@ fn expect(
 ) -> Result<(), Fail>
     requires { 0 < ports.step }
 {
-    let words = solve_words(alloc, words)?;
+    let words = words_of(alloc, words)?;
     let bytes = Vec::from_slice(alloc, text)?;
     let failing_reads = Vec::from_slice(alloc, ports.failing_reads)?;
     let failing_writes = Vec::from_slice(alloc, ports.failing_writes)?;
@@ -282,6 +282,34 @@ fn faults(rt: HostRuntime) -> Result<(), Fail> {
 }
 
 #[test]
+fn broken_ports(rt: HostRuntime) -> Result<(), Fail> {
+    let words = words_of(rt.alloc(), &SOLVE)?;
+    let mut out = MemSink::with_room(rt.alloc(), 64, 64, Vec::new(rt.alloc()))?;
+    let mut nothing = SureSource::new(Vec::new(rt.alloc()));
+    let answer = run(
+        rt.alloc(),
+        &words,
+        &mut BrokenSource::new(),
+        &mut nothing,
+        &mut out,
+        &mut DropSink,
+    );
+    assert_eq!(rt; answer, Status::ReadFault);
+    assert_eq!(rt; out.held(), b"".as_slice());
+    let mut points = SureSource::new(Vec::from_slice(rt.alloc(), ONE_PAIR)?);
+    let answer = run(
+        rt.alloc(),
+        &words,
+        &mut points,
+        &mut nothing,
+        &mut BrokenSink::new(),
+        &mut DropSink,
+    );
+    assert_eq!(rt; answer, Status::WriteFault);
+    Ok(())
+}
+
+#[test]
 fn usage(rt: HostRuntime) -> Result<(), Fail> {
     let line =
         b"usage: fmm solve ORDER CAP FILE [WORKERS] | check FILE | session ORDER CAP | sample SEED N ORDER CAP [WORKERS]\n";
@@ -304,12 +332,12 @@ fn usage(rt: HostRuntime) -> Result<(), Fail> {
             Status::Usage,
             line,
         )?;
-        assert!(rt; matches!(plan(&solve_words(rt.alloc(), words)?), Opening::Nothing));
+        assert!(rt; matches!(plan(&words_of(rt.alloc(), words)?), Opening::Nothing));
     }
-    let words = solve_words(rt.alloc(), &SOLVE)?;
+    let words = words_of(rt.alloc(), &SOLVE)?;
     assert_eq!(rt; words.count(), 4);
     assert!(rt; matches!(plan(&words), Opening::SolveInput));
-    let words = solve_words(rt.alloc(), &["solve", "24", "1024", "points.txt"])?;
+    let words = words_of(rt.alloc(), &["solve", "24", "1024", "points.txt"])?;
     assert!(rt; matches!(plan(&words), Opening::SolveFile { file: "points.txt" }));
     Ok(())
 }

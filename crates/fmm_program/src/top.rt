@@ -50,7 +50,8 @@ pub fn run<A: Source, B: Source, O: Sink, C: Sink>(
     ensures write { result ≡ Status.WriteFault → Rose (O.faults out.old) (O.faults out.new) }
 
     // What was read, and what stays.
-    ensures taken { (bytes : List ℕ) × Consumes (A.left points.old) (A.left points.new) bytes × (length bytes ≤ most_input + 4096) }
+    ensures taken { (bytes : List ℕ) × Consumes (A.left points.old) (A.left points.new) bytes × (length bytes ≤ most_input + 4096)
+        × (result ≡ Status.ReadFault → length bytes ≤ most_input) }
     ensures cert_in { cert_in.new ≡ cert_in.old }
     ensures cert_out { cert_out.new ≡ cert_out.old }
 {
