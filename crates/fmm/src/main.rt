@@ -65,11 +65,13 @@ fn main(rt: HostRuntime) -> ExitCode {
 mod tests {
     use super::*;
     use io_ports::MemSink;
+    use std::fs;
     use std::test::Fail;
 
     #[test]
     fn files_are_opened(rt: HostRuntime) -> Result<(), Fail> {
         let alloc = rt.alloc();
+        fs::write(&rt, "points.txt", "fmm 1 field\ncharge 0 0 1\ntarget 1 0\n")?;
         let table: [(&str, Status, &[u8]); 2] = [
             (
                 "points.txt",
@@ -87,6 +89,7 @@ mod tests {
             assert_eq!(rt; carry_out(&rt, &words, &mut out), status);
             assert_eq!(rt; out.held(), written);
         }
+        fs::remove_file(&rt, "points.txt")?;
         Ok(())
     }
 }
