@@ -1,6 +1,6 @@
 mod PowersOfTwo
 mod Chosen
-mod Contained
+pub mod Contained
 mod Widths
 mod Sizes
 mod Norms

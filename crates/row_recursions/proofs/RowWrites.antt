@@ -1,0 +1,89 @@
+-- Rows while they are written: one box after another.
+use Rattle.std.proofs.Common.{◌≡◌, ◌≢◌, ℕ, ◌<◌, ◌≤◌, ◌+◌, List, length, sym, ap, ◌∙◌, arith, slice_set, slice_index_or, get_or-set_same, get_or-set_other, below_more, ◌+ℤ◌, ◌-ℤ◌, ℤ}
+use Rattle.std.proofs.lemmas.Int.{ints}
+use Rattle.std.proofs.lemmas.List.{get_or_read}
+use Rattle.exact_math.specs.Ends.{Ends, BoxEnds, add_box}
+use Rattle.fixed_interval.specs.declared.Interval.{Interval}
+use Rattle.complex_box.specs.Box.{box_ends, TakeFits}
+use Rattle.complex_box.specs.Rows.{zero_cbox}
+use Rattle.complex_box.specs.declared.CBox.{CBox}
+use Rattle.row_recursions.specs.Rows.{row_of, HasPart}
+
+-- the box that was written
+pub row_set-same : (xs : List CBox) (i : ℕ) (v : CBox) → i < length xs → row_of (slice_set xs i v) i ≡ box_ends v
+row_set-same xs i v h = ap box_ends (get_or-set_same xs i v zero_cbox h)
+
+-- and the others
+pub row_set-other : (xs : List CBox) (i j : ℕ) (v : CBox) → j ≢ i → row_of (slice_set xs i v) j ≡ row_of xs j
+row_set-other xs i j v h = ap box_ends (get_or-set_other xs i j v zero_cbox h)
+
+-- the boxes below k are those of the new row, the others still those of the old one
+pub record Written (old new : ℕ → BoxEnds) (k : ℕ) (cells : List CBox) : Type 0 where
+  pub below : (j : ℕ) → j < k → row_of cells j ≡ new j
+  pub above : (j : ℕ) → k ≤ j → row_of cells j ≡ old j
+
+pub written-start : (old new : ℕ → BoxEnds) (cells : List CBox) → ((j : ℕ) → row_of cells j ≡ old j) → Written old new 0 cells
+written-start old new cells h = record { below = λ j l. absurd (omega arith); above = λ j l. h j }
+
+pub written-next : (old new : ℕ → BoxEnds) (k : ℕ) (cells : List CBox) (v : CBox) → k < length cells → box_ends v ≡ new k → Written old new k cells → Written old new (k + 1) (slice_set cells k v)
+written-next old new k cells v h e w = record {
+  below = below_more (λ j. row_of (slice_set cells k v) j ≡ new j) k
+      (λ j l. row_set-other cells k j v (omega arith) ∙ w.below j l)
+      (row_set-same cells k v h ∙ e);
+  above = λ j l. row_set-other cells k j v (omega arith) ∙ w.above j (omega arith);
+}
+
+-- ---- taking away
+-- the ends that are left where a sum loses its part
+abbrev left_ends : Ends → Ends → Ends
+left_ends i j = record { lo = i.lo -ℤ j.lo; hi = i.hi -ℤ j.hi }
+
+abbrev pub left_box : BoxEnds → BoxEnds → BoxEnds
+left_box b c = record { re = left_ends b.re c.re; im = left_ends b.im c.im }
+
+pub take_fits : (sum part rest : Interval) → sum.lo ≡ rest.lo +ℤ part.lo → sum.hi ≡ rest.hi +ℤ part.hi → TakeFits sum part
+take_fits sum part rest l h =
+    let o = rest.ordered in
+    let a = rest.low_end in
+    let b = rest.high_end in
+    record {
+      ordered = omega (arith, ints);
+      low_end = record { above = omega (arith, ints); below = omega (arith, ints) };
+      high_end = record { above = omega (arith, ints); below = omega (arith, ints) };
+    }
+
+-- of what was added, the part that stays is what was there
+left_whole : (a b c : ℤ) → c ≡ a +ℤ b → c -ℤ b ≡ a
+left_whole a b c e = omega (arith, ints)
+
+pub left_is : (rest part sum : BoxEnds) → sum ≡ add_box rest part → left_box sum part ≡ rest
+left_is rest part sum e =
+    let p = left_whole rest.re.lo part.re.lo sum.re.lo (ap (λ (b : BoxEnds). b.re.lo) e) in
+    let q = left_whole rest.re.hi part.re.hi sum.re.hi (ap (λ (b : BoxEnds). b.re.hi) e) in
+    let r = left_whole rest.im.lo part.im.lo sum.im.lo (ap (λ (b : BoxEnds). b.im.lo) e) in
+    let s = left_whole rest.im.hi part.im.hi sum.im.hi (ap (λ (b : BoxEnds). b.im.hi) e) in
+    λ i. record { re = record { lo = p i; hi = q i }; im = record { lo = r i; hi = s i } }
+
+added_whole : (b c : ℤ) → c ≡ c -ℤ b +ℤ b
+added_whole b c = omega (arith, ints)
+
+pub left_adds : (part sum : BoxEnds) → sum ≡ add_box (left_box sum part) part
+left_adds part sum =
+    let p = added_whole part.re.lo sum.re.lo in
+    let q = added_whole part.re.hi sum.re.hi in
+    let r = added_whole part.im.lo sum.im.lo in
+    let s = added_whole part.im.hi sum.im.hi in
+    λ i. record { re = record { lo = p i; hi = q i }; im = record { lo = r i; hi = s i } }
+
+-- ---- reading
+-- the box that an index gives
+pub row_read : (xs : List CBox) (k : ℕ) (r : CBox) → k < length xs → r ≡ slice_index_or xs k r → box_ends r ≡ row_of xs k
+row_read xs k r h e = ap box_ends (get_or_read xs k r h e zero_cbox)
+
+-- a box of the sum and the one of its part
+pub box_take_fits : (P k : ℕ) (sum part : ℕ → BoxEnds) (b c : CBox) → k < P → box_ends b ≡ sum k → box_ends c ≡ part k → HasPart P sum part → TakeFits b.re c.re × TakeFits b.im c.im
+box_take_fits P k sum part b c l e f h =
+    let g : box_ends b ≡ add_box (box_ends (h.rest k)) (box_ends c) = e ∙ h.adds k l ∙ ap (add_box (box_ends (h.rest k))) (sym f) in (
+      take_fits b.re c.re (h.rest k).re (ap (λ (x : BoxEnds). x.re.lo) g) (ap (λ (x : BoxEnds). x.re.hi) g),
+      take_fits b.im c.im (h.rest k).im (ap (λ (x : BoxEnds). x.im.lo) g) (ap (λ (x : BoxEnds). x.im.hi) g),
+    )

@@ -1,0 +1,37 @@
+//! The laws of rows. Nothing here runs: each law is the contract of a function with an empty body.
+ghost use Rattle.row_recursions.specs.Laws.{NoMoments, SourceMoments, SumOfMoments, MomentsUp, MultipoleValues, NoField, SumOfFields, FieldConverted, FieldOfSource, FieldDown, LocalValues};
+ghost use Rattle.row_recursions.specs.Sizes.{MomentSizes, UpSizes, FarSizes, DownSizes, LocalValueSizes, MultipoleValueSizes};
+
+/// What multipole rows contain: of no source, of one source, of the sources of two rows, about the parent's centre, and their values.
+///
+/// One identity serves poles and dipoles: a source is the functional `a phi(z) + b phi'(z)` of a function `phi` of its place, and the
+/// moments about another centre are those of another variable, `(2 u/s + q)/4` from a child with the quadrant `q`.
+pub fn multipole_rows()
+    ensures none { NoMoments }
+    ensures source { SourceMoments }
+    ensures sum { SumOfMoments }
+    ensures up { MomentsUp }
+    ensures value { MultipoleValues }
+{}
+
+/// What local rows contain: no field, the fields of two rows, the cut terms of the sources of a cell, those of a far source, the parent's
+/// field about the child's centre, and their values.
+pub fn local_rows()
+    ensures none { NoField }
+    ensures sum { SumOfFields }
+    ensures converted { FieldConverted }
+    ensures source { FieldOfSource }
+    ensures down { FieldDown }
+    ensures value { LocalValues }
+{}
+
+/// How large the ends of rows are. An offset is at most its side and a far offset at least 3 sides in one part, so each factor of a
+/// recursion is at most 1 in the size `|re| + |im|`, and a quotient by `d` of what is at most `d n` is at most `n`, rounded or not.
+pub fn row_sizes()
+    ensures moments { MomentSizes }
+    ensures up { UpSizes }
+    ensures source { FarSizes }
+    ensures down { DownSizes }
+    ensures local_value { LocalValueSizes }
+    ensures multipole_value { MultipoleValueSizes }
+{}
