@@ -22,3 +22,4 @@ pub mod Sides
 pub mod UpRows
 pub mod Values
 pub mod Worked
+pub mod ZeroBoxes

@@ -1,0 +1,5 @@
+pub mod FarSources
+pub mod FarSteps
+pub mod Places
+pub mod RowCalls
+pub mod ValueSteps
