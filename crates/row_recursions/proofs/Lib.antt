@@ -1,5 +1,6 @@
 pub mod BoxSums
 pub mod ConvertLaws
+pub mod ConvertedSizes
 pub mod CutSums
 pub mod DownLaws
 pub mod DownPolynomials
@@ -11,6 +12,7 @@ pub mod FarPlaces
 pub mod FarRows
 pub mod FieldLaws
 pub mod Halves
+pub mod KernelCounts
 pub mod KernelRows
 pub mod LinearFunctionals
 pub mod MomentLaws

@@ -1,5 +1,5 @@
 -- The zero box under the operations on boxes.
-use Rattle.std.proofs.Common.{◌≡◌, refl, ap, ◌∙◌, ℕ, ◌≤◌, arith, ℤ, pos, negsuc, ◌+ℤ◌, ◌*ℤ◌, ◌≤ℤ◌}
+use Rattle.std.proofs.Common.{◌≡◌, refl, ap, ◌∙◌, arith, ℤ, pos, negsuc, ◌+ℤ◌, ◌*ℤ◌, ◌≤ℤ◌}
 use Rattle.std.proofs.lemmas.Int.{ints}
 use Rattle.exact_math.specs.Ends.{BoxEnds, point_ends, add_ends, sub_ends, zero_box, add_box, neg_box, scale_ends, scale_box, gscale_box, quot_box, gquot_box}
 use Rattle.exact_math.specs.Gaussian.{Gaussian}
