@@ -1,5 +1,7 @@
+pub mod ConvertCalls
 pub mod FarSources
 pub mod FarSteps
 pub mod Places
+pub mod ProductSums
 pub mod RowCalls
 pub mod ValueSteps

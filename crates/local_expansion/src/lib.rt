@@ -3,33 +3,70 @@
 //! The coefficient `l` of a local row belongs to `(v/s)^l` in `s` times the field, at the offset `v` from the centre of a cell of side `s`.
 #![tactic(auto)]
 
-ghost use Rattle.std.specs.Prelude.{◌≡◌, ℕ, ◌+◌, ◌*◌, ◌^◌, ◌<◌, pos, length};
+ghost use Rattle.std.specs.Prelude.{◌≡◌, ℕ, ◌+◌, ◌*◌, ◌^◌, ◌≤◌, ◌<◌, pos, length, List};
 ghost use Rattle.exact_math.specs.Ends.{BoxEndsContain, BoxEndsWithin};
 ghost use Rattle.exact_math.specs.Gaussian.{Gaussian, gaussian};
 ghost use Rattle.exact_math.specs.Orders.{IsOrder};
 ghost use Rattle.exact_math.specs.Ratio.{ComplexRatio, add_complex};
-ghost use Rattle.truncation.specs.Entries.{local_cut};
+ghost use Rattle.exact_math.specs.Sums.{sum_terms};
+ghost use Rattle.truncation.specs.Entries.{Source, pair_cut, local_cut};
 ghost use Rattle.truncation.specs.Places.{GaussianBeyond};
-ghost use Rattle.complex_box.specs.Box.{box_ends};
+ghost use Rattle.complex_box.specs.Box.{box_ends, number};
+ghost use Rattle.kernel_table.specs.Kernel.{IsKernelDistance, kernel_entry};
 ghost use Rattle.cell_name.specs.Cell.{square};
 ghost use Rattle.cell_name.specs.Square.{Holds};
 ghost use Rattle.particle_text.specs.Limits.{InRange, weight64};
 ghost use Rattle.particle_text.specs.Points.{place};
 ghost use Rattle.row_recursions.specs.Cells.{side_of, centre_of, offset_from, far_coefficients_of};
 ghost use Rattle.row_recursions.specs.Fields.{HoldsField};
-ghost use Rattle.row_recursions.specs.Rows.{row_of, RowsAdd, local_value};
+ghost use Rattle.row_recursions.specs.Moments.{HoldsMoments};
+ghost use Rattle.row_recursions.specs.Rows.{row_of, RowsAdd, converted, local_value};
 ghost use Rattle.row_recursions.specs.Sizes.{RowWithin};
 ghost use Rattle.row_recursions.specs.Sources.{source_of};
 
+mod conversion;
 mod sources;
 mod values;
 
 use cell_name::Cell;
-use complex_box::{CBox, Row};
+use complex_box::{CBox, Gauss, Row, Work};
+use conversion::coefficient;
+use kernel_table::Kernel;
 use particle_text::Point;
 use row_recursions::{add_row, offset, side_bits};
 use sources::fill_far;
 use values::value_at;
+
+/// Adds the contribution of a far cell of the same side to a cell's local row: of the far cell's multipole row, at the distance `e` in sides
+/// from the far cell's centre to the cell's. The sum of the products of the kernel with the row is rounded once at each coefficient.
+///
+/// Conditions: `P` is one of the orders and the row's length, the greater part of `e` is 2 or 3 in size, all ends of the multipole row are
+/// at most 2^80 in size and those of the local row 2^110, and the count of translations is below 2^63.
+pub fn convert<const P: usize>(
+    kernel: &Kernel<P>,
+    row: Row<P>,
+    e: Gauss,
+    into: &mut [CBox],
+    work: &mut Work,
+)
+    requires order { IsOrder P }
+    requires len { length into.old ≡ P }
+    requires distance { IsKernelDistance (number e) }
+    requires row { RowWithin P (2 ^ 80) (row_of row.cells.now) }
+    requires size { RowWithin P (2 ^ 110) (row_of into.old) }
+    requires room { work.old.translations < 2 ^ 63 }
+    ensures len { length into.new ≡ P }
+    ensures adds { RowsAdd P (row_of into.old) (converted P (kernel_entry (number e)) (row_of row.entry.cells.now)) (row_of into.new) }
+    ensures contains { (s : ℕ) → (b c : Gaussian) → (xs : List Source) → (field : Gaussian → ComplexRatio) → 1 ≤ s → HoldsMoments P s c xs (row_of row.entry.cells.now) → HoldsField P s b field (row_of into.old) → HoldsField P s b (λ t. add_complex (field t) (sum_terms (pair_cut P s (number e) b c t) xs)) (row_of into.new) }
+    ensures size { (m n : ℕ) → RowWithin P (2 * m) (row_of row.entry.cells.now) → RowWithin P n (row_of into.old) → RowWithin P (n + 3 * m) (row_of into.new) }
+    ensures translations { work.new.translations ≡ work.old.translations + 1 }
+    ensures pairs { work.new.pairs ≡ work.old.pairs }
+{
+    for l in 0..P {
+        into[l] = into[l].add(coefficient(kernel.column(e, l), row));
+    }
+    work.raise_translations();
+}
 
 /// Adds the contribution of a point far from the cell to the cell's local row; a target adds nothing. Conditions: `P` is one of the orders
 /// and the row's length, the point is in range, twice its offset from the cell's centre has a part of at least 3 sides, and all ends of the
