@@ -26,6 +26,8 @@ ghost use Rattle.row_recursions.specs.Sources.{source_of};
 
 mod conversion;
 mod sources;
+#[cfg(test)]
+mod tests;
 mod values;
 
 use cell_name::Cell;
