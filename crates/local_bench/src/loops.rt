@@ -83,12 +83,7 @@ pub fn values(count: u32) -> CBox
     };
     let mut sum = CBox::zero();
     for n in 0..count {
-        sum = sum.add(at_local::<16>(
-            Row::new(&row),
-            cell,
-            i64::from(n % 4),
-            0,
-        ));
+        sum = sum.add(at_local::<16>(Row::new(&row), cell, i64::from(n % 4), 0));
     }
     sum
 }

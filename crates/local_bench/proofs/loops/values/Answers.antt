@@ -1,4 +1,4 @@
-use Rattle.std.proofs.Common.{◌+◌, ◌*◌, ◌^◌, ◌≤◌, arith, subst, sym}
+use Rattle.std.proofs.Common.{◌+◌, ◌*◌, ◌^◌, arith, subst, sym}
 use Rattle.exact_math.specs.Ends.{BoxEndsWithin, add_box}
 use Rattle.complex_box.specs.Box.{box_ends}
 use Rattle.complex_box.proofs.Sizes.{box_wider, add_box_within}

@@ -1,0 +1,11 @@
+use Rattle.std.proofs.Common.{◌^◌, ap, subst, below_more}
+use mathlib.Core.Path.{refl}
+use Rattle.exact_math.specs.Ends.{BoxEndsWithin}
+use Rattle.complex_box.specs.Box.{box_ends}
+use Rattle.complex_box.specs.Rows.{zero_cbox}
+use Rattle.row_recursions.specs.Rows.{row_of}
+use Rattle.local_expansion.proofs.narrow.is_narrow.Goals as goal
+
+pub loop-k-preserved : goal.loop-k-preserved
+loop-k-preserved g c = below_more (λ k. BoxEndsWithin (2 ^ 62) (row_of c.args.row.cells.now k)) c.loop-k.k c.loop-k.invariant
+    (subst (BoxEndsWithin (2 ^ 62)) (ap box_ends (c.get-cell.ensures zero_cbox)) (record { re = c.if-not-has_narrow_ends.ensures refl; im = c.if-not-has_narrow_ends-2.ensures refl }))
