@@ -1,7 +1,7 @@
 //! Products of boxes with ends of at most 2^62, which the processor makes in one step each.
 //!
 //! Where the left interval doesn't straddle zero, two products are enough, and the ends that they are made of are chosen without a jump.
-ghost use Rattle.std.specs.Prelude.{◌≡◌, ℕ, ◌+◌, ◌^◌, ◌≤◌, pos, length, ℤ, ◌*ℤ◌, ◌≤ℤ◌, ◌<ℤ◌, IsTrue};
+ghost use Rattle.std.specs.Prelude.{◌≡◌, ℕ, ◌+◌, ◌^◌, ◌≤◌, pos, length, ℤ, ◌*ℤ◌, ◌≤ℤ◌, ◌<ℤ◌, IsTrue, ◌↔◌};
 ghost use Rattle.std.specs.Int.{int_min, int_max};
 ghost use Rattle.exact_math.specs.Ends.{BoxEndsWithin, EndsWithin, times_ends, times_box, quot_box};
 ghost use Rattle.exact_math.specs.Within.{Within};
@@ -19,21 +19,25 @@ const NARROW: i128 = 1 << 62;
 /// Whether both ends of an interval are at most 2^62 in size.
 #[inline]
 fn has_narrow_ends(part: Interval) -> bool
-    ensures { IsTrue result → IntervalWithin (2 ^ 62) part }
+    ensures { IsTrue result ↔ IntervalWithin (2 ^ 62) part }
 {
     -NARROW <= part.lo && part.hi <= NARROW
 }
 
+/// Whether all four ends of a box are at most 2^62 in size.
+#[inline]
+fn has_narrow_parts(cell: CBox) -> bool
+    ensures { IsTrue result ↔ BoxWithin (2 ^ 62) cell }
+{
+    has_narrow_ends(cell.re) && has_narrow_ends(cell.im)
+}
+
 /// Whether all ends of a row are at most 2^62 in size.
 pub(crate) fn is_narrow<const P: usize>(row: Row<P>) -> bool
-    ensures { IsTrue result → RowWithin P (2 ^ 62) (row_of row.entry.cells.now) }
+    ensures { IsTrue result ↔ RowWithin P (2 ^ 62) (row_of row.entry.cells.now) }
 {
     for k in 0..P {
-        let cell = row.get(k);
-        if !has_narrow_ends(cell.re) {
-            return false;
-        }
-        if !has_narrow_ends(cell.im) {
+        if !has_narrow_parts(row.get(k)) {
             return false;
         }
     }

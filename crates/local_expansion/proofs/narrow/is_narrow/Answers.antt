@@ -8,4 +8,4 @@ use Rattle.local_expansion.proofs.narrow.is_narrow.Goals as goal
 
 pub loop-k-preserved : goal.loop-k-preserved
 loop-k-preserved g c = below_more (λ k. BoxEndsWithin (2 ^ 62) (row_of c.args.row.cells.now k)) c.loop-k.k c.loop-k.invariant
-    (subst (BoxEndsWithin (2 ^ 62)) (ap box_ends (c.get-cell.ensures zero_cbox)) (record { re = c.if-not-has_narrow_ends.ensures refl; im = c.if-not-has_narrow_ends-2.ensures refl }))
+    (subst (BoxEndsWithin (2 ^ 62)) (ap box_ends (c.get.ensures zero_cbox)) (c.if-not-has_narrow_parts.ensures.0 refl))
