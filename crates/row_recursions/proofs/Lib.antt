@@ -7,6 +7,7 @@ pub mod DownRows
 pub mod Equations
 pub mod ExactKernel
 pub mod FarLaws
+pub mod FarPlaces
 pub mod FarRows
 pub mod FieldLaws
 pub mod Halves
@@ -14,6 +15,7 @@ pub mod KernelRows
 pub mod LinearFunctionals
 pub mod MomentLaws
 pub mod MomentRows
+pub mod Points
 pub mod RowSizes
 pub mod RowWrites
 pub mod Sides

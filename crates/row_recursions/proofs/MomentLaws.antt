@@ -4,7 +4,7 @@ use mathlib.Core.List.{List, [], ◌∷◌, ◌++◌}
 use lib.ListN.{get_or}
 use Rattle.std.specs.Prelude.{Bool, true, false, cond}
 use Prim.Native.Nat.{◌*◌, ◌^◌, ◌<◌}
-use Rattle.exact_math.specs.Ends.{BoxEnds, add_box}
+use Rattle.exact_math.specs.Ends.{BoxEnds, BoxEndsContain, add_box}
 use Rattle.exact_math.specs.Gaussian.{Gaussian, add_gaussian, norm_gaussian}
 use Rattle.exact_math.specs.Ratio.{whole_complex, over_complex}
 use Rattle.exact_math.proofs.BoxEnclosures.{EnclosesBox, EnclosesBox-add, enclosed_from_contained, contained_from_enclosed}
@@ -158,3 +158,7 @@ multipole_values P s c t xs m s≥1 apart h = contained_from_enclosed (pos (2 ^ 
         ap (λ w. Cut.multipole_cut complex_rationals (units *ℂ value (pole_of x)) (units *ℂ value (dipole_of x)) (halved (offset c x)) w P) (far_ratio-over s (doubled_offset t c) s≥1 apart)
         ∙ cut-units P (value (pole_of x)) (value (dipole_of x)) (halved (offset c x)) (inverse_ℂ (halved (doubled_offset t c))))
         ∙ sum_list-mul complex_rationals units _ xs
+
+-- a row with the same boxes
+pub moments_same : (P s : ℕ) (c : Gaussian) (xs : List Source) (m n : ℕ → BoxEnds) → ((k : ℕ) → k < P → n k ≡ m k) → HoldsMoments P s c xs m → HoldsMoments P s c xs n
+moments_same P s c xs m n e h = record { contains = λ k l. subst (λ b. BoxEndsContain (pos (2 ^ 40)) b (moment s c xs k)) (sym (e k l)) (h.contains k l) }

@@ -1,11 +1,13 @@
 -- How large the ends of rows grow: a factor of at most 1 enlarges no end, and a quotient by d of what is at most d n is at most n.
-use Rattle.std.proofs.Common.{◌≡◌, refl, sym, subst, ℕ, zero, suc, ◌+◌, ◌-◌, ◌*◌, ◌^◌, ◌≤◌, ◌<◌, arith, ℤ, pos, negsuc, neg_ℤ, ◌+ℤ◌, ◌-ℤ◌, ◌*ℤ◌, ◌≤ℤ◌}
+use Rattle.std.proofs.Common.{◌≡◌, refl, sym, ap, subst, ℕ, zero, suc, ◌+◌, ◌-◌, ◌*◌, ◌^◌, ◌≤◌, ◌<◌, arith, ℤ, pos, negsuc, neg_ℤ, ◌+ℤ◌, ◌-ℤ◌, ◌*ℤ◌, ◌≤ℤ◌}
 use mathlib.Core.Logic.{⊎_elim}
 use Rattle.std.proofs.Math.Nat.{mul-le-mul_left, mul-le-mul_right}
+use Rattle.std.proofs.Math.Pow.{pow_mono}
 use Rattle.std.proofs.lemmas.Int.{ints}
 use Rattle.std.specs.Prelude.{unsigned_abs}
 use Rattle.exact_math.specs.Ends.{Ends, BoxEnds, EndsWithin, BoxEndsWithin, zero_box, add_box, scale_box, gscale_box, quot_ends, quot_box, gquot_box, scale_ends}
 use Rattle.exact_math.specs.Gaussian.{Gaussian, norm_gaussian}
+use Rattle.exact_math.specs.Orders.{IsOrder}
 use Rattle.exact_math.specs.Sizes.{abs_gaussian}
 use Rattle.exact_math.specs.Within.{Within}
 use Rattle.exact_math.proofs.Ring.{int_ring}
@@ -15,7 +17,7 @@ use Rattle.fixed_interval.proofs.Sizes.{ends_wider, add_within, sub_within, scal
 use Rattle.complex_box.proofs.Sizes.{box_wider, add_box_within, neg_box_within, scale_box_within}
 use Rattle.truncation.specs.Places.{GaussianWithin, GaussianBeyond}
 use Rattle.kernel_table.specs.Kernel.{conj_multiple}
-use Rattle.row_recursions.specs.Rows.{units_box, units_over, ratio_box, pole_moment, dipole_moment, source_moment, up_round, shifted_up, far_pole, far_dipole, far_source, down_round, shifted_down, local_round, local_value, multipole_round, multipole_value}
+use Rattle.row_recursions.specs.Rows.{RowsAdd, units_box, units_over, ratio_box, pole_moment, dipole_moment, source_moment, up_round, shifted_up, far_pole, far_dipole, far_source, down_round, shifted_down, local_round, local_value, multipole_round, multipole_value}
 use Rattle.row_recursions.specs.Sizes.{RowWithin, MomentSizes, UpSizes, FarSizes, DownSizes, LocalValueSizes, MultipoleValueSizes}
 
 -- ---- boxes
@@ -225,3 +227,29 @@ local_round_within P n s o m h near bounded (suc k) l = box_wider (k * n + n) (s
 pub local_value_within : LocalValueSizes
 unfolding local_value
 local_value_within P n s o m h near bounded = over_side s (P * n) (local_round P m s o P) h (local_round_within P n s o m h near bounded P (omega arith))
+
+-- ---- sums of rows
+pub added_within : (P m n : ℕ) (old part new : ℕ → BoxEnds) → RowsAdd P old part new → RowWithin P m old → RowWithin P n part → RowWithin P (m + n) new
+added_within P m n old part new adds v w k h = subst (BoxEndsWithin (m + n)) (sym (adds k h)) (add_box_within m n (old k) (part k) (v k h) (w k h))
+
+-- what is left of a row
+left_within : (m n : ℕ) {x y z : ℤ} → z ≡ x +ℤ y → Within m z → Within n y → Within (m + n) x
+left_within m n e v w = record { above = omega (arith, ints); below = omega (arith, ints) }
+
+pub taken_within : (P m n : ℕ) (old part new : ℕ → BoxEnds) → RowsAdd P new part old → RowWithin P m old → RowWithin P n part → RowWithin P (m + n) new
+taken_within P m n old part new adds v w k h =
+    let e = adds k h in
+    let a = v k h in
+    let b = w k h in
+    record {
+      re = record { lo = left_within m n (ap (λ (x : BoxEnds). x.re.lo) e) a.re.lo b.re.lo; hi = left_within m n (ap (λ (x : BoxEnds). x.re.hi) e) a.re.hi b.re.hi };
+      im = record { lo = left_within m n (ap (λ (x : BoxEnds). x.im.lo) e) a.im.lo b.im.lo; hi = left_within m n (ap (λ (x : BoxEnds). x.im.hi) e) a.im.hi b.im.hi };
+    }
+
+-- the orders are at most 24
+pub order_small : (P : ℕ) → IsOrder P → P ≤ 24
+order_small P h = ⊎_elim (λ e. omega arith) (λ l. ⊎_elim (λ e. omega arith) (λ k. ⊎_elim (λ e. omega arith) (λ e. omega arith) k) l) h
+
+-- ---- powers of two
+pub power_positive : (n : ℕ) → 1 ≤ 2 ^ n
+power_positive n = pow_mono {i = 0} {j = n} (omega arith)

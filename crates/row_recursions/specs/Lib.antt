@@ -1,6 +1,8 @@
--- What contracts rest on: the rounded recursions on rows, the exact moments and fields that rows stand for, and the laws between them.
+-- What contracts rest on: the rounded recursions on rows, the exact moments and fields that rows stand for, the laws between them, and the words for points and cells.
+pub mod Cells
 pub mod Fields
 pub mod Laws
 pub mod Moments
 pub mod Rows
 pub mod Sizes
+pub mod Sources

@@ -9,7 +9,9 @@
 #![tactic(auto)]
 
 mod law;
+mod places;
 mod sums;
 
 pub use law::{local_rows, multipole_rows, row_sizes};
+pub use places::{FarRatio, far_ratio, offset, side_bits, units};
 pub use sums::{add_row, take_row};

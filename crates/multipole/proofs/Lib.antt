@@ -1,0 +1,3 @@
+pub mod RowCalls
+pub mod SourcePowers
+pub mod ValueSteps

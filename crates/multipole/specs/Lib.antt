@@ -1,0 +1,2 @@
+-- What the contracts rest on: the powers of a place.
+pub mod Powers

@@ -1,0 +1,81 @@
+//! The moments of one source, into a row.
+ghost use Rattle.std.specs.Prelude.{◌≡◌, ℕ, ◌+◌, ◌-◌, ◌*◌, ◌^◌, ◌≤◌, ◌<◌, pos, length};
+ghost use Rattle.exact_math.specs.Ends.{BoxEndsWithin, gquot_box};
+ghost use Rattle.truncation.specs.Places.{GaussianWithin};
+ghost use Rattle.complex_box.specs.Box.{box_ends, number};
+ghost use Rattle.cell_name.specs.Cell.{square};
+ghost use Rattle.cell_name.specs.Square.{Holds};
+ghost use Rattle.particle_text.specs.Limits.{InRange};
+ghost use Rattle.row_recursions.specs.Cells.{moments_of};
+ghost use Rattle.row_recursions.specs.Rows.{row_of};
+ghost use Rattle.multipole.specs.Powers.{powers, slopes};
+
+use cell_name::Cell;
+use complex_box::{CBox, Gauss, clear};
+use particle_text::{Kind, Point};
+use row_recursions::{offset, side_bits, units};
+
+/// The next power: times `o/2^shift`, rounded outward.
+#[inline]
+fn next_power(power: CBox, o: Gauss, shift: u32) -> CBox
+    requires positive { 1 ≤ shift }
+    requires small { shift ≤ 17 }
+    requires near { GaussianWithin (2 ^ (shift - 1)) (number o) }
+    requires size { BoxEndsWithin (2 ^ 60) (box_ends power) }
+    ensures ends { box_ends result ≡ gquot_box (box_ends power) (number o) (pos (2 ^ shift)) }
+    ensures size { BoxEndsWithin (2 ^ 60) (box_ends result) }
+{
+    power.gscale(o).quot_shift(shift)
+}
+
+/// Fills a row with the powers that begin with `first`.
+fn fill_powers(row: &mut [CBox], first: CBox, o: Gauss, shift: u32)
+    requires positive { 1 ≤ shift }
+    requires small { shift ≤ 17 }
+    requires near { GaussianWithin (2 ^ (shift - 1)) (number o) }
+    requires size { BoxEndsWithin (2 ^ 60) (box_ends first) }
+    ensures len { length row.new ≡ length row.old }
+    ensures powers { (k : ℕ) → k < length row.old → row_of row.new k ≡ powers (box_ends first) (number o) shift k }
+{
+    let mut power = first;
+    for k in 0..row.len() {
+        row[k] = power;
+        power = next_power(power, o, shift);
+    }
+}
+
+/// Fills a row with nothing and then, at each `k`, `k` times the power before, where the powers begin with `first`.
+fn fill_slopes(row: &mut [CBox], first: CBox, o: Gauss, shift: u32)
+    requires len { (1 ≤ length row.old) × (length row.old ≤ 32) }
+    requires positive { 1 ≤ shift }
+    requires small { shift ≤ 17 }
+    requires near { GaussianWithin (2 ^ (shift - 1)) (number o) }
+    requires size { BoxEndsWithin (2 ^ 60) (box_ends first) }
+    ensures len { length row.new ≡ length row.old }
+    ensures slopes { (k : ℕ) → k < length row.old → row_of row.new k ≡ slopes (box_ends first) (number o) shift k }
+{
+    row[0] = CBox::zero();
+    let mut power = first;
+    for k in 1..row.len() {
+        row[k] = power.scale(k as i128);
+        power = next_power(power, o, shift);
+    }
+}
+
+/// Fills a row with the moments of a point in the cell, about the cell's centre.
+pub(crate) fn fill_moments(row: &mut [CBox], cell: Cell, p: &Point)
+    requires len { (1 ≤ length row.old) × (length row.old ≤ 32) }
+    requires range { InRange p.now }
+    requires inside { Holds (square cell) p.now.x p.now.y }
+    ensures len { length row.new ≡ length row.old }
+    ensures moments { (k : ℕ) → k < length row.old → row_of row.new k ≡ moments_of cell p.now k }
+{
+    let o = offset(cell, p.x, p.y);
+    let s = side_bits(cell);
+    match p.kind {
+        Kind::Charge(q) => fill_powers(row, units(q, 0), o, s + 1),
+        Kind::Vortex(g) => fill_powers(row, units(0, -g), o, s + 1),
+        Kind::Dipole(re, im) => fill_slopes(row, units(re, im).quot_shift(s), o, s + 1),
+        Kind::Target => clear(row),
+    }
+}

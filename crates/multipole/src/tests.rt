@@ -1,0 +1,63 @@
+//! Rows that are known from elsewhere: sources on the border of a cell go in and out again, and a far value.
+ghost use Rattle.particle_text.specs.Limits.{HasStrength};
+
+use super::{add_source, at_multipole, take_source};
+use cell_name::Cell;
+use complex_box::{CBox, Row};
+use particle_text::{Kind, Point};
+use std::process::Abort;
+
+fn is(rt: &impl Abort, got: CBox, re: (i128, i128), im: (i128, i128)) {
+    assert_eq!(rt; (got.re.lo, got.re.hi), re);
+    assert_eq!(rt; (got.im.lo, got.im.hi), im);
+}
+
+/// The point of a kind in the corner of the cell of side 1 that holds the origin.
+fn goes_and_comes(rt: &impl Abort, kind: Kind, second: CBox)
+    requires range { HasStrength kind }
+{
+    let cell = Cell {
+        level: 16,
+        i: 32768,
+        j: 32768,
+    };
+    let source = Point { x: 0, y: 0, kind };
+    let mut row = [CBox::zero(); 4];
+    add_source::<4>(&mut row, cell, &source);
+    assert_eq!(rt; row[1], second);
+    take_source::<4>(&mut row, cell, &source);
+    for k in 0..4 {
+        assert_eq!(rt; row[k], CBox::zero());
+    }
+}
+
+#[test]
+fn there_and_back(rt: HostRuntime) {
+    let half = 549_755_813_888;
+    goes_and_comes(&rt, Kind::Charge(1), CBox::point(-half, -half));
+    goes_and_comes(&rt, Kind::Vortex(1), CBox::point(-half, half));
+    goes_and_comes(&rt, Kind::Dipole(3, -2), CBox::point(6 * half, -4 * half));
+    goes_and_comes(&rt, Kind::Target, CBox::zero());
+}
+
+#[test]
+fn far_value(rt: HostRuntime) {
+    let cell = Cell {
+        level: 14,
+        i: 8192,
+        j: 8192,
+    };
+    let source = Point {
+        x: 0,
+        y: 0,
+        kind: Kind::Charge(9),
+    };
+    let mut row = [CBox::zero(); 4];
+    add_source::<4>(&mut row, cell, &source);
+    is(
+        &rt,
+        at_multipole::<4>(Row::new(&row), cell, 8, 0),
+        (1_250_804_427_757, 1_250_804_427_759),
+        (47_498_902_319, 47_498_902_321),
+    );
+}

@@ -1,0 +1,111 @@
+-- Points in cells, and their strengths.
+use Rattle.std.proofs.Common.{◌≡◌, refl, ℕ, zero, suc, ◌+◌, ◌*◌, ◌^◌, ◌≤◌, arith, ℤ, pos, negsuc, neg_ℤ, ◌+ℤ◌, ◌-ℤ◌, ◌≤ℤ◌, ◌<ℤ◌, SFits, w64, lit<}
+use Rattle.std.proofs.lemmas.Int.{ints}
+use Rattle.std.proofs.Math.Nat.{mul-le-mul_right}
+use Rattle.std.specs.Prelude.{unsigned_abs}
+use Rattle.exact_math.specs.Ends.{BoxEndsWithin}
+use Rattle.exact_math.specs.Gaussian.{Gaussian, gaussian}
+use Rattle.exact_math.specs.Within.{Within}
+use Rattle.particle_text.specs.declared.Kind.{Kind}
+use Rattle.particle_text.specs.declared.Kind.TheVariants.{Charge, Dipole, Vortex, Target}
+use Rattle.particle_text.specs.declared.Point.{Point}
+use Rattle.particle_text.specs.Points.{place, pole, dipole}
+use Rattle.particle_text.specs.Limits.{most_strength, InGrid, HasStrength, InRange, size_of_gaussian, weight64}
+use Rattle.cell_name.specs.Cell.{square}
+use Rattle.cell_name.specs.Square.{side, corner_x, corner_y, Holds, IsInGrid}
+use Rattle.cell_name.specs.declared.cell.Cell.{Cell}
+use Rattle.cell_name.proofs.Cells.{inside_from_name}
+use Rattle.truncation.specs.Places.{GaussianWithin, doubled_offset}
+use Rattle.complex_box.proofs.Sizes.{box_wider}
+use Rattle.row_recursions.specs.Cells.{side_of, centre_of, offset_from, moments_of}
+use Rattle.row_recursions.specs.Moments.{pole_of, dipole_of}
+use Rattle.row_recursions.specs.Sources.{source_at}
+use Rattle.row_recursions.proofs.RowSizes.{source_moment_within}
+
+-- the strengths of a point's source are those of the point
+pub pole_of-source : (z : Gaussian) (k : Kind) → pole_of (source_at z k) ≡ pole k
+pole_of-source z (Charge q) = refl
+pole_of-source z (Dipole re im) = refl
+pole_of-source z (Vortex g) = refl
+pole_of-source z Target = refl
+
+pub dipole_of-source : (z : Gaussian) (k : Kind) → dipole_of (source_at z k) ≡ dipole k
+dipole_of-source z (Charge q) = refl
+dipole_of-source z (Dipole re im) = refl
+dipole_of-source z (Vortex g) = refl
+dipole_of-source z Target = refl
+
+pub place_of-source : (z : Gaussian) (k : Kind) → (source_at z k).place ≡ z
+place_of-source z (Charge q) = refl
+place_of-source z (Dipole re im) = refl
+place_of-source z (Vortex g) = refl
+place_of-source z Target = refl
+
+-- the grid, as cells see it
+pub grid_of : (x y : ℤ) → InGrid x y → IsInGrid 16 x y
+grid_of x y h = record { west = h.across.above; east = h.across.below; south = h.up.above; north = h.up.below }
+
+-- a coordinate fits an i64
+pub grid_fits : (x y : ℤ) → InGrid x y → SFits w64 x × SFits w64 y
+grid_fits x y h =
+    let a = h.across.above in
+    let b = h.across.below in
+    let c = h.up.above in
+    let d = h.up.below in
+    (omega (arith, ints), omega (arith, ints))
+
+-- the doubled offset of a place is at most the side
+near : (x c s : ℤ) → c ≤ℤ x → x <ℤ (c +ℤ s) → (neg_ℤ s ≤ℤ (x +ℤ x -ℤ (c +ℤ c +ℤ s))) × ((x +ℤ x -ℤ (c +ℤ c +ℤ s)) ≤ℤ s)
+near x c s h k = (omega (arith, ints), omega (arith, ints))
+
+pub offset_within : (c : Cell) (x y : ℤ) → Holds (square c) x y → GaussianWithin (side_of c) (doubled_offset (gaussian x y) (centre_of c))
+offset_within c x y h =
+    let a = near x (corner_x (square c)) (pos (side (square c))) h.west h.east in
+    let b = near y (corner_y (square c)) (pos (side (square c))) h.south h.north in
+    record { re = record { above = a.0; below = a.1 }; im = record { above = b.0; below = b.1 } }
+
+-- sides are powers of two, from 1 to 2^16
+pub side_positive : (c : Cell) → 1 ≤ side_of c
+side_positive c = power_positive _
+  where
+    power_positive : (n : ℕ) → 1 ≤ 2 ^ n
+    power_positive zero = omega arith
+    power_positive (suc n) = let h = power_positive n in omega arith
+
+-- ---- weights
+part_small : (n : ℕ) (z : ℤ) → Within n z → unsigned_abs z ≤ n
+part_small n (pos a) h = let l = h.below in omega (arith, ints)
+part_small n (negsuc a) h = let l = h.above in omega (arith, ints)
+
+weight_at : (k : Kind) → HasStrength k → size_of_gaussian (pole k) + 64 * size_of_gaussian (dipole k) ≤ 2 ^ 27
+weight_at (Charge q) h = let a = part_small _ q h in omega arith
+weight_at (Dipole re im) h = let a = part_small _ re h.0 in let b = part_small _ im h.1 in omega arith
+weight_at (Vortex g) h =
+    let a : Within most_strength (neg_ℤ g) = record { above = omega (arith, ints, h.below); below = omega (arith, ints, h.above) } in
+    let b = part_small _ (neg_ℤ g) a in
+    omega arith
+weight_at Target h = omega arith
+
+-- a point in range is at most 2^27 in weight
+pub weight_bounded : (p : Point) → InRange p → weight64 p ≤ 2 ^ 27
+weight_bounded p h = weight_at p.kind h.strength
+
+-- each moment of a point in the cell is at most 2^40 times its weight
+pub moments_within : (c : Cell) (p : Point) (k : ℕ) → k ≤ 64 → Holds (square c) p.x p.y → BoxEndsWithin (2 ^ 40 * weight64 p) (moments_of c p k)
+moments_within c p k few h = box_wider _ (2 ^ 40 * weight64 p) _ (heavier k (size_of_gaussian (pole p.kind)) (size_of_gaussian (dipole p.kind)) few)
+    (source_moment_within (side_of c) (pole p.kind) (dipole p.kind) (offset_from c (place p)) k (side_positive c) (offset_within c p.x p.y h))
+  where
+    heavier : (k a b : ℕ) → k ≤ 64 → 2 ^ 40 * (a + k * b) ≤ 2 ^ 40 * (a + 64 * b)
+    heavier k a b h = let m = mul-le-mul_right b h in omega arith
+
+-- the doubled offset of any place of the grid
+between : (x c s : ℤ) → neg_ℤ (pos (2 ^ 15)) ≤ℤ x → x <ℤ pos (2 ^ 15) → pos 0 ≤ℤ s → neg_ℤ (pos (2 ^ 15)) ≤ℤ c → (c +ℤ s) ≤ℤ pos (2 ^ 15) → Within (2 ^ 17) (x +ℤ x -ℤ (c +ℤ c +ℤ s))
+between x c s h k p a b = record { above = omega (arith, ints); below = omega (arith, ints) }
+
+pub grid_offset_within : (c : Cell) (x y : ℤ) → InGrid x y → GaussianWithin (2 ^ 17) (offset_from c (gaussian x y))
+grid_offset_within c x y h =
+    let i = inside_from_name (square c) (lit< tt) (record { level_in_grid = c.level_in_grid; column = c.column; row = c.row }) in
+    record {
+      re = between x (corner_x (square c)) (pos (side (square c))) h.across.above h.across.below (omega (arith, ints)) i.west i.east;
+      im = between y (corner_y (square c)) (pos (side (square c))) h.up.above h.up.below (omega (arith, ints)) i.south i.north;
+    }

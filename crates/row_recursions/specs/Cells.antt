@@ -1,0 +1,39 @@
+-- Sides, doubled centres and quadrants of the program's cells, as the recursions take them, and the contributions of the program's points.
+use Rattle.std.specs.Prelude.{ℕ, Bool, cond, ℤ, pos, negsuc}
+use Rattle.exact_math.specs.Ends.{BoxEnds}
+use Rattle.exact_math.specs.Gaussian.{Gaussian, gaussian}
+use Rattle.truncation.specs.Places.{doubled_offset}
+use Rattle.cell_name.specs.Cell.{square}
+use Rattle.cell_name.specs.Square.{side, doubled_centre_x, doubled_centre_y}
+use Rattle.cell_name.specs.declared.cell.Cell.{Cell}
+use Rattle.cell_name.specs.declared.cell.Quadrant.{Quadrant}
+use Rattle.particle_text.specs.declared.Point.{Point}
+use Rattle.particle_text.specs.Points.{place, pole, dipole}
+use Rattle.row_recursions.specs.Rows.{source_moment, far_source}
+
+abbrev pub side_of : Cell → ℕ
+side_of c = side (square c)
+
+-- twice the centre
+abbrev pub centre_of : Cell → Gaussian
+centre_of c = gaussian (doubled_centre_x (square c)) (doubled_centre_y (square c))
+
+-- 1 or -1
+abbrev pub sign : Bool → ℤ
+sign b = cond b (pos 1) (negsuc 0)
+
+-- 1 in the first part for the right half, in the second for the top half, and -1 for the other
+abbrev pub quadrant_of : Quadrant → Gaussian
+quadrant_of q = gaussian (sign q.right) (sign q.top)
+
+-- the doubled offset of the place z from the centre
+abbrev pub offset_from : Cell → Gaussian → Gaussian
+offset_from c z = doubled_offset z (centre_of c)
+
+-- what a point in the cell adds to its multipole row
+abbrev pub moments_of : Cell → Point → ℕ → BoxEnds
+moments_of c p k = source_moment (side_of c) (pole p.kind) (dipole p.kind) (offset_from c (place p)) k
+
+-- what a point far from the cell adds to its local row
+abbrev pub far_coefficients_of : Cell → Point → ℕ → BoxEnds
+far_coefficients_of c p l = far_source (side_of c) (pole p.kind) (dipole p.kind) (offset_from c (place p)) l

@@ -1,0 +1,76 @@
+//! Places of the program's points in its cells, as the recursions take them.
+ghost use Rattle.std.specs.Prelude.{◌≡◌, ◌*◌, ◌^◌, ◌≤◌, pos, ◌≤ℤ◌};
+ghost use Rattle.exact_math.specs.Ends.{BoxEndsWithin};
+ghost use Rattle.exact_math.specs.Gaussian.{gaussian, norm_gaussian};
+ghost use Rattle.exact_math.specs.Within.{Within};
+ghost use Rattle.truncation.specs.Places.{GaussianWithin, GaussianBeyond};
+ghost use Rattle.complex_box.specs.Box.{box_ends, number};
+ghost use Rattle.kernel_table.specs.Kernel.{conj_multiple};
+ghost use Rattle.particle_text.specs.Limits.{InGrid};
+ghost use Rattle.row_recursions.specs.Cells.{side_of, offset_from};
+ghost use Rattle.row_recursions.specs.Rows.{units_box};
+
+use cell_name::Cell;
+use complex_box::{CBox, Gauss};
+
+/// How many units a box counts in 1.
+const UNIT: i128 = 1_099_511_627_776;
+
+/// The number of bits by which the side is 1 shifted.
+pub fn side_bits(cell: Cell) -> u32
+    ensures side { 2 ^ result ≡ side_of cell }
+    ensures small { result ≤ 16 }
+{
+    16 - u32::from(cell.level)
+}
+
+/// Twice the offset of a place from the centre of a cell. Condition: the place is in the grid.
+pub fn offset(cell: Cell, x: i64, y: i64) -> Gauss
+    requires { InGrid x y }
+    ensures value { number result ≡ offset_from cell (gaussian x y) }
+    ensures size { GaussianWithin (2 ^ 17) (number result) }
+{
+    let (re, im) = cell.offset(x, y);
+    Gauss { re, im }
+}
+
+/// The box of a strength, in units. Condition: both parts are at most 2^20 in size.
+pub fn units(re: i64, im: i64) -> CBox
+    requires re { Within (2 ^ 20) re }
+    requires im { Within (2 ^ 20) im }
+    ensures ends { box_ends result ≡ units_box (gaussian re im) }
+    ensures size { BoxEndsWithin (2 ^ 60) (box_ends result) }
+{
+    CBox::point(UNIT * i128::from(re), UNIT * i128::from(im))
+}
+
+/// `2 s/zeta` as a Gaussian integer over a whole number: `2 s conj zeta` over the norm of `zeta`.
+#[derive(Clone, Copy, PartialEq, Eq, Debug)]
+pub struct FarRatio {
+    pub factor: Gauss,
+    pub divisor: i128,
+}
+
+/// The factor of a step of a far source or a far target with the doubled offset `zeta` from the centre of a cell of side `2^bits`.
+/// Conditions: `bits` is at most 16, and a part of `zeta` is at least 3 sides in size.
+pub fn far_ratio(zeta: Gauss, bits: u32) -> FarRatio
+    requires bits { bits ≤ 16 }
+    requires size { GaussianWithin (2 ^ 17) (number zeta) }
+    requires far { GaussianBeyond (3 * 2 ^ bits) (number zeta) }
+    ensures factor { number result.factor ≡ conj_multiple (2 * 2 ^ bits) (number zeta) }
+    ensures small { GaussianWithin (2 ^ 34) (number result.factor) }
+    ensures divisor { result.divisor ≡ norm_gaussian (number zeta) }
+    ensures positive { pos 1 ≤ℤ result.divisor }
+    ensures most { result.divisor ≤ℤ pos (2 ^ 35) }
+{
+    let double = 2i64 << bits;
+    let re = i128::from(zeta.re);
+    let im = i128::from(zeta.im);
+    FarRatio {
+        factor: Gauss {
+            re: double * zeta.re,
+            im: -(double * zeta.im),
+        },
+        divisor: re * re + im * im,
+    }
+}
