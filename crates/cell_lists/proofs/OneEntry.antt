@@ -12,7 +12,7 @@ use Rattle.quadtree.specs.Tree.{IsTreeCell, IsLeaf, HasTarget, HasSource, AreInG
 use Rattle.quadtree.proofs.LeafLevel.{cell_of, IsListed, IsLeafLevel, leaf_level_exists}
 use Rattle.cert_text.specs.declared.Letter.{Letter}
 use Rattle.cert_text.specs.declared.Letter.TheVariants.{U, V, W, X}
-use Rattle.cell_lists.specs.Entries.{IsPair, IsEntry, EachPairHasOneEntry}
+use Rattle.cell_lists.specs.Entries.{IsPair, IsEntry, Accounts, NoOtherAccounts, IsTargetAndSource, EachPairHasOneEntry}
 use Rattle.cell_lists.specs.Cases.{IsCase}
 use Rattle.cell_lists.proofs.Descent.{PassesUp, case_exists, case_unique}
 
@@ -167,6 +167,14 @@ each_pair_has_one_entry grid points cap p q positive inside given =
           let same = case_unique (TouchAt grid p q) up lp.0 lq.0 letter' found.0 b'.level c'.level k l case' found.3 in
           (same.same_letter, eb ∙ ap (cell_of grid p) same.same_first, ec ∙ ap (cell_of grid q) same.same_second);
     }
+
+-- an entry that accounts for a target and a source of the list is the only one
+pub only_entry : (grid : ℕ) (points : List Point) (cap : ℕ) (letter : Letter) (b c : Square) (target source : Point) → 0 < grid → AreInGrid grid points → IsTargetAndSource points target source → IsEntry grid points cap letter b c → Accounts b c target source → NoOtherAccounts grid points cap letter b c target source
+only_entry grid points cap letter b c target source positive inside given entry accounts letter' b' c' entry' accounts' =
+    let one = each_pair_has_one_entry grid points cap target source positive inside given in
+    let this = one.no_other letter b c entry accounts in
+    let other = one.no_other letter' b' c' entry' accounts' in
+    (other.0 ∙ sym this.0, other.1 ∙ sym this.1, other.2 ∙ sym this.2)
 
 -- ---- the entry of two leaves, by their ancestors
 

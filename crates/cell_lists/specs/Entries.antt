@@ -55,6 +55,11 @@ pub record Accounts (b c : Square) (target source : Point) : Type 0 where
   pub target_held : Holds b target.x target.y
   pub source_held : Holds c source.x source.y
 
+-- each entry that accounts for a target and a source is the one named
+abbrev pub NoOtherAccounts : ℕ → List Point → ℕ → Letter → Square → Square → Point → Point → Type 0
+NoOtherAccounts grid points cap letter b c target source =
+    (letter' : Letter) (b' c' : Square) → IsEntry grid points cap letter' b' c' → Accounts b' c' target source → (letter' ≡ letter) × (b' ≡ b) × (c' ≡ c)
+
 -- exactly one entry accounts for a target and a source
 pub record HasOneEntry (grid : ℕ) (points : List Point) (cap : ℕ) (target source : Point) : Type 0 where
   pub letter : Letter
@@ -62,7 +67,7 @@ pub record HasOneEntry (grid : ℕ) (points : List Point) (cap : ℕ) (target so
   pub c : Square
   pub entry : IsEntry grid points cap letter b c
   pub accounts : Accounts b c target source
-  pub no_other : (letter' : Letter) (b' c' : Square) → IsEntry grid points cap letter' b' c' → Accounts b' c' target source → (letter' ≡ letter) × (b' ≡ b) × (c' ≡ c)
+  pub no_other : NoOtherAccounts grid points cap letter b c target source
 
 -- a target and a source of the list
 pub record IsTargetAndSource (points : List Point) (target source : Point) : Type 0 where

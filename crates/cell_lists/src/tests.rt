@@ -3,6 +3,7 @@ ghost use Rattle.std.specs.Prelude.{IfOk};
 ghost use Rattle.particle_text.specs.Limits.{WithinLimits};
 
 use crate::{first_apart, lists};
+use cell_name::Cell;
 use cert_text::{Entry, Letter};
 use particle_text::{Points, parse};
 use quadtree::Tree;
@@ -76,6 +77,17 @@ fn touching_leaves(rt: HostRuntime) -> Result<(), Fail> {
             c: 0
         }
     );
+    let eight = tree_of(alloc, &[(8, "charge 0 0 1\n"), (1, "target 1 0\n")])?;
+    assert_eq!(rt; eight.cells().len(), 18);
+    lists_are(&rt, alloc, &eight, [1, 0, 0, 0], 17, [&[16], &[], &[], &[]])?;
+    assert_eq!(rt;
+        entry_of(&rt, &eight, 17, 16),
+        Entry {
+            letter: Letter::U,
+            b: 17,
+            c: 16
+        }
+    );
     let beside = tree_of(alloc, &[NINE_CHARGES, (9, "target 1 0\n")])?;
     lists_are(
         &rt,
@@ -117,6 +129,11 @@ fn touching_leaves(rt: HostRuntime) -> Result<(), Fail> {
 fn cells_apart(rt: HostRuntime) -> Result<(), Fail> {
     let alloc = rt.alloc();
     let v = tree_of(alloc, &[NINE_CHARGES, (9, "target 2 0\n")])?;
+    assert_eq!(rt; v.cells().len(), 19);
+    assert_eq!(rt;
+        (v.find(Cell::of(2, 0, 16)), v.find(Cell::of(0, 0, 16))),
+        (Some(18), Some(17))
+    );
     lists_are(&rt, alloc, &v, [0, 1, 0, 0], 18, [&[], &[17], &[], &[]])?;
     assert_eq!(rt;
         entry_of(&rt, &v, 18, 17),
@@ -127,6 +144,9 @@ fn cells_apart(rt: HostRuntime) -> Result<(), Fail> {
         }
     );
     let w = tree_of(alloc, &[NINE_CHARGES, (1, "target 8 0\n")])?;
+    assert_eq!(rt; Cell::of(0, 0, 14).side(), 4);
+    assert_eq!(rt; w.cells().len(), 18);
+    assert_eq!(rt; w.find(Cell::of(0, 0, 14)), Some(15));
     lists_are(&rt, alloc, &w, [0, 0, 1, 0], 14, [&[], &[], &[15], &[]])?;
     assert_eq!(rt;
         entry_of(&rt, &w, 14, 17),
@@ -137,6 +157,7 @@ fn cells_apart(rt: HostRuntime) -> Result<(), Fail> {
         }
     );
     let x = tree_of(alloc, &[(1, "charge 8 0 1\n"), (9, "target 0 0\n")])?;
+    assert_eq!(rt; x.find(Cell::of(0, 0, 14)), Some(15));
     lists_are(&rt, alloc, &x, [0, 0, 0, 1], 15, [&[], &[], &[], &[14]])?;
     assert_eq!(rt;
         entry_of(&rt, &x, 17, 14),

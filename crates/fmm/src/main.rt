@@ -2,7 +2,7 @@
 #![tactic(auto)]
 
 use fmm_program::{Opening, Status, Words, plan, run};
-use io_ports::{BrokenSource, DropSink, ReadSource, Source, SureSource};
+use io_ports::{BrokenSource, DropSink, ReadSource, Sink, Source, SureSource, WriteSink};
 use std::fs::File;
 use std::process::ExitCode;
 use std::{env, io};
@@ -22,28 +22,74 @@ fn words(rt: &HostRuntime) -> Option<Words> {
 }
 
 /// Runs the command over this source of points.
-fn answer<A: Source>(rt: &HostRuntime, words: &Words, points: &mut A) -> Status {
+fn answer<A: Source, O: Sink>(
+    rt: &HostRuntime,
+    words: &Words,
+    points: &mut A,
+    out: &mut O,
+) -> Status {
     run(
         rt.alloc(),
         words,
         points,
         &mut SureSource::new(Vec::new(rt.alloc())),
-        &mut io_ports::WriteSink::new(rt.stdout()),
+        out,
         &mut DropSink,
     )
+}
+
+/// Opens what the words name, and carries them out.
+fn carry_out<O: Sink>(rt: &HostRuntime, words: &Words, out: &mut O) -> Status {
+    match plan(words) {
+        Opening::Nothing => {
+            let mut nothing = SureSource::new(Vec::new(rt.alloc()));
+            answer(rt, words, &mut nothing, out)
+        }
+        Opening::SolveInput => answer(rt, words, &mut ReadSource::new(rt.stdin()), out),
+        Opening::SolveFile { file } => match File::open(rt, file) {
+            Ok(file) => answer(rt, words, &mut ReadSource::new(file), out),
+            Err(_) => answer(rt, words, &mut BrokenSource::new(), out),
+        },
+    }
 }
 
 fn main(rt: HostRuntime) -> ExitCode {
     let Some(words) = words(&rt) else {
         return ExitCode::from(Status::Memory as u8);
     };
-    let status = match plan(&words) {
-        Opening::Nothing => answer(&rt, &words, &mut SureSource::new(Vec::new(rt.alloc()))),
-        Opening::SolveInput => answer(&rt, &words, &mut ReadSource::new(rt.stdin())),
-        Opening::SolveFile { file } => match File::open(&rt, file) {
-            Ok(file) => answer(&rt, &words, &mut ReadSource::new(file)),
-            Err(_) => answer(&rt, &words, &mut BrokenSource::new()),
-        },
-    };
+    let status = carry_out(&rt, &words, &mut WriteSink::new(rt.stdout()));
     ExitCode::from(status as u8)
+}
+
+#[cfg(test)]
+mod tests {
+    use super::*;
+    use io_ports::MemSink;
+    use std::fs;
+    use std::test::Fail;
+
+    #[test]
+    fn files_are_opened(rt: HostRuntime) -> Result<(), Fail> {
+        let alloc = rt.alloc();
+        fs::write(&rt, "points.txt", "fmm 1 field\ncharge 0 0 1\ntarget 1 0\n")?;
+        let table: [(&str, Status, &[u8]); 2] = [
+            (
+                "points.txt",
+                Status::Done,
+                b"fmm report 1 field order 8 cap 8\ntarget 1 0 re 1.000000000000 1.000000000000 im 0.000000000000 0.000000000000\nwork translations 0 pairs 1\nend\n",
+            ),
+            ("no such file", Status::ReadFault, b""),
+        ];
+        for (file, status, written) in table {
+            let mut words = Words::new(alloc);
+            for word in ["solve", "8", "8", file] {
+                words.push(alloc, word)?;
+            }
+            let mut out = MemSink::with_room(alloc, 4096, 64, Vec::new(alloc))?;
+            assert_eq!(rt; carry_out(&rt, &words, &mut out), status);
+            assert_eq!(rt; out.held(), written);
+        }
+        fs::remove_file(&rt, "points.txt")?;
+        Ok(())
+    }
 }

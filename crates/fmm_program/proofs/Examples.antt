@@ -7,6 +7,8 @@ use Rattle.particle_text.specs.declared.Mode.TheVariants.{Field, Velocity}
 use Rattle.particle_text.specs.declared.Point.{Point}
 use Rattle.field_report.specs.Decimals.{digits_in}
 use Rattle.field_report.specs.Report.{line_feed}
+use Rattle.exact_math.specs.Gaussian.{gaussian}
+use Rattle.near_field.specs.DirectSum.{direct_sum}
 use Rattle.fmm_program.specs.OneLeaf.{leaf_report}
 
 abbrev at : ℤ → ℤ → Kind → Point
@@ -72,6 +74,12 @@ alone : leaf_report Field (at (pos 0) (pos 0) Target ∷ []) 8 8
 unfolding digits digits_in
 alone = refl
 
+-- a charge alone
+unasked : leaf_report Field (at (pos 0) (pos 0) (Charge (pos 1)) ∷ []) 8 8
+    ≡ codes "fmm report 1 field order 8 cap 8" ++ line_feed ++ codes "work translations 0 pairs 0" ++ line_feed ++ codes "end" ++ line_feed
+unfolding digits digits_in
+unasked = refl
+
 -- strengths that cancel
 cancel : leaf_report Field (at (pos 0) (pos 0) (Charge (pos 1048576)) ∷ at (pos 1) (pos 0) (Charge (negsuc 1048575)) ∷ at (pos 100) (pos 0) Target ∷ []) 8 8
     ≡ codes "fmm report 1 field order 8 cap 8" ++ line_feed
@@ -90,3 +98,13 @@ seven : leaf_report Field (unit ∷ unit ∷ unit ∷ unit ∷ unit ∷ unit ∷
     ++ codes "work translations 0 pairs 7" ++ line_feed ++ codes "end" ++ line_feed
 unfolding digits digits_in
 seven = refl
+
+-- ---- exact sums: 1/(3 + 4i), 1/(2i)^2, and nothing at one place
+sum_of_a_charge : direct_sum (gaussian (pos 3) (pos 4)) (at (pos 0) (pos 0) (Charge (pos 1)) ∷ []) ≡ record { re = pos 3; im = negsuc 3; denominator = pos 25 }
+sum_of_a_charge = refl
+
+sum_of_a_dipole : direct_sum (gaussian (pos 0) (pos 2)) (at (pos 0) (pos 0) (Dipole (pos 1) (pos 0)) ∷ []) ≡ record { re = negsuc 3; im = pos 0; denominator = pos 16 }
+sum_of_a_dipole = refl
+
+sum_at_one_place : direct_sum (gaussian (pos 5) (pos 5)) (at (pos 5) (pos 5) (Charge (pos 7)) ∷ []) ≡ record { re = pos 0; im = pos 0; denominator = pos 1 }
+sum_at_one_place = refl

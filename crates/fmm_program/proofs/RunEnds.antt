@@ -1,7 +1,8 @@
 -- How runs end: from what the calls answered to the answers of a run.
-use Rattle.std.proofs.Common.{◌≡◌, ◌∙◌, subst, sym, refl, ℕ, ◌≤◌, ◌<◌, List, length, length-append, ap, arith, inl, inr, Some, None, IfSome}
+use Rattle.std.proofs.Common.{◌≡◌, ◌∙◌, subst, sym, refl, ℕ, ◌≤◌, ◌<◌, List, [], ◌++◌, append-nil, length, length-append, ap, arith, inl, inr, Some, None, IfSome}
 use Rattle.std.specs.Io.KnownBytes.{Consumes}
 use Rattle.std.specs.declared.option.Option.{Option}
+use Rattle.io_ports.specs.Bytes.{GivesAll}
 use Rattle.particle_text.specs.Faults.{FirstFault}
 use Rattle.particle_text.specs.Text.{Spells}
 use Rattle.particle_text.specs.declared.Mode.{Mode}
@@ -40,6 +41,15 @@ module _ (order cap : ℕ) (before after : Option (List ℕ)) where
     where
       longer : most_input < length xs
       longer = let e = ap length p ∙ length-append bytes ys in omega arith
+
+  -- the same where the source tells nothing
+  pub long_came : (status : Status) (bytes : List ℕ) → most_input < length bytes → RefusalEnds status before after long_line → SolveEnds order cap bytes status before after
+  long_came status bytes l r = refused_ends bytes status long_line (inl (record { long = l; line = refl })) r
+
+-- what was left came, all of it
+pub all_came : (left rest : Option (List ℕ)) (bytes : List ℕ) → GivesAll left rest bytes → Consumes left rest bytes
+all_came None rest bytes g = tt
+all_came (Some xs) rest bytes g = subst (λ r. Consumes (Some xs) r bytes) (sym g.1) (sym g.0 ∙ sym (append-nil bytes))
 
 -- the text fits one leaf
 pub solved : (order cap : ℕ) (input : List ℕ) (mode : Mode) (points list : List Point) → length input ≤ most_input → Spells input mode points → list ≡ points → length list ≤ cap → IsSolved order cap input (leaf_report mode list order cap)

@@ -114,10 +114,11 @@ pub record LineContains (mode : Mode) (points : List Point) (t : Point) (line : 
   pub y : line.y ≡ t.y
   pub sum : CountsContain mode line.counts (direct_sum (place t) points)
 
--- The input spells points, and the bytes are a report with one line for each target, in order, whose counts contain the exact direct sum.
+-- The input is within its limit and spells points, and the bytes are a report with one line for each target, in order, whose counts contain the exact direct sum.
 pub record IsCertified (order cap : ℕ) (input out : List ℕ) : Type 0 where
   pub mode : Mode
   pub points : List Point
+  pub within : length input ≤ most_input
   pub spelled : Spells input mode points
   pub lines : List TargetLine
   pub pairs : ℕ

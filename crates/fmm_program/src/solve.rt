@@ -95,14 +95,16 @@ pub(crate) fn solve<A: Source, O: Sink>(
 ) -> Status
     requires { IsCapacity cap }
     ensures ends { IfSome (A.left points.old) (λ input. SolveEnds order cap input result (O.held out.old) (O.held out.new)) }
+    ensures came { (input : List ℕ) × Consumes (A.left points.old) (A.left points.new) input × SolveEnds order cap input result (O.held out.old) (O.held out.new) }
     ensures status { IsSolveStatus result }
     ensures read { result ≡ Status.ReadFault → Rose (A.faults points.old) (A.faults points.new) }
     ensures write { result ≡ Status.WriteFault → Rose (O.faults out.old) (O.faults out.new) }
     ensures silent { (result ≡ Status.Memory) ⊎ (result ≡ Status.ReadFault) → O.held out.new ≡ O.held out.old }
 
-    // What was read: all of it where the command was carried out, and never more than 4096 bytes past the limit.
+    // What was read: all of it where the command was carried out, never more than 4096 bytes past the limit, and nothing past it before a read fault.
     ensures whole { result ≡ Status.Done → IfSome (A.left points.old) (λ _. A.left points.new ≡ Some []) }
-    ensures taken { (bytes : List ℕ) × Consumes (A.left points.old) (A.left points.new) bytes × (length bytes ≤ most_input + 4096) }
+    ensures taken { (bytes : List ℕ) × Consumes (A.left points.old) (A.left points.new) bytes × (length bytes ≤ most_input + 4096)
+        × (result ≡ Status.ReadFault → length bytes ≤ most_input) }
 {
     match read_all(alloc, points, MOST_INPUT) {
         Ok(bytes) => answer_text(alloc, order, cap, &bytes, out),

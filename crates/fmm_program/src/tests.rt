@@ -1,12 +1,14 @@
 //! Worked examples through the top call, with ports in memory.
+ghost use Rattle.std.specs.Prelude.{◌<◌};
+
 use crate::{Opening, Status, Words, plan, run};
-use io_ports::{DropSink, MemSink, MemSource, SureSource};
+use io_ports::{BrokenSink, BrokenSource, DropSink, MemSink, MemSource, SureSource};
 use std::alloc::Global;
 use std::process::Abort;
 use std::test::Fail;
 
-/// The words `solve ORDER CAP FILE`.
-fn solve_words(alloc: Global, words: &[&str]) -> Result<Words, Fail> {
+/// A list of these words.
+fn words_of(alloc: Global, words: &[&str]) -> Result<Words, Fail> {
     let mut list = Words::new(alloc);
     for word in words {
         list.push(alloc, word)?;
@@ -14,44 +16,68 @@ fn solve_words(alloc: Global, words: &[&str]) -> Result<Words, Fail> {
     Ok(list)
 }
 
-/// Runs the words on a text with a sink of this room, and compares what it wrote and how it ended.
+/// The ports of a run: the most that one read gives and one write takes, and the numbers of those that fail.
+#[derive(Clone, Copy)]
+struct Ports<'a> {
+    step: usize,
+    failing_reads: &'a [u64],
+    failing_writes: &'a [u64],
+}
+
+/// Ports that never fail.
+const SURE: Ports<'static> = Ports {
+    step: 4096,
+    failing_reads: &[],
+    failing_writes: &[],
+};
+
+/// Runs the words on a text, and compares how it ended and what it wrote. Nothing is read or written beside that.
 fn expect(
     rt: &impl Abort,
     alloc: Global,
     words: &[&str],
     text: &[u8],
-    failing: &[u64],
+    ports: Ports<'_>,
     status: Status,
     written: &[u8],
-) -> Result<(), Fail> {
-    let words = solve_words(alloc, words)?;
+) -> Result<(), Fail>
+    requires { 0 < ports.step }
+{
+    let words = words_of(alloc, words)?;
     let bytes = Vec::from_slice(alloc, text)?;
-    let failing = Vec::from_slice(alloc, failing)?;
-    let mut points = MemSource::new(bytes, 7, failing);
-    let mut out = MemSink::with_room(alloc, 4096, 5, Vec::new(alloc))?;
+    let failing_reads = Vec::from_slice(alloc, ports.failing_reads)?;
+    let failing_writes = Vec::from_slice(alloc, ports.failing_writes)?;
+    let mut points = MemSource::new(bytes, ports.step, failing_reads);
+    let mut out = MemSink::with_room(alloc, 4096, ports.step, failing_writes)?;
     let mut nothing = SureSource::new(Vec::new(alloc));
+    let mut cert_out = MemSink::with_room(alloc, 4096, ports.step, Vec::new(alloc))?;
     let answer = run(
         alloc,
         &words,
         &mut points,
         &mut nothing,
         &mut out,
-        &mut DropSink,
+        &mut cert_out,
     );
     assert_eq!(rt; answer, status);
     assert_eq!(rt; out.held(), written);
+    assert_eq!(rt; cert_out.held(), b"".as_slice());
     Ok(())
 }
 
 const SOLVE: [&str; 4] = ["solve", "8", "8", "-"];
 
+const SOLVE_WIDE: [&str; 4] = ["solve", "8", "1024", "-"];
+
+const ONE_PAIR: &[u8] = b"fmm 1 field\ncharge 0 0 1\ntarget 3 4\n";
+
+const ONE_PAIR_REPORT: &[u8] =
+    b"fmm report 1 field order 8 cap 8\ntarget 3 4 re 0.119999999999 0.120000000001 im -0.160000000001 -0.159999999999\nwork translations 0 pairs 1\nend\n";
+
 #[test]
 fn reports(rt: HostRuntime) -> Result<(), Fail> {
-    let table: [(&[u8], &[u8]); 9] = [
-        (
-            b"fmm 1 field\ncharge 0 0 1\ntarget 3 4\n",
-            b"fmm report 1 field order 8 cap 8\ntarget 3 4 re 0.119999999999 0.120000000001 im -0.160000000001 -0.159999999999\nwork translations 0 pairs 1\nend\n",
-        ),
+    let table: [(&[u8], &[u8]); 11] = [
+        (ONE_PAIR, ONE_PAIR_REPORT),
         (
             b"fmm 1 field\ncharge 0 0 1\ntarget 1 0\n",
             b"fmm report 1 field order 8 cap 8\ntarget 1 0 re 1.000000000000 1.000000000000 im 0.000000000000 0.000000000000\nwork translations 0 pairs 1\nend\n",
@@ -77,6 +103,14 @@ fn reports(rt: HostRuntime) -> Result<(), Fail> {
             b"fmm report 1 field order 8 cap 8\nwork translations 0 pairs 0\nend\n",
         ),
         (
+            b"fmm 1 field\ntarget 0 0\n",
+            b"fmm report 1 field order 8 cap 8\ntarget 0 0 re 0.000000000000 0.000000000000 im 0.000000000000 0.000000000000\nwork translations 0 pairs 0\nend\n",
+        ),
+        (
+            b"fmm 1 field\ncharge 0 0 1\n",
+            b"fmm report 1 field order 8 cap 8\nwork translations 0 pairs 0\nend\n",
+        ),
+        (
             b"fmm 1 field\ncharge 0 0 1\ncharge 0 0 1\ncharge 0 0 1\ncharge 0 0 1\ncharge 0 0 1\ncharge 0 0 1\ncharge 0 0 1\ntarget 1 0\n",
             b"fmm report 1 field order 8 cap 8\ntarget 1 0 re 7.000000000000 7.000000000000 im 0.000000000000 0.000000000000\nwork translations 0 pairs 7\nend\n",
         ),
@@ -86,14 +120,24 @@ fn reports(rt: HostRuntime) -> Result<(), Fail> {
         ),
     ];
     for (text, report) in table {
-        expect(&rt, rt.alloc(), &SOLVE, text, &[], Status::Done, report)?;
+        expect(&rt, rt.alloc(), &SOLVE, text, SURE, Status::Done, report)?;
     }
-    Ok(())
+    // A step of one byte on all ports.
+    let bytewise = Ports { step: 1, ..SURE };
+    expect(
+        &rt,
+        rt.alloc(),
+        &SOLVE,
+        ONE_PAIR,
+        bytewise,
+        Status::Done,
+        ONE_PAIR_REPORT,
+    )
 }
 
 #[test]
 fn refusals(rt: HostRuntime) -> Result<(), Fail> {
-    let table: [(&[u8], &[u8]); 6] = [
+    let table: [(&[u8], &[u8]); 7] = [
         (
             b"fmm 1 field\ncharge 0 0 1048577\n",
             b"refused line 2 range\n",
@@ -101,6 +145,7 @@ fn refusals(rt: HostRuntime) -> Result<(), Fail> {
         (b"fmm 1 field\ncharge 0 0\n", b"refused line 2 syntax\n"),
         (b"fmm 1 field\nvortex 0 0 1\n", b"refused line 2 mixed\n"),
         (b"fmm 1 field\ncharge 00 0 1\n", b"refused line 2 syntax\n"),
+        (b"fmm 1 field\rcharge 0 0 1\n", b"refused line 1 syntax\n"),
         (b"", b"refused line 1 syntax\n"),
         (
             b"fmm 1 field\ntarget 0 0\ntarget 0 0\ntarget 0 0\ntarget 0 0\ntarget 0 0\ntarget 0 0\ntarget 0 0\ntarget 0 0\ntarget 0 0\n",
@@ -108,52 +153,159 @@ fn refusals(rt: HostRuntime) -> Result<(), Fail> {
         ),
     ];
     for (text, line) in table {
-        expect(&rt, rt.alloc(), &SOLVE, text, &[], Status::Refused, line)?;
+        expect(&rt, rt.alloc(), &SOLVE, text, SURE, Status::Refused, line)?;
     }
-    // A read that fails: nothing is written.
+    // A number of 400 digits is a number.
+    let mut text = Vec::from_slice(rt.alloc(), b"fmm 1 field\ntarget ")?;
+    for _ in 0..400 {
+        text.push(b'7')?;
+    }
+    text.extend_from_slice(b" 0\n")?;
+    let line = b"refused line 2 range\n";
+    expect(&rt, rt.alloc(), &SOLVE, &text, SURE, Status::Refused, line)
+}
+
+#[test]
+fn weights(rt: HostRuntime) -> Result<(), Fail> {
+    let mut text = Vec::from_slice(rt.alloc(), b"fmm 1 field\n")?;
+    for _ in 0..32 {
+        text.extend_from_slice(b"dipole 0 0 1048576 1048576\n")?;
+    }
+    let report = b"fmm report 1 field order 8 cap 1024\nwork translations 0 pairs 0\nend\n";
     expect(
         &rt,
         rt.alloc(),
-        &SOLVE,
-        b"fmm 1 field\ncharge 0 0 1\ntarget 3 4\n",
-        &[2],
-        Status::ReadFault,
-        b"",
+        &SOLVE_WIDE,
+        &text,
+        SURE,
+        Status::Done,
+        report,
     )?;
-    Ok(())
+    text.extend_from_slice(b"charge 0 0 1\n")?;
+    let line = b"refused line 34 strength\n";
+    expect(
+        &rt,
+        rt.alloc(),
+        &SOLVE_WIDE,
+        &text,
+        SURE,
+        Status::Refused,
+        line,
+    )
+}
+
+/// Nine charges and seven targets at each of 64 times 64 places: as many points as a list may have.
+fn full_list(alloc: Global) -> Result<Vec<u8>, Fail> {
+    let mut text = Vec::from_slice(alloc, b"fmm 1 field\n")?;
+    for i in 0..64u16 {
+        for j in 0..64u16 {
+            let x = 1024 * i32::from(i) - 32_768;
+            let y = 1024 * i32::from(j) - 32_768;
+            let charge = format!(in alloc; "charge {x} {y} 1\n")?;
+            for _ in 0..9 {
+                text.extend_from_slice(charge.as_bytes())?;
+            }
+            for east in [512u16, 256, 128, 64, 32, 16, 8] {
+                let target = format!(in alloc; "target {} {y}\n", x + i32::from(east))?;
+                text.extend_from_slice(target.as_bytes())?;
+            }
+        }
+    }
+    Ok(text)
+}
+
+#[test]
+fn many(rt: HostRuntime) -> Result<(), Fail> {
+    let mut text = full_list(rt.alloc())?;
+    let line = b"refused wide\n";
+    expect(&rt, rt.alloc(), &SOLVE, &text, SURE, Status::Refused, line)?;
+    text.extend_from_slice(b"target 0 0\n")?;
+    let line = b"refused line 65538 many\n";
+    expect(&rt, rt.alloc(), &SOLVE, &text, SURE, Status::Refused, line)
+}
+
+#[test]
+fn long(rt: HostRuntime) -> Result<(), Fail> {
+    // One byte more than an input may have.
+    let text = vec![in rt.alloc(); b'a'; 16_777_217]?;
+    let line = b"refused long\n";
+    expect(&rt, rt.alloc(), &SOLVE, &text, SURE, Status::Refused, line)
 }
 
 #[test]
 fn faults(rt: HostRuntime) -> Result<(), Fail> {
-    let words = solve_words(rt.alloc(), &SOLVE)?;
-    // One byte more than an input may have.
-    let mut points = SureSource::new(vec![in rt.alloc(); b'a'; 16_777_217]?);
+    for failing in [[1], [2]] {
+        let ports = Ports {
+            step: 7,
+            failing_reads: &failing,
+            ..SURE
+        };
+        expect(
+            &rt,
+            rt.alloc(),
+            &SOLVE,
+            ONE_PAIR,
+            ports,
+            Status::ReadFault,
+            b"",
+        )?;
+    }
+    let ports = Ports {
+        failing_writes: &[1],
+        ..SURE
+    };
+    expect(
+        &rt,
+        rt.alloc(),
+        &SOLVE,
+        ONE_PAIR,
+        ports,
+        Status::WriteFault,
+        b"",
+    )?;
+    // The first line takes seven writes of five bytes.
+    let ports = Ports {
+        step: 5,
+        failing_writes: &[8],
+        ..SURE
+    };
+    let head = b"fmm report 1 field order 8 cap 8\n";
+    expect(
+        &rt,
+        rt.alloc(),
+        &SOLVE,
+        ONE_PAIR,
+        ports,
+        Status::WriteFault,
+        head,
+    )
+}
+
+#[test]
+fn broken_ports(rt: HostRuntime) -> Result<(), Fail> {
+    let words = words_of(rt.alloc(), &SOLVE)?;
     let mut out = MemSink::with_room(rt.alloc(), 64, 64, Vec::new(rt.alloc()))?;
     let mut nothing = SureSource::new(Vec::new(rt.alloc()));
     let answer = run(
         rt.alloc(),
         &words,
-        &mut points,
+        &mut BrokenSource::new(),
         &mut nothing,
         &mut out,
         &mut DropSink,
     );
-    assert_eq!(rt; answer, Status::Refused);
-    assert_eq!(rt; out.held(), b"refused long\n".as_slice());
-    // A first write that fails.
-    let text = b"fmm 1 field\ncharge 0 0 1\ntarget 3 4\n";
-    let mut points = SureSource::new(Vec::from_slice(rt.alloc(), text)?);
-    let mut out = MemSink::with_room(rt.alloc(), 4096, 64, vec![in rt.alloc(); 1u64]?)?;
+    assert_eq!(rt; answer, Status::ReadFault);
+    assert_eq!(rt; out.held(), b"".as_slice());
+    let mut points = SureSource::new(Vec::from_slice(rt.alloc(), ONE_PAIR)?);
     let answer = run(
         rt.alloc(),
         &words,
         &mut points,
         &mut nothing,
-        &mut out,
+        &mut BrokenSink::new(),
         &mut DropSink,
     );
     assert_eq!(rt; answer, Status::WriteFault);
-    assert_eq!(rt; out.held(), b"".as_slice());
     Ok(())
 }
 
@@ -161,9 +313,11 @@ fn faults(rt: HostRuntime) -> Result<(), Fail> {
 fn usage(rt: HostRuntime) -> Result<(), Fail> {
     let line =
         b"usage: fmm solve ORDER CAP FILE [WORKERS] | check FILE | session ORDER CAP | sample SEED N ORDER CAP [WORKERS]\n";
-    let table: [&[&str]; 5] = [
+    let table: [&[&str]; 7] = [
         &["solve", "5", "8", "-"],
         &["solve", "8", "7", "-"],
+        &["solve", "8", "8", "-", "65"],
+        &["check", "-"],
         &["solve", "08", "8", "-"],
         &["solve", "8", "8"],
         &[],
@@ -174,16 +328,16 @@ fn usage(rt: HostRuntime) -> Result<(), Fail> {
             rt.alloc(),
             words,
             b"fmm 1 field\n",
-            &[],
+            SURE,
             Status::Usage,
             line,
         )?;
-        assert!(rt; matches!(plan(&solve_words(rt.alloc(), words)?), Opening::Nothing));
+        assert!(rt; matches!(plan(&words_of(rt.alloc(), words)?), Opening::Nothing));
     }
-    let words = solve_words(rt.alloc(), &SOLVE)?;
+    let words = words_of(rt.alloc(), &SOLVE)?;
     assert_eq!(rt; words.count(), 4);
     assert!(rt; matches!(plan(&words), Opening::SolveInput));
-    let words = solve_words(rt.alloc(), &["solve", "24", "1024", "points.txt"])?;
+    let words = words_of(rt.alloc(), &["solve", "24", "1024", "points.txt"])?;
     assert!(rt; matches!(plan(&words), Opening::SolveFile { file: "points.txt" }));
     Ok(())
 }

@@ -29,11 +29,15 @@ pub fn run<A: Source, B: Source, O: Sink, C: Sink>(
     // The certified solve.
     ensures certified { result ≡ Status.Done → IfSome (A.left points.old) (λ input. (order : ℕ) × (cap : ℕ) × (file : List ℕ) × (bytes : List ℕ) × IsSolve words.now order cap file
         × IsCertified order cap input bytes × Appends (O.held out.old) (O.held out.new) bytes) }
+    ensures certified_came { result ≡ Status.Done → (order : ℕ) × (cap : ℕ) × (file : List ℕ) × (input : List ℕ) × (bytes : List ℕ) × IsSolve words.now order cap file
+        × Consumes (A.left points.old) (A.left points.new) input × IsCertified order cap input bytes × Appends (O.held out.old) (O.held out.new) bytes }
     ensures whole { result ≡ Status.Done → IfSome (A.left points.old) (λ _. A.left points.new ≡ Some []) }
 
     // Each answer, and what goes out with it.
     ensures solve { (order cap : ℕ) (file : List ℕ) → IsSolve words.now order cap file
         → IfSome (A.left points.old) (λ input. SolveEnds order cap input result (O.held out.old) (O.held out.new)) }
+    ensures came { (order cap : ℕ) (file : List ℕ) → IsSolve words.now order cap file
+        → (input : List ℕ) × Consumes (A.left points.old) (A.left points.new) input × SolveEnds order cap input result (O.held out.old) (O.held out.new) }
     ensures complete { (order cap : ℕ) (file input : List ℕ) → IsSolve words.now order cap file → A.left points.old ≡ Some input → FitsLeaf cap input
         → (Rose (A.faults points.old) (A.faults points.new) → ⊥) → (Rose (O.faults out.old) (O.faults out.new) → ⊥) → (result ≡ Status.Done) ⊎ (result ≡ Status.Memory) }
     ensures usage { IsUsage words.now → UsageEnds result (O.held out.old) (O.held out.new) × (points.new ≡ points.old) }
@@ -46,7 +50,8 @@ pub fn run<A: Source, B: Source, O: Sink, C: Sink>(
     ensures write { result ≡ Status.WriteFault → Rose (O.faults out.old) (O.faults out.new) }
 
     // What was read, and what stays.
-    ensures taken { (bytes : List ℕ) × Consumes (A.left points.old) (A.left points.new) bytes × (length bytes ≤ most_input + 4096) }
+    ensures taken { (bytes : List ℕ) × Consumes (A.left points.old) (A.left points.new) bytes × (length bytes ≤ most_input + 4096)
+        × (result ≡ Status.ReadFault → length bytes ≤ most_input) }
     ensures cert_in { cert_in.new ≡ cert_in.old }
     ensures cert_out { cert_out.new ≡ cert_out.old }
 {

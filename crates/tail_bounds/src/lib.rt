@@ -2,7 +2,8 @@
 //!
 //! What the expansions of order `P` leave of one source is, in each part, at most its weight times a tail over the side of
 //! the cell. The weight of a pole `a` is `|a|` and that of a dipole `b` is `2 P |b|`, with `|re| + |im|` for the size of a
-//! complex number. The ratios 17/31 and 17/36 bound those of the offsets to the distances in this project's own account.
+//! complex number. An offset is at most 17/36 of the distance to a far place, and at most 17/48 of that between two
+//! cells, where 17/31 is 17/48 over 1 - 17/48: this project's own account.
 #![tactic(auto)]
 
 ghost use Rattle.std.specs.Prelude.{◌≡◌, ◌≤◌, pos, unsigned_abs};

@@ -1,8 +1,8 @@
 -- The descent of two leaves of the tree names an entry of the tree.
-use Rattle.std.proofs.Common.{◌≡◌, ◌≤◌, refl, arith}
+use Rattle.std.proofs.Common.{◌≡◌, ◌≤◌, refl, arith, lit<}
 use Rattle.cell_name.specs.Cell.{square}
 use Rattle.quadtree.specs.TreeModel.{square_of}
-use Rattle.cell_lists.proofs.OneEntry.{roots_touch}
+use Rattle.cell_lists.proofs.OneEntry.{roots_touch, only_entry}
 use Rattle.cell_lists.proofs.TreeNumbers.{tree_cell_at, read_at, case_levels, entry_named, Holds-ancestor}
 use Rattle.cell_lists.proofs.walk.first_apart.Goals as goal
 
@@ -48,3 +48,8 @@ returns-clause-accounts c target source h =
       target_held = Holds-ancestor (square_of tree c.args.b) _ c.descend-stop.result.first target.x target.y c.ancestor_number.ensures.ancestor levels.0 up_b h.target_held;
       source_held = Holds-ancestor (square_of tree c.args.c) _ c.descend-stop.result.second source.x source.y c.ancestor_number-2.ensures.ancestor levels.1 up_c h.source_held;
     }
+
+pub returns-clause-only : goal.returns-clause-only
+returns-clause-only c points cap inside is_tree target source given held =
+    let tree = c.args.tree.now in
+    only_entry 16 points cap c.descend-stop.result.letter (square_of tree c.ancestor_number.result) (square_of tree c.ancestor_number-2.result) target source (lit< tt) inside given (returns-clause-entry c points cap inside is_tree) (returns-clause-accounts c target source held)

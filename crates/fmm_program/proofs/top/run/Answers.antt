@@ -2,11 +2,20 @@ use Rattle.std.proofs.Common.{subst}
 use Rattle.fmm_program.specs.Answers.{FitsLeaf}
 use Rattle.fmm_program.proofs.Commands.{one_capacity}
 use Rattle.fmm_program.proofs.Complete.{completes, told}
-use Rattle.fmm_program.proofs.Certified.{certified_ends}
+use Rattle.fmm_program.proofs.Certified.{certified_came, certified_ends}
 use Rattle.fmm_program.proofs.top.run.Goals as goal
 
 pub returns-in-Some-clause-certified : goal.returns-in-Some-clause-certified
 returns-in-Some-clause-certified g c done = certified_ends _ _ _ _ _ _ _ _ c.in-Some.ensures.some done c.solve.ensures.ends
+
+pub returns-in-Some-clause-certified_came : goal.returns-in-Some-clause-certified_came
+returns-in-Some-clause-certified_came g c done = certified_came _ _ _ _ _ _ _ _ _ c.in-Some.ensures.some done c.solve.ensures.came
+
+pub returns-in-Ok-clause-came : goal.returns-in-Ok-clause-came
+returns-in-Ok-clause-came g c order cap file form = absurd (c.in-None.ensures.none order cap file form)
+
+pub returns-in-Err-clause-came : goal.returns-in-Err-clause-came
+returns-in-Err-clause-came g c order cap file form = absurd (c.in-None.ensures.none order cap file form)
 
 pub returns-in-Ok-clause-solve : goal.returns-in-Ok-clause-solve
 returns-in-Ok-clause-solve g c order cap file form = absurd (c.in-None.ensures.none order cap file form)

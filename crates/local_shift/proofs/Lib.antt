@@ -1,0 +1,4 @@
+pub mod FourBoxes
+pub mod RoundSteps
+pub mod Sums
+pub mod Turns
