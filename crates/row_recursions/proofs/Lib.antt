@@ -19,6 +19,7 @@ pub mod Points
 pub mod RowSizes
 pub mod RowWrites
 pub mod Sides
+pub mod Turns
 pub mod UpRows
 pub mod Values
 pub mod Worked
