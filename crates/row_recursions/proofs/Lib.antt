@@ -10,6 +10,7 @@ pub mod FarLaws
 pub mod FarPlaces
 pub mod FarRows
 pub mod FieldLaws
+pub mod Geometry
 pub mod Halves
 pub mod KernelRows
 pub mod LinearFunctionals
