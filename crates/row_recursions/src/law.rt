@@ -1,7 +1,7 @@
 //! The laws of rows. Nothing here runs: each law is the contract of a function with an empty body.
 ghost use Rattle.row_recursions.specs.Geometry.{HeldPlaces, PairsOfCells, FarPlaces, QuartersOfCells};
 ghost use Rattle.row_recursions.specs.Laws.{NoMoments, SourceMoments, SumOfMoments, MomentsUp, MultipoleValues, NoField, SumOfFields, FieldConverted, FieldOfSource, FieldDown, LocalValues};
-ghost use Rattle.row_recursions.specs.Sizes.{MomentSizes, UpSizes, FarSizes, DownSizes, LocalValueSizes, MultipoleValueSizes};
+ghost use Rattle.row_recursions.specs.Sizes.{MomentSizes, UpSizes, ConvertedSizes, FarSizes, DownSizes, LocalValueSizes, MultipoleValueSizes};
 
 /// What multipole rows contain: of no source, of one source, of the sources of two rows, about the parent's centre, and their values.
 ///
@@ -27,10 +27,12 @@ pub fn local_rows()
 {}
 
 /// How large the ends of rows are. An offset is at most its side and a far offset at least 3 sides in one part, so each factor of a
-/// recursion is at most 1 in the size `|re| + |im|`, and a quotient by `d` of what is at most `d n` is at most `n`, rounded or not.
+/// recursion is at most 1 in the size `|re| + |im|`, and a quotient by `d` of what is at most `d n` is at most `n`, rounded or not. The
+/// kernel is at most `C(k + l, k)/2^(k + l + 1)` in modulus, and these sum up to 1 at most over `k`.
 pub fn row_sizes()
     ensures moments { MomentSizes }
     ensures up { UpSizes }
+    ensures converted { ConvertedSizes }
     ensures source { FarSizes }
     ensures down { DownSizes }
     ensures local_value { LocalValueSizes }
