@@ -1,5 +1,9 @@
 -- What the proofs of this crate rest on.
 pub mod Boxes
 pub mod Choices
+pub mod Fields
+pub mod Losses
+pub mod Multipoles
 pub mod Nodes
 pub mod Places
+pub mod Terms
