@@ -1,6 +1,7 @@
 -- What the proofs of this crate rest on.
 pub mod Boxes
 pub mod Choices
+pub mod Entries
 pub mod Fields
 pub mod Losses
 pub mod Multipoles
