@@ -1,5 +1,5 @@
 -- What the rows and values of one entry hold, and how near the terms of its sources are to their cut terms.
-use Rattle.std.proofs.Common.{◌≡◌, sym, ap, subst, subst₂, ◌∙◌, ℕ, zero, suc, ◌*◌, ◌^◌, ◌≤◌, arith, List, get_or}
+use Rattle.std.proofs.Common.{◌≡◌, sym, ap, subst, ◌∙◌, ℕ, ◌*◌, ◌^◌, ◌≤◌, arith, List, get_or}
 use Rattle.std.specs.Prelude.{pos, All, sum_by}
 use Rattle.std.proofs.lemmas.List.Elements.{All-map}
 use Rattle.exact_math.specs.Ends.{BoxEnds}
@@ -24,7 +24,7 @@ use Rattle.row_recursions.proofs.ConvertLaws.{field_converted}
 use Rattle.row_recursions.proofs.FarLaws.{field_of_source}
 use Rattle.row_recursions.proofs.MomentLaws.{multipole_values}
 use Rattle.row_recursions.proofs.Points.{place_of-source}
-use Rattle.truncation.specs.Entries.{Source, weight, pair_cut, multipole_cut, local_cut}
+use Rattle.truncation.specs.Entries.{weight, pair_cut, multipole_cut, local_cut}
 use Rattle.truncation.specs.Places.{GaussianWithin, GaussianBeyond, doubled_offset}
 use Rattle.truncation.specs.Tails.{ceiling, pair_tail, single_tail}
 use Rattle.truncation.proofs.EntryBounds.{pair_entries, multipole_entries, local_entries}

@@ -1,7 +1,7 @@
 -- A local row that holds a field, whose values are given as complex numbers in units of 2^-40.
 use Rattle.std.proofs.Common.{◌≡◌, refl, sym, ap, ap₂, subst, ◌∙◌, ℕ, suc, ◌^◌, arith, List}
-use Rattle.std.specs.Prelude.{pos, ◌<ℤ◌, [], ◌∷◌, fold, All}
-use Rattle.exact_math.specs.Ends.{BoxEnds, zero_box, add_box, BoxEndsContain}
+use Rattle.std.specs.Prelude.{pos, [], ◌∷◌, fold, All}
+use Rattle.exact_math.specs.Ends.{BoxEnds, zero_box, add_box}
 use Rattle.exact_math.specs.Gaussian.{Gaussian}
 use Rattle.exact_math.specs.Ratio.{ComplexRatio, zero_complex, add_complex}
 use Rattle.exact_math.proofs.RingTactic.{quotes, ring1}

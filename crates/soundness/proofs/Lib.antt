@@ -6,5 +6,7 @@ pub mod Fields
 pub mod Losses
 pub mod Multipoles
 pub mod Nodes
+pub mod Paths
 pub mod Places
+pub mod Targets
 pub mod Terms

@@ -1,6 +1,6 @@
 -- What truncation cuts off the terms of all sources of an entry is at most its radius.
 use Rattle.std.proofs.Common.{◌≡◌, sym, ap, subst, subst₂, ◌∙◌, zero, suc, arith, List, get_or}
-use Rattle.std.specs.Prelude.{ℕ, ◌+◌, ◌*◌, ◌^◌, ◌≤◌, ℤ, pos, neg_ℤ, ◌<ℤ◌, [], ◌∷◌, map, All, sum_by}
+use Rattle.std.specs.Prelude.{ℕ, ◌+◌, ◌*◌, ◌^◌, ◌≤◌, ℤ, pos, neg_ℤ, ◌<ℤ◌, [], ◌∷◌, All, sum_by}
 use Rattle.std.proofs.lemmas.Int.{ints}
 use Rattle.std.proofs.lemmas.List.Elements.{All-map}
 use Rattle.std.proofs.lemmas.List.Sums.{sum_by_from, sum_by-cons}
@@ -12,7 +12,7 @@ use Rattle.exact_math.specs.Sums.{sum_terms}
 use Rattle.exact_math.proofs.Ring.{int_ring}
 use Rattle.exact_math.proofs.RingTactic.{quotes, int_quotes, ring1, ring3}
 use Rattle.exact_math.proofs.Sums.{sum_list}
-use Rattle.exact_math.proofs.ComplexRationals.{ℂ, complex_rationals, ◌*ℂ◌, ◌-ℂ◌}
+use Rattle.exact_math.proofs.ComplexRationals.{complex_rationals, ◌*ℂ◌}
 use Rattle.exact_math.proofs.Fractions.{complex_value, Stands-itself, Stands-sub}
 use Rattle.exact_math.proofs.BoxEnclosures.{EnclosesBox, enclosed_from_contained}
 use Rattle.exact_math.proofs.Bridges.{contains-units}

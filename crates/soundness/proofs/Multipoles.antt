@@ -1,6 +1,6 @@
 -- Each given multipole row contains the moments of the sources under its node.
-use Rattle.std.proofs.Common.{◌≡◌, sym, ap, subst, ◌∙◌, ℕ, zero, suc, ◌+◌, ◌<◌, ◌≤◌, arith, Bool, true, false, List, get_or}
-use Rattle.std.specs.Prelude.{pos, ◌^◌, ◌==◌, nat_lt, [], ◌∷◌, ◌++◌, filter, All}
+use Rattle.std.proofs.Common.{◌≡◌, sym, ap, subst, ◌∙◌, ℕ, zero, suc, ◌+◌, ◌<◌, ◌≤◌, arith, true, false, List, get_or}
+use Rattle.std.specs.Prelude.{pos, ◌^◌, ◌==◌, nat_lt, [], ◌∷◌, All}
 use Rattle.std.specs.List.{range_with_len}
 use Rattle.std.proofs.lemmas.List.FromFn.{length-range_with_len, get_or-range_with_len}
 use Rattle.std.proofs.lemmas.List.Elements.{All-filter, filter_passes}
@@ -8,7 +8,7 @@ use Rattle.std.proofs.lemmas.Bool.{ltb-true, eqb-true, cases_Bool, and_parts, tr
 use mathlib.Core.Logic.{⊎_elim}
 use Rattle.exact_math.specs.Ends.{BoxEnds}
 use Rattle.exact_math.specs.Gaussian.{Gaussian}
-use Rattle.exact_math.proofs.Sums.{sum_list, sum_list-congruence, sum_list-mul}
+use Rattle.exact_math.proofs.Sums.{sum_list, sum_list-mul}
 use Rattle.exact_math.proofs.ListSums.{sum_list-map}
 use Rattle.exact_math.proofs.ComplexRationals.{ℂ, complex_rationals, ◌*ℂ◌}
 use Rattle.exact_math.proofs.BoxEnclosures.{EnclosesBox, enclosed_from_contained, contained_from_enclosed}
@@ -22,7 +22,6 @@ use Rattle.row_recursions.specs.Rows.{source_moment, shifted_up}
 use Rattle.row_recursions.specs.Sources.{source_at}
 use Rattle.row_recursions.proofs.BoxSums.{units}
 use Rattle.row_recursions.proofs.MomentLaws.{exact_of, Stands-moment, source_moments, moments_up}
-use Rattle.truncation.specs.Entries.{Source}
 use Rattle.truncation.specs.Places.{doubled_offset}
 use Rattle.soundness.specs.Squares.{centre, quadrant, IsQuarter}
 use Rattle.soundness.specs.Accounts.{LeafSource, Accounting, is_child, is_leaf, children, sources_under}

@@ -11,7 +11,7 @@ use Rattle.cell_name.specs.Square.{Square, side, parent, doubled_centre_x, doubl
 use Rattle.cell_name.proofs.Distances.{same_side, centres_differ}
 use Rattle.near_field.proofs.PairContains.{norm_positive_re, norm_positive_im}
 use Rattle.row_recursions.specs.Cells.{sign}
-use Rattle.truncation.specs.Places.{GaussianWithin, GaussianBeyond, times_side}
+use Rattle.truncation.specs.Places.{GaussianBeyond, times_side}
 use Rattle.soundness.specs.Squares.{centre, quadrant, sides_between, IsQuarter, IsIn, AreApartCells}
 use Rattle.soundness.specs.Accounts.{under}
 use Rattle.soundness.proofs.Nodes.{strong, under-root, under-parent}

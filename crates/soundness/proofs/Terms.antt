@@ -1,16 +1,14 @@
 -- The terms of points at a place, 0 for a point at that place: pairs hold them, the direct sum is their sum, and what truncation compares is made of them.
-use Rattle.std.proofs.Common.{◌≡◌, refl, sym, ap, ap₂, subst, subst₂, ◌∙◌, zero, suc, arith, Bool, true, false, cond, not, ◌&&◌, List, get_or}
-use Rattle.std.specs.Prelude.{ℕ, ℤ, pos, ◌+ℤ◌, ◌-ℤ◌, ◌*ℤ◌, ◌<ℤ◌, ◌^◌, [], ◌∷◌, map, filter, All, if◌then◌else◌}
+use Rattle.std.proofs.Common.{◌≡◌, refl, sym, ap, ap₂, subst, subst₂, ◌∙◌, arith, Bool, true, false, cond, not, ◌&&◌, List, get_or}
+use Rattle.std.specs.Prelude.{ℤ, pos, ◌+ℤ◌, ◌-ℤ◌, ◌*ℤ◌, ◌<ℤ◌, ◌^◌, [], ◌∷◌, map, All, if◌then◌else◌}
 use Rattle.std.specs.Ordering.{int_eq}
 use Rattle.std.proofs.lemmas.Int.{ints}
 use Rattle.std.proofs.lemmas.Bool.{and_parts}
 use Rattle.std.proofs.lemmas.Bool.Decides.{Decides-int_eq}
 use Rattle.std.proofs.lemmas.List.Elements.{All-map, filter_passes}
 use Rattle.exact_math.specs.Ends.{zero_box}
-use Rattle.exact_math.specs.Gaussian.{Gaussian, gaussian, sub_gaussian, norm_gaussian}
-use Rattle.exact_math.specs.Ratio.{ComplexRatio, zero_complex}
+use Rattle.exact_math.specs.Gaussian.{Gaussian, sub_gaussian, norm_gaussian}
 use Rattle.exact_math.specs.Sums.{sum_terms}
-use Rattle.exact_math.specs.Terms.{pole_term}
 use Rattle.exact_math.proofs.RingTactic.{quotes, ring1}
 use Rattle.exact_math.proofs.Sums.{sum_list, sum_list-congruence, sum_list-mul}
 use Rattle.exact_math.proofs.ListSums.{sum_list-congruence_all, sum_list-map, sum_list-filter}

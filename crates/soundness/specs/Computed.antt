@@ -14,7 +14,7 @@ use Rattle.row_recursions.specs.Sources.{source_of}
 use Rattle.truncation.specs.Entries.{weight}
 use Rattle.truncation.specs.Tails.{ceiling, pair_tail, single_tail}
 use Rattle.soundness.specs.Squares.{offset, quadrant, sides_between}
-use Rattle.soundness.specs.Accounts.{LeafSource, LeafTarget, Accounting, children, sources_under, entries_of}
+use Rattle.soundness.specs.Accounts.{LeafTarget, Accounting, children, sources_under, entries_of}
 
 -- the sum of the boxes of all members, from zero on
 abbrev pub total_box : {A : Type 0} → (A → BoxEnds) → List A → BoxEnds

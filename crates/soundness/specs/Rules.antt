@@ -1,9 +1,8 @@
 -- The rules of an accounting: each given row, radius and box includes what the method computes from the others that are given, each entry has its places apart, and
 -- each source is accounted for exactly once.
-use Rattle.std.specs.Prelude.{ℕ, ◌≡◌, ◌<◌, ◌≤◌, true, false, List, All}
+use Rattle.std.specs.Prelude.{ℕ, ◌≡◌, ◌<◌, ◌≤◌, true, false, All}
 use Rattle.std.specs.List.{count_by}
 use Rattle.exact_math.specs.Ends.{BoxEnds, BoxEndsInside}
-use Rattle.exact_math.specs.Gaussian.{Gaussian}
 use Rattle.cert_text.specs.declared.Letter.{Letter}
 use Rattle.cert_text.specs.declared.Letter.TheVariants.{U, V, W, X}
 use Rattle.particle_text.specs.Points.{place}

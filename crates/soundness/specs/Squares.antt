@@ -1,5 +1,5 @@
 -- How the squares of nodes lie to each other and to places.
-use Rattle.std.specs.Prelude.{ℕ, ◌≡◌, ◌%◌, ◌*◌, ◌≤◌, ◌<◌, ◌==◌}
+use Rattle.std.specs.Prelude.{◌≡◌, ◌%◌, ◌*◌, ◌≤◌, ◌<◌, ◌==◌}
 use Rattle.exact_math.specs.Gaussian.{Gaussian, gaussian}
 use Rattle.cell_name.specs.Square.{Square, side, parent, doubled_centre_x, doubled_centre_y}
 use Rattle.cell_name.specs.Apart.{columns_between, rows_between}
