@@ -2,7 +2,9 @@
 pub mod Boxes
 pub mod Choices
 pub mod Entries
+pub mod Example
 pub mod Fields
+pub mod Inside
 pub mod Losses
 pub mod Multipoles
 pub mod Nodes
