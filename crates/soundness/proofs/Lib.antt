@@ -3,6 +3,7 @@ pub mod Boxes
 pub mod Choices
 pub mod Entries
 pub mod Example
+pub mod FarExample
 pub mod Fields
 pub mod Inside
 pub mod Losses
