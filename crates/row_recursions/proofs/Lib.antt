@@ -1,6 +1,7 @@
 pub mod BoxSums
 pub mod ConvertLaws
 pub mod CutSums
+pub mod Determined
 pub mod DownLaws
 pub mod DownPolynomials
 pub mod DownRows

@@ -1,8 +1,8 @@
 -- What the rounded recursions contain, for every order, side and centre. c and b are doubled centres.
-use Rattle.std.specs.Prelude.{ℕ, ◌*◌, ◌^◌, ◌≤◌, ◌<ℤ◌, pos, List, [], ◌∷◌, ◌++◌}
+use Rattle.std.specs.Prelude.{ℕ, ◌*◌, ◌^◌, ◌≤◌, ◌<◌, ◌<ℤ◌, pos, List, [], ◌∷◌, ◌++◌}
 use Rattle.exact_math.specs.Ends.{BoxEnds, BoxEndsContain, zero_box, add_box}
 use Rattle.exact_math.specs.Gaussian.{Gaussian, add_gaussian, norm_gaussian}
-use Rattle.exact_math.specs.Ratio.{ComplexRatio, zero_complex, add_complex}
+use Rattle.exact_math.specs.Ratio.{ComplexRatio, SameComplex, zero_complex, add_complex}
 use Rattle.exact_math.specs.Sums.{sum_terms}
 use Rattle.truncation.specs.Entries.{Source, pair_cut, multipole_cut, local_cut}
 use Rattle.truncation.specs.Places.{times_side, doubled_offset}
@@ -64,3 +64,8 @@ FieldDown = (P s : ℕ) (q b : Gaussian) (f : Gaussian → ComplexRatio) (m : �
 abbrev pub LocalValues : Type 0
 LocalValues = (P s : ℕ) (b t : Gaussian) (f : Gaussian → ComplexRatio) (m : ℕ → BoxEnds) → 1 ≤ s
     → HoldsField P s b f m → BoxEndsContain (pos (2 ^ 40)) (local_value P m s (doubled_offset t b)) (f t)
+
+-- a field has one row of coefficients, whatever row of boxes contains them
+abbrev pub FieldDetermines : Type 0
+FieldDetermines = (P s : ℕ) (b : Gaussian) (f : Gaussian → ComplexRatio) (m n : ℕ → BoxEnds) → 1 ≤ s → (h : HoldsField P s b f m) (k : HoldsField P s b f n)
+    → (l : ℕ) → l < P → SameComplex (h.coefficient l) (k.coefficient l)
