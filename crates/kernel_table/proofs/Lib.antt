@@ -1,8 +1,8 @@
 mod PowersOfTwo
 mod Chosen
 pub mod Contained
-mod Widths
-mod Sizes
+pub mod Widths
+pub mod Sizes
 mod Norms
 mod Places
 mod Lookups

@@ -34,7 +34,7 @@ square_nonneg : (a : ℤ) → pos 0 ≤ℤ (a *ℤ a)
 square_nonneg (pos n) = omega (arith, ints)
 square_nonneg (negsuc n) = omega (arith, ints)
 
-count_root_le : (a b : ℕ) → a * a ≤ b * b → a ≤ b
+pub count_root_le : (a b : ℕ) → a * a ≤ b * b → a ≤ b
 count_root_le a b h =
     let l : a < suc b = lt_of_not-le (λ k. let m = mul-le-mul k k in absurd (omega arith)) in
     omega arith
@@ -46,9 +46,9 @@ root_le y (negsuc b) p h = absurd (omega (arith, ints))
 
 -- ---- 1/e^m is at most 2^-m in size
 -- with x = (a + i b)/d, the square of (c x) is at most 1
-record Shrunk (c : ℤ) (x : ComplexRatio) : Type 0 where
-  positive : pos 0 <ℤ x.denominator
-  square : (c *ℤ x.re *ℤ (c *ℤ x.re) +ℤ c *ℤ x.im *ℤ (c *ℤ x.im)) ≤ℤ (x.denominator *ℤ x.denominator)
+pub record Shrunk (c : ℤ) (x : ComplexRatio) : Type 0 where
+  pub positive : pos 0 <ℤ x.denominator
+  pub square : (c *ℤ x.re *ℤ (c *ℤ x.re) +ℤ c *ℤ x.im *ℤ (c *ℤ x.im)) ≤ℤ (x.denominator *ℤ x.denominator)
 
 shrunk-parts : {c : ℤ} {x : ComplexRatio} → Shrunk c x → ((neg_ℤ x.denominator ≤ℤ (c *ℤ x.re)) × ((c *ℤ x.re) ≤ℤ x.denominator)) × ((neg_ℤ x.denominator ≤ℤ (c *ℤ x.im)) × ((c *ℤ x.im) ≤ℤ x.denominator))
 shrunk-parts {c} {x} h =
@@ -76,7 +76,7 @@ shrunk-step e n≥4 {c} {x} h = record {
         ≡ pos 2 *ℤ c *ℤ (p *ℤ a -ℤ neg_ℤ q *ℤ b) *ℤ (pos 2 *ℤ c *ℤ (p *ℤ a -ℤ neg_ℤ q *ℤ b)) +ℤ pos 2 *ℤ c *ℤ (p *ℤ b +ℤ neg_ℤ q *ℤ a) *ℤ (pos 2 *ℤ c *ℤ (p *ℤ b +ℤ neg_ℤ q *ℤ a))
     product_is c p q a b = ring5 int_ring c p q a b (λ c p q a b. search int_quotes depth 20) tt
 
-shrunk : (e : Gaussian) → pos 4 ≤ℤ norm_gaussian e → (m : ℕ) → Shrunk (pos (2 ^ m)) (pow_complex (reciprocal e) m)
+pub shrunk : (e : Gaussian) → pos 4 ≤ℤ norm_gaussian e → (m : ℕ) → Shrunk (pos (2 ^ m)) (pow_complex (reciprocal e) m)
 shrunk e n≥4 zero = record { positive = omega (arith, ints); square = omega (arith, ints) }
 shrunk e n≥4 (suc m) = subst (λ c. Shrunk c (mul_complex (reciprocal e) (pow_complex (reciprocal e) m))) (ap pos (sym (two_power m))) (shrunk-step e n≥4 (shrunk e n≥4 m))
 
@@ -102,7 +102,7 @@ within-more {n} {m} {i} l k = record {
 }
 
 module _ (e : Gaussian) (h : IsKernelDistance e) where
-  norm≥4 : pos 4 ≤ℤ norm_gaussian e
+  pub norm≥4 : pos 4 ≤ℤ norm_gaussian e
   norm≥4 = let k = norm_count≥4 e h in subst (λ n. pos 4 ≤ℤ n) (norm_count-is e) (omega (arith, ints, k))
 
   -- 2^(60 + n)/e^(n + 1) is at most 2^59 in size

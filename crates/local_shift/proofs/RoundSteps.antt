@@ -7,7 +7,7 @@ use Rattle.exact_math.specs.Ends.{BoxEnds, BoxEndsWithin, zero_box, add_box, sca
 use Rattle.exact_math.specs.Gaussian.{Gaussian, gaussian}
 use Rattle.exact_math.specs.Within.{Within}
 use Rattle.truncation.specs.Places.{GaussianWithin}
-use Rattle.complex_box.proofs.Sizes.{box_wider, add_box_within, quot_box_within}
+use Rattle.complex_box.proofs.Sizes.{box_wider, add_box_within, quot_box_within, scale_box_within}
 use Rattle.cell_name.specs.declared.cell.Quadrant.{Quadrant}
 use Rattle.row_recursions.specs.Rows.{down_round}
 use Rattle.row_recursions.specs.Sizes.{RowWithin}
@@ -32,9 +32,9 @@ pub first_fits : (q : Quadrant) (t b : BoxEnds) → BoxEndsWithin (2 ^ 91) t →
 first_fits q t b v w = box_wider (2 ^ 91 + 2 ^ 92) (2 ^ 126) _ (omega arith)
     (add_box_within (2 ^ 91) (2 ^ 92) t _ v (quot_box_within (2 ^ 92) (gscale_box b (quadrant_of q)) (pos 4) (omega (arith, ints)) (turned_within q b w)))
 
-pub next_fits : (q : Quadrant) (b l : BoxEnds) → BoxEndsWithin (2 ^ 91) b → BoxEndsWithin (2 ^ 91) l → BoxEndsWithin (2 ^ 126) (add_box (gscale_box b (quadrant_of q)) (add_box l l))
-next_fits q b l v w = box_wider (2 ^ 92 + (2 ^ 91 + 2 ^ 91)) (2 ^ 126) _ (omega arith)
-    (add_box_within (2 ^ 92) (2 ^ 91 + 2 ^ 91) _ _ (turned_within q b v) (add_box_within (2 ^ 91) (2 ^ 91) l l w w))
+pub next_fits : (q : Quadrant) (b l : BoxEnds) → BoxEndsWithin (2 ^ 91) b → BoxEndsWithin (2 ^ 91) l → BoxEndsWithin (2 ^ 126) (add_box (gscale_box b (quadrant_of q)) (scale_box (pos 2) l))
+next_fits q b l v w = box_wider (2 ^ 92 + 2 ^ 91 * 2) (2 ^ 126) _ (omega arith)
+    (add_box_within (2 ^ 92) (2 ^ 91 * 2) _ _ (turned_within q b v) (scale_box_within 2 (2 ^ 91) (pos 2) l (record { above = omega (arith, ints); below = omega (arith, ints) }) w))
 
 -- after n rounds
 pub rounds_within : (P : ℕ) (q : Quadrant) (m : ℕ → BoxEnds) → RowWithin P (2 ^ 90) m → (n k : ℕ) → n ≤ P → BoxEndsWithin (2 ^ 91) (down_round P m (quadrant_of q) n k)

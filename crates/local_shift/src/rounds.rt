@@ -10,36 +10,7 @@ ghost use Rattle.local_shift.specs.Rounds.{next_row};
 
 use cell_name::Quadrant;
 use complex_box::{CBox, Row};
-
-/// The product with the quadrant `q`, whose parts are 1 and -1: sums and differences of the parts of the box.
-#[inline(always)]
-fn turned(b: CBox, q: Quadrant) -> CBox
-    requires { BoxWithin (2 ^ 124) b }
-    ensures { box_ends result ≡ gscale_box (box_ends b) (quadrant_of q) }
-{
-    if q.right {
-        if q.top {
-            return CBox {
-                re: b.re.sub(b.im),
-                im: b.re.add(b.im),
-            };
-        }
-        return CBox {
-            re: b.re.add(b.im),
-            im: b.im.sub(b.re),
-        };
-    }
-    if q.top {
-        return CBox {
-            re: b.re.add(b.im).neg(),
-            im: b.re.sub(b.im),
-        };
-    }
-    CBox {
-        re: b.im.sub(b.re),
-        im: b.re.add(b.im).neg(),
-    }
-}
+use row_recursions::{doubled, turned};
 
 /// Coefficient 0 after a round: a quarter of `q` times what it was, and the coefficient that is taken in.
 #[inline(always)]
@@ -58,7 +29,7 @@ fn next_coefficient(own: CBox, lower: CBox, q: Quadrant) -> CBox
     requires lower { BoxWithin (2 ^ 91) lower }
     ensures { box_ends result ≡ quot_box (add_box (gscale_box (box_ends own) (quadrant_of q)) (scale_box (pos 2) (box_ends lower))) (pos 4) }
 {
-    turned(own, q).add(lower.add(lower)).quot_shift(2)
+    turned(own, q).add(doubled(lower)).quot_shift(2)
 }
 
 /// One round on the first `n + 1` boxes, which takes a coefficient in.

@@ -1,5 +1,6 @@
 pub mod BoxSums
 pub mod ConvertLaws
+pub mod ConvertedSizes
 pub mod CutSums
 pub mod Determined
 pub mod DownLaws
@@ -11,7 +12,9 @@ pub mod FarLaws
 pub mod FarPlaces
 pub mod FarRows
 pub mod FieldLaws
+pub mod Geometry
 pub mod Halves
+pub mod KernelCounts
 pub mod KernelRows
 pub mod LinearFunctionals
 pub mod MomentLaws
@@ -24,3 +27,4 @@ pub mod Turns
 pub mod UpRows
 pub mod Values
 pub mod Worked
+pub mod ZeroBoxes

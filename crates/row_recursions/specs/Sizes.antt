@@ -4,7 +4,8 @@ use Rattle.exact_math.specs.Ends.{BoxEnds, BoxEndsWithin}
 use Rattle.exact_math.specs.Gaussian.{Gaussian}
 use Rattle.exact_math.specs.Sizes.{abs_gaussian}
 use Rattle.truncation.specs.Places.{GaussianWithin, GaussianBeyond}
-use Rattle.row_recursions.specs.Rows.{source_moment, shifted_up, far_source, shifted_down, local_value, multipole_value}
+use Rattle.kernel_table.specs.Kernel.{IsKernelDistance, kernel_entry}
+use Rattle.row_recursions.specs.Rows.{source_moment, shifted_up, converted, far_source, shifted_down, local_value, multipole_value}
 
 -- all ends of the first P boxes of the row are at most n in size
 abbrev pub RowWithin : ℕ → ℕ → (ℕ → BoxEnds) → Type 0
@@ -21,6 +22,10 @@ UpSizes = (P n : ℕ) (q : Gaussian) (m : ℕ → BoxEnds) → GaussianWithin 1 
 -- the contribution of a far source: 2^40 (|a| + (l + 1) |b|)
 abbrev pub FarSizes : Type 0
 FarSizes = (s : ℕ) (a b zeta : Gaussian) (l : ℕ) → 1 ≤ s → GaussianBeyond (3 * s) zeta → BoxEndsWithin (2 ^ 40 * (abs_gaussian a + suc l * abs_gaussian b)) (far_source s a b zeta l)
+
+-- the contribution of a row to that of a cell 2 or 3 sides away: half as much again
+abbrev pub ConvertedSizes : Type 0
+ConvertedSizes = (P n : ℕ) (e : Gaussian) (m : ℕ → BoxEnds) → P ≤ 32 → IsKernelDistance e → RowWithin P (2 * n) m → RowWithin P (3 * n) (converted P (kernel_entry e) m)
 
 -- a row shifted down
 abbrev pub DownSizes : Type 0

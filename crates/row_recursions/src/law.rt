@@ -1,6 +1,7 @@
 //! The laws of rows. Nothing here runs: each law is the contract of a function with an empty body.
+ghost use Rattle.row_recursions.specs.Geometry.{HeldPlaces, PairsOfCells, FarPlaces, QuartersOfCells};
 ghost use Rattle.row_recursions.specs.Laws.{NoMoments, SourceMoments, SumOfMoments, MomentsUp, MultipoleValues, NoField, SumOfFields, FieldConverted, FieldOfSource, FieldDown, LocalValues, FieldDetermines};
-ghost use Rattle.row_recursions.specs.Sizes.{MomentSizes, UpSizes, FarSizes, DownSizes, LocalValueSizes, MultipoleValueSizes};
+ghost use Rattle.row_recursions.specs.Sizes.{MomentSizes, UpSizes, ConvertedSizes, FarSizes, DownSizes, LocalValueSizes, MultipoleValueSizes};
 
 /// What multipole rows contain: of no source, of one source, of the sources of two rows, about the parent's centre, and their values.
 ///
@@ -28,12 +29,24 @@ pub fn local_rows()
 {}
 
 /// How large the ends of rows are. An offset is at most its side and a far offset at least 3 sides in one part, so each factor of a
-/// recursion is at most 1 in the size `|re| + |im|`, and a quotient by `d` of what is at most `d n` is at most `n`, rounded or not.
+/// recursion is at most 1 in the size `|re| + |im|`, and a quotient by `d` of what is at most `d n` is at most `n`, rounded or not. The
+/// kernel is at most `C(k + l, k)/2^(k + l + 1)` in modulus, and these sum up to 1 at most over `k`.
 pub fn row_sizes()
     ensures moments { MomentSizes }
     ensures up { UpSizes }
+    ensures converted { ConvertedSizes }
     ensures source { FarSizes }
     ensures down { DownSizes }
     ensures local_value { LocalValueSizes }
     ensures multipole_value { MultipoleValueSizes }
+{}
+
+/// Cells in the words of rows: a place in a cell is within its side; the centres of two cells of one level that don't touch and whose
+/// parents do are a distance of the kernel apart; a place in a cell that doesn't touch is beyond 3 sides; the centre of a quarter is one
+/// of its own sides, in doubled coordinates, from that of its cell in both directions.
+pub fn cells_and_rows()
+    ensures held { HeldPlaces }
+    ensures pairs { PairsOfCells }
+    ensures far { FarPlaces }
+    ensures quarters { QuartersOfCells }
 {}

@@ -1,0 +1,68 @@
+-- What the calls on local rows do to what a row contains and to its size.
+use Rattle.std.proofs.Common.{◌≡◌, sym, ap, ap₂, ◌∙◌, subst, ℕ, suc, ◌+◌, ◌*◌, ◌^◌, ◌≤◌, ◌<◌, arith, pos, ◌<ℤ◌}
+use Rattle.std.proofs.lemmas.Int.{ints}
+use Rattle.std.proofs.Math.Nat.{mul-le-mul_right}
+use Rattle.exact_math.specs.Ends.{BoxEnds, BoxEndsWithin, BoxEndsContain, add_box}
+use Rattle.exact_math.specs.Gaussian.{Gaussian, norm_gaussian}
+use Rattle.exact_math.specs.Orders.{IsOrder}
+use Rattle.exact_math.specs.Ratio.{ComplexRatio, add_complex}
+use Rattle.complex_box.proofs.Sizes.{box_wider, add_box_within}
+use Rattle.cell_name.specs.declared.cell.Cell.{Cell}
+use Rattle.particle_text.specs.Limits.{InRange, size_of_gaussian, weight64}
+use Rattle.particle_text.specs.Points.{place, pole, dipole}
+use Rattle.particle_text.specs.declared.Point.{Point}
+use Rattle.truncation.specs.Entries.{local_cut}
+use Rattle.truncation.specs.Places.{GaussianBeyond, doubled_offset}
+use Rattle.row_recursions.specs.Cells.{side_of, centre_of, offset_from, far_coefficients_of}
+use Rattle.row_recursions.specs.Fields.{HoldsField}
+use Rattle.row_recursions.specs.Rows.{RowsAdd, far_source}
+use Rattle.row_recursions.specs.Sizes.{RowWithin}
+use Rattle.row_recursions.specs.Sources.{source_of}
+use Rattle.row_recursions.proofs.FarLaws.{field_of_source}
+use Rattle.row_recursions.proofs.FieldLaws.{sum_of_fields}
+use Rattle.row_recursions.proofs.Points.{pole_of-source, dipole_of-source, place_of-source, side_positive, weight_bounded}
+use Rattle.row_recursions.proofs.RowSizes.{order_small, far_norm_positive, far_source_within}
+
+-- a row with the same boxes
+pub field_same : (P s : ℕ) (b : Gaussian) (f : Gaussian → ComplexRatio) (m n : ℕ → BoxEnds) → ((l : ℕ) → l < P → n l ≡ m l) → HoldsField P s b f m → HoldsField P s b f n
+field_same P s b f m n e h = record {
+  coefficient = h.coefficient;
+  fractions = h.fractions;
+  contains = λ l k. subst (λ x. BoxEndsContain (pos (2 ^ 40)) x (h.coefficient l)) (sym (e l k)) (h.contains l k);
+  fraction = h.fraction;
+  sums = h.sums;
+}
+
+-- a row to which another was added
+pub field_added : (P s : ℕ) (b : Gaussian) (f g : Gaussian → ComplexRatio) (old part new : ℕ → BoxEnds) → 1 ≤ s → RowsAdd P old part new → HoldsField P s b f old → HoldsField P s b g part
+    → HoldsField P s b (λ t. add_complex (f t) (g t)) new
+field_added P s b f g old part new h adds u v = field_same P s b (λ t. add_complex (f t) (g t)) (λ l. add_box (old l) (part l)) new adds (sum_of_fields P s b f g old part h u v)
+
+-- ---- a far point
+module _ (P : ℕ) (c : Cell) (p : Point) (order : IsOrder P) (far : GaussianBeyond (3 * side_of c) (offset_from c (place p))) where
+  heavier : (l a b : ℕ) → l < 64 → 2 ^ 40 * (a + suc l * b) ≤ 2 ^ 40 * (a + 64 * b)
+  heavier l a b h = let m = mul-le-mul_right b h in omega arith
+
+  -- its contribution
+  pub far_within : RowWithin P (2 ^ 40 * weight64 p) (far_coefficients_of c p)
+  far_within l h =
+      let few = order_small P order in
+      box_wider _ (2 ^ 40 * weight64 p) _ (heavier l (size_of_gaussian (pole p.kind)) (size_of_gaussian (dipole p.kind)) (omega arith))
+      (far_source_within (side_of c) (pole p.kind) (dipole p.kind) (offset_from c (place p)) l (side_positive c) far)
+
+  -- the sum fits
+  pub sum_fits : (old part : ℕ → BoxEnds) → InRange p → RowWithin P (2 ^ 110) old → ((l : ℕ) → l < P → part l ≡ far_coefficients_of c p l) → (l : ℕ) → l < P → BoxEndsWithin (2 ^ 126) (add_box (old l) (part l))
+  sum_fits old part range bounded is l h =
+      let light = weight_bounded p range in
+      box_wider (2 ^ 110 + 2 ^ 40 * weight64 p) (2 ^ 126) _ (omega arith)
+      (add_box_within (2 ^ 110) (2 ^ 40 * weight64 p) (old l) (part l) (bounded l h) (subst (BoxEndsWithin (2 ^ 40 * weight64 p)) (sym (is l h)) (far_within l h)))
+
+  -- it holds the cut term of the point's source
+  pub far_field : HoldsField P (side_of c) (centre_of c) (λ t. local_cut P (centre_of c) t (source_of p)) (far_coefficients_of c p)
+  far_field =
+      let apart = far_norm_positive (side_of c) (offset_from c (place p)) (side_positive c) far in
+      let z : doubled_offset (source_of p).place (centre_of c) ≡ offset_from c (place p) = ap (λ z. doubled_offset z (centre_of c)) (place_of-source (place p) p.kind) in
+      field_same P (side_of c) (centre_of c) (λ t. local_cut P (centre_of c) t (source_of p)) _ (far_coefficients_of c p)
+      (λ l h. sym (ap₂ (λ a b. far_source (side_of c) a b (doubled_offset (source_of p).place (centre_of c)) l) (pole_of-source (place p) p.kind) (dipole_of-source (place p) p.kind)
+      ∙ ap (λ o. far_source (side_of c) (pole p.kind) (dipole p.kind) o l) z))
+      (field_of_source P (side_of c) (centre_of c) (source_of p) (side_positive c) (subst (λ o. pos 0 <ℤ norm_gaussian o) (sym z) (omega (arith, ints))))
