@@ -2,7 +2,6 @@ pub mod BoxSums
 pub mod ConvertLaws
 pub mod ConvertedSizes
 pub mod CutSums
-pub mod Determined
 pub mod DownLaws
 pub mod DownPolynomials
 pub mod DownRows
@@ -19,7 +18,9 @@ pub mod KernelRows
 pub mod LinearFunctionals
 pub mod MomentLaws
 pub mod MomentRows
+pub mod OneField
 pub mod Points
+pub mod PolynomialZeros
 pub mod RowSizes
 pub mod RowWrites
 pub mod Sides

@@ -1,5 +1,5 @@
 -- What the rounded recursions contain, for every order, side and centre. c and b are doubled centres.
-use Rattle.std.specs.Prelude.{ℕ, ◌*◌, ◌^◌, ◌≤◌, ◌<◌, ◌<ℤ◌, pos, List, [], ◌∷◌, ◌++◌}
+use Rattle.std.specs.Prelude.{ℕ, ◌*◌, ◌^◌, ◌<◌, ◌≤◌, ◌<ℤ◌, pos, List, [], ◌∷◌, ◌++◌}
 use Rattle.exact_math.specs.Ends.{BoxEnds, BoxEndsContain, zero_box, add_box}
 use Rattle.exact_math.specs.Gaussian.{Gaussian, add_gaussian, norm_gaussian}
 use Rattle.exact_math.specs.Ratio.{ComplexRatio, SameComplex, zero_complex, add_complex}
@@ -45,6 +45,11 @@ abbrev pub SumOfFields : Type 0
 SumOfFields = (P s : ℕ) (b : Gaussian) (f g : Gaussian → ComplexRatio) (m n : ℕ → BoxEnds) → 1 ≤ s → HoldsField P s b f m → HoldsField P s b g n
     → HoldsField P s b (λ t. add_complex (f t) (g t)) (λ l. add_box (m l) (n l))
 
+-- a field has one list of coefficients, whatever rows hold it
+abbrev pub OneField : Type 0
+OneField = (P s : ℕ) (b : Gaussian) (field : Gaussian → ComplexRatio) (m n : ℕ → BoxEnds) → 1 ≤ s → (h : HoldsField P s b field m) (k : HoldsField P s b field n)
+    → (l : ℕ) → l < P → SameComplex (h.coefficient l) (k.coefficient l)
+
 -- from the row of a cell to a cell of its side e sides away: the cut terms of its sources, which are written in e and in the offsets from both centres
 abbrev pub FieldConverted : Type 0
 FieldConverted = (P s : ℕ) (e b c : Gaussian) (xs : List Source) (m : ℕ → BoxEnds) → 1 ≤ s → pos 0 <ℤ norm_gaussian e
@@ -64,8 +69,3 @@ FieldDown = (P s : ℕ) (q b : Gaussian) (f : Gaussian → ComplexRatio) (m : �
 abbrev pub LocalValues : Type 0
 LocalValues = (P s : ℕ) (b t : Gaussian) (f : Gaussian → ComplexRatio) (m : ℕ → BoxEnds) → 1 ≤ s
     → HoldsField P s b f m → BoxEndsContain (pos (2 ^ 40)) (local_value P m s (doubled_offset t b)) (f t)
-
--- a field has one row of coefficients, whatever row of boxes contains them
-abbrev pub FieldDetermines : Type 0
-FieldDetermines = (P s : ℕ) (b : Gaussian) (f : Gaussian → ComplexRatio) (m n : ℕ → BoxEnds) → 1 ≤ s → (h : HoldsField P s b f m) (k : HoldsField P s b f n)
-    → (l : ℕ) → l < P → SameComplex (h.coefficient l) (k.coefficient l)
