@@ -28,7 +28,7 @@ use Rattle.truncation.specs.Entries.{weight, pair_cut, multipole_cut, local_cut}
 use Rattle.truncation.specs.Places.{GaussianWithin, GaussianBeyond, doubled_offset}
 use Rattle.truncation.specs.Tails.{ceiling, pair_tail, single_tail}
 use Rattle.truncation.proofs.EntryBounds.{pair_entries, multipole_entries, local_entries}
-use Rattle.soundness.specs.Squares.{centre, offset, sides_between, IsIn, IsFarFrom, AreApartCells}
+use Rattle.soundness.specs.Squares.{centre, offset, sides_between, IsIn, IsFarFrom, CellsAreApart}
 use Rattle.soundness.specs.Accounts.{LeafSource}
 use Rattle.soundness.specs.Computed.{total_row, far_coefficients_in}
 use Rattle.soundness.proofs.Boxes.{IsNear}
@@ -56,7 +56,7 @@ far_norm : (c : Square) (z : Gaussian) → IsFarFrom c z → 1 ≤ 3 * side c
 far_norm c z h = let s = side_positive c in omega arith
 
 -- ---- what rows and values hold
-pub pair_row : (P : ℕ) (b c : Square) (xs : List LeafSource) (m : ℕ → BoxEnds) → AreApartCells b c → HoldsIn P c xs m → Local P b (pair_sum P b c xs) (converted P (kernel_entry (sides_between b c)) m)
+pub pair_row : (P : ℕ) (b c : Square) (xs : List LeafSource) (m : ℕ → BoxEnds) → CellsAreApart b c → HoldsIn P c xs m → Local P b (pair_sum P b c xs) (converted P (kernel_entry (sides_between b c)) m)
 pair_row P b c xs m h held = Local-field P b _ _ (field_converted P (side b) (sides_between b c) (centre b) (centre c) (sources_in xs) m (side_positive b) (norm_beyond 2 (sides_between b c) (omega arith) h.apart)
     (subst (λ s. HoldsMoments P s (centre c) (sources_in xs) m) (sym (sides_of-apart b c h)) held))
 
@@ -93,7 +93,7 @@ multipole_held P c xs m t h held =
 at_source : (Q : Gaussian → Type 0) (x : LeafSource) → Q (place x.point) → Q (source_in x).place
 at_source Q x h = subst Q (sym (place_of-source (place x.point) x.point.kind)) h
 
-pub pair_near : (P : ℕ) (b c : Square) (t : Gaussian) (xs : List LeafSource) → 1 ≤ P → AreApartCells b c → IsIn b t → All (λ x. IsIn c (place x.point)) xs
+pub pair_near : (P : ℕ) (b c : Square) (t : Gaussian) (xs : List LeafSource) → 1 ≤ P → CellsAreApart b c → IsIn b t → All (λ x. IsIn c (place x.point)) xs
     → IsNear (ceiling (weight_of P xs * pair_tail P) (side b)) (sum_list complex_rationals (term_in_units t) xs) (pair_sum P b c xs t)
 pair_near P b c t xs order h target sources =
     entry_near P t (pair_cut P (side b) (sides_between b c) (centre b) (centre c) t) (pair_tail P) (side b) (λ x. GaussianWithin (side b) (doubled_offset x.place (centre c)))

@@ -1,17 +1,16 @@
 -- The rules can be met: one charge 1 at (0, 0) and a target at (1, 0) in one leaf, at order 4.
-use Rattle.std.proofs.Common.{◌≡◌, refl, sym, subst, ◌∙◌, ℕ, zero, suc, ◌*◌, ◌^◌, ◌<◌, ◌≤◌, arith, true, [], ◌∷◌}
+use Rattle.std.proofs.Common.{◌≡◌, refl, sym, subst, ◌∙◌, ℕ, zero, suc, ◌<◌, ◌≤◌, arith, true, [], ◌∷◌}
 use Rattle.std.specs.Prelude.{ℤ, pos, All}
 use Rattle.std.specs.List.{count_by}
 use Rattle.std.proofs.lemmas.Bool.{eqb-true, true≢false}
 use Rattle.std.proofs.lemmas.Int.{ints}
 use Rattle.exact_math.specs.Ends.{BoxEnds, zero_box, BoxEndsInside}
-use Rattle.exact_math.specs.Gaussian.{Gaussian, gaussian}
+use Rattle.exact_math.specs.Gaussian.{gaussian}
 use Rattle.cell_name.specs.Square.{Square}
 use Rattle.cert_text.specs.declared.Entry.{Entry}
 use Rattle.cert_text.specs.declared.Letter.TheVariants.{U}
 use Rattle.particle_text.specs.declared.Kind.TheVariants.{Charge}
 use Rattle.row_recursions.specs.Rows.{source_moment, pole_moment, dipole_moment, local_value, local_round}
-use Rattle.soundness.specs.Squares.{IsIn}
 use Rattle.soundness.specs.Accounts.{LeafSource, LeafTarget, Accounting, under, is_leaf, accounts}
 use Rattle.soundness.specs.Computed.{leaf_row, local_row, local_radius, target_box}
 use Rattle.soundness.specs.Rules.{RowInside, SourceStands, TargetStands, Apart, Rules}
@@ -68,9 +67,9 @@ below_four P a b c d (suc (suc zero)) l = c
 below_four P a b c d (suc (suc (suc zero))) l = d
 below_four P a b c d (suc (suc (suc (suc k)))) l = absurd (omega arith)
 
-leaf_row_inside : RowInside 4 (leaf_row 4 presented 0) given_row
+leaf_row_inside : RowInside 4 (leaf_row presented 0) given_row
 unfolding under source_moment pole_moment dipole_moment
-leaf_row_inside = below_four (λ k. BoxEndsInside (leaf_row 4 presented 0 k) (given_row k)) (BoxEndsInside-same refl) (BoxEndsInside-same refl) (BoxEndsInside-same refl) (BoxEndsInside-same refl)
+leaf_row_inside = below_four (λ k. BoxEndsInside (leaf_row presented 0 k) (given_row k)) (BoxEndsInside-same refl) (BoxEndsInside-same refl) (BoxEndsInside-same refl) (BoxEndsInside-same refl)
 
 under_zero : (n : ℕ) → under (λ (n : ℕ). 0) 0 n ≡ true → 0 ≡ n
 unfolding under
@@ -114,7 +113,7 @@ rules_met = record {
   apart = only (λ e. Apart presented e.letter e.b e.c) near tt;
   once = only (λ t. All (λ x. count_by (accounts presented t.leaf x) presented.entries ≡ 1) presented.sources) target
       (only (λ x. count_by (accounts presented 0 x) presented.entries ≡ 1) charge accounted_once);
-  leaf_rows = λ n l e. at_zero (λ n. RowInside 4 (leaf_row 4 presented n) given_row) leaf_row_inside n l;
+  leaf_rows = λ n l e. at_zero (λ n. RowInside 4 (leaf_row presented n) given_row) leaf_row_inside n l;
   inner_rows = λ n l e. absurd (true≢false (sym (at_zero (λ n. is_leaf presented n ≡ true) refl n l) ∙ e));
   local_rows = only (λ t. (n : ℕ) → under presented.parent t.leaf n ≡ true → RowInside 4 (local_row 4 presented n) (λ k. zero_box)) target local_row_inside;
   radii = only (λ t. (n : ℕ) → under presented.parent t.leaf n ≡ true → local_radius 4 presented n ≤ 0) target radius_at_least;

@@ -1,10 +1,10 @@
 -- The rules can be met with entries of all four letters and inner nodes, by rows and radii that the method computes: seven nodes on a grid of 3 bits, at order 2.
 use Rattle.std.proofs.Common.{◌≡◌, refl, sym, subst, ℕ, zero, suc, ◌<◌, ◌≤◌, arith, true, false, ◌||◌, List, [], ◌∷◌}
-use Rattle.std.specs.Prelude.{ℤ, pos, neg_ℤ, ◌==◌, All, unsigned_abs}
+use Rattle.std.specs.Prelude.{ℤ, pos, neg_ℤ, ◌==◌, All}
 use Rattle.std.specs.List.{count_by}
 use Rattle.std.proofs.lemmas.Bool.{eqb-true, true≢false, or_cases}
 use Rattle.std.proofs.lemmas.Int.{ints}
-use mathlib.Core.Logic.{⊎_elim, inl, inr}
+use mathlib.Core.Logic.{⊎_elim, inl}
 use Rattle.exact_math.specs.Ends.{BoxEnds, zero_box, BoxEndsInside}
 use Rattle.exact_math.specs.Gaussian.{Gaussian, gaussian}
 use Rattle.cell_name.specs.Square.{Square, parent}
@@ -15,7 +15,7 @@ use Rattle.particle_text.specs.declared.Kind.{Kind}
 use Rattle.particle_text.specs.declared.Kind.TheVariants.{Charge, Dipole, Vortex}
 use Rattle.particle_text.specs.Points.{place}
 use Rattle.row_recursions.specs.Rows.{shifted_up}
-use Rattle.soundness.specs.Squares.{quadrant, IsQuarter, IsIn, IsFarFrom, AreApartCells}
+use Rattle.soundness.specs.Squares.{quadrant, IsQuarter, IsFarFrom, CellsAreApart}
 use Rattle.soundness.specs.Accounts.{LeafSource, LeafTarget, Accounting, under, is_leaf, accounts}
 use Rattle.soundness.specs.Computed.{total_row, moments_in, leaf_row, shifted_rows, local_row, local_radius, target_box}
 use Rattle.soundness.specs.Rules.{RowInside, SourceStands, TargetStands, Apart, Rules}
@@ -214,14 +214,14 @@ target_stands : TargetStands presented target
 target_stands = record { in_range = omega arith; held = record { re = record { above = omega (arith, ints); below = omega (arith, ints) }; im = record { above = omega (arith, ints); below = omega (arith, ints) } } }
 
 -- ---- rows
-leaf_rows_inside : (n : ℕ) → n < 7 → is_leaf presented n ≡ true → RowInside 2 (leaf_row 2 presented n) (multipole n)
+leaf_rows_inside : (n : ℕ) → n < 7 → is_leaf presented n ≡ true → RowInside 2 (leaf_row presented n) (multipole n)
 unfolding under
-leaf_rows_inside n l e = below_seven (λ n. is_leaf presented n ≡ true → RowInside 2 (leaf_row 2 presented n) (multipole n))
+leaf_rows_inside n l e = below_seven (λ n. is_leaf presented n ≡ true → RowInside 2 (leaf_row presented n) (multipole n))
     (λ e. absurd (true≢false (sym e))) (λ e. absurd (true≢false (sym e))) (λ e. absurd (true≢false (sym e)))
     (λ e. RowInside-same 2 _ _ (λ k. refl)) (λ e. RowInside-same 2 _ _ (λ k. refl)) (λ e. RowInside-same 2 _ _ (λ k. refl)) (λ e. RowInside-same 2 _ _ (λ k. refl)) n l e
 
-inner_rows_inside : (n : ℕ) → n < 7 → is_leaf presented n ≡ false → RowInside 2 (shifted_rows 2 presented n) (multipole n)
-inner_rows_inside n l e = below_seven (λ n. is_leaf presented n ≡ false → RowInside 2 (shifted_rows 2 presented n) (multipole n))
+inner_rows_inside : (n : ℕ) → n < 7 → is_leaf presented n ≡ false → RowInside 2 (shifted_rows presented n) (multipole n)
+inner_rows_inside n l e = below_seven (λ n. is_leaf presented n ≡ false → RowInside 2 (shifted_rows presented n) (multipole n))
     (λ e. RowInside-same 2 _ _ (λ k. refl)) (λ e. RowInside-same 2 _ _ (λ k. refl)) (λ e. RowInside-same 2 _ _ (λ k. refl))
     (λ e. absurd (true≢false e)) (λ e. absurd (true≢false e)) (λ e. absurd (true≢false e)) (λ e. absurd (true≢false e)) n l e
 
@@ -235,7 +235,7 @@ radii_at_least : (n : ℕ) → under above 3 n ≡ true → local_radius 2 prese
 radii_at_least n e = on_path (λ n. local_radius 2 presented n ≤ radius n) (at_least_itself (radius 3)) (at_least_itself (radius 1)) (at_least_itself (radius 0)) n e
 
 -- ---- entries
-cells_apart : AreApartCells (cell 3) (cell 4)
+cells_apart : CellsAreApart (cell 3) (cell 4)
 cells_apart = record { grid = refl; level = refl; apart = inl (omega arith) }
 
 target_far : All (λ t. under above t.leaf 3 ≡ true → IsFarFrom (cell 5) t.place) (target ∷ [])

@@ -11,5 +11,7 @@ pub mod Multipoles
 pub mod Nodes
 pub mod Paths
 pub mod Places
+pub mod Premises
 pub mod Targets
 pub mod Terms
+pub mod ZeroRows

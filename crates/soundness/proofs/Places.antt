@@ -12,7 +12,7 @@ use Rattle.cell_name.proofs.Distances.{same_side, centres_differ}
 use Rattle.near_field.proofs.PairContains.{norm_positive_re, norm_positive_im}
 use Rattle.row_recursions.specs.Cells.{sign}
 use Rattle.truncation.specs.Places.{GaussianBeyond, times_side}
-use Rattle.soundness.specs.Squares.{centre, quadrant, sides_between, IsQuarter, IsIn, AreApartCells}
+use Rattle.soundness.specs.Squares.{centre, quadrant, sides_between, IsQuarter, IsIn, CellsAreApart}
 use Rattle.soundness.specs.Accounts.{under}
 use Rattle.soundness.proofs.Nodes.{strong, under-root, under-parent}
 
@@ -74,10 +74,10 @@ centre_of-quarter d c h =
     (ap₂ gaussian (along (pos (2 ^ (d.grid - 1))) d.i (side d) (side (parent d)) e) (along (pos (2 ^ (d.grid - 1))) d.j (side d) (side (parent d)) e))
 
 -- ---- cells that are apart
-pub sides_of-apart : (b c : Square) → AreApartCells b c → side b ≡ side c
+pub sides_of-apart : (b c : Square) → CellsAreApart b c → side b ≡ side c
 sides_of-apart b c h = same_side b c h.grid h.level
 
-pub centres_of-apart : (b c : Square) → AreApartCells b c → sub_gaussian (centre b) (centre c) ≡ times_side (2 * side b) (sides_between b c)
+pub centres_of-apart : (b c : Square) → CellsAreApart b c → sub_gaussian (centre b) (centre c) ≡ times_side (2 * side b) (sides_between b c)
 centres_of-apart b c h =
     let e = centres_differ b c h.grid h.level in
     ap₂ gaussian (moved (doubled_centre_x b) (doubled_centre_x c) _ e.0) (moved (doubled_centre_y b) (doubled_centre_y c) _ e.1)

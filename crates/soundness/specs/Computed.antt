@@ -31,14 +31,15 @@ moments_in c p k = source_moment (side c) (pole p.kind) (dipole p.kind) (offset 
 abbrev pub far_coefficients_in : Square → Point → ℕ → BoxEnds
 far_coefficients_in b p l = far_source (side b) (pole p.kind) (dipole p.kind) (offset b (place p)) l
 
-module _ (P : ℕ) (A : Accounting) where
-  -- ---- multipole rows: of a leaf from its sources, and of another node from its children's
+-- ---- multipole rows: of a leaf from its sources, and of another node from its children's
+module _ (A : Accounting) where
   abbrev pub leaf_row : ℕ → ℕ → BoxEnds
   leaf_row n = total_row (λ x. moments_in (A.cell n) x.point) (sources_under A n)
 
   abbrev pub shifted_rows : ℕ → ℕ → BoxEnds
   shifted_rows n = total_row (λ d. shifted_up (A.multipole d) (quadrant (A.cell d))) (children A n)
 
+module _ (P : ℕ) (A : Accounting) where
   -- ---- local rows: the parent's brought down, the V entries converted, and the sources of the X entries
   abbrev pub brought_down : ℕ → ℕ → BoxEnds
   brought_down zero k = zero_box

@@ -6,7 +6,7 @@ use Rattle.exact_math.specs.Ends.{BoxEnds, BoxEndsInside}
 use Rattle.cert_text.specs.declared.Letter.{Letter}
 use Rattle.cert_text.specs.declared.Letter.TheVariants.{U, V, W, X}
 use Rattle.particle_text.specs.Points.{place}
-use Rattle.soundness.specs.Squares.{IsQuarter, IsIn, IsFarFrom, AreApartCells}
+use Rattle.soundness.specs.Squares.{IsQuarter, IsIn, IsFarFrom, CellsAreApart}
 use Rattle.soundness.specs.Accounts.{LeafSource, LeafTarget, Accounting, under, is_leaf, accounts}
 use Rattle.soundness.specs.Computed.{leaf_row, shifted_rows, local_row, local_radius, target_box}
 
@@ -29,7 +29,7 @@ module _ (A : Accounting) where
   -- what has to be apart for an entry of each letter: nothing, the two cells, the targets from c, the sources from b
   abbrev pub Apart : Letter → ℕ → ℕ → Type 0
   Apart U b c = Unit {0}
-  Apart V b c = AreApartCells (A.cell b) (A.cell c)
+  Apart V b c = CellsAreApart (A.cell b) (A.cell c)
   Apart W b c = All (λ t. under A.parent t.leaf b ≡ true → IsFarFrom (A.cell c) t.place) A.targets
   Apart X b c = All (λ x. under A.parent x.leaf c ≡ true → IsFarFrom (A.cell b) (place x.point)) A.sources
 
@@ -46,8 +46,8 @@ pub record Rules (P : ℕ) (A : Accounting) : Type 0 where
   pub apart : All (λ e. Apart A e.letter e.b e.c) A.entries
   pub once : All (λ t. All (λ x. count_by (accounts A t.leaf x) A.entries ≡ 1) A.sources) A.targets
   -- rows, and the radii of the nodes above a target
-  pub leaf_rows : (n : ℕ) → n < A.nodes → is_leaf A n ≡ true → RowInside P (leaf_row P A n) (A.multipole n)
-  pub inner_rows : (n : ℕ) → n < A.nodes → is_leaf A n ≡ false → RowInside P (shifted_rows P A n) (A.multipole n)
+  pub leaf_rows : (n : ℕ) → n < A.nodes → is_leaf A n ≡ true → RowInside P (leaf_row A n) (A.multipole n)
+  pub inner_rows : (n : ℕ) → n < A.nodes → is_leaf A n ≡ false → RowInside P (shifted_rows A n) (A.multipole n)
   pub local_rows : All (λ t. (n : ℕ) → under A.parent t.leaf n ≡ true → RowInside P (local_row P A n) (A.local n)) A.targets
   pub radii : All (λ t. (n : ℕ) → under A.parent t.leaf n ≡ true → local_radius P A n ≤ A.radius n) A.targets
   -- boxes

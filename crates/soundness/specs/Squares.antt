@@ -37,7 +37,7 @@ abbrev pub IsFarFrom : Square → Gaussian → Type 0
 IsFarFrom c z = GaussianBeyond (3 * side c) (offset c z)
 
 -- two cells of one level whose centres are two sides or more apart in one direction
-pub record AreApartCells (b c : Square) : Type 0 where
+pub record CellsAreApart (b c : Square) : Type 0 where
   pub grid : b.grid ≡ c.grid
   pub level : b.level ≡ c.level
   pub apart : GaussianBeyond 2 (sides_between b c)
