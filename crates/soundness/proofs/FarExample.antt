@@ -15,7 +15,7 @@ use Rattle.particle_text.specs.declared.Kind.{Kind}
 use Rattle.particle_text.specs.declared.Kind.TheVariants.{Charge, Dipole, Vortex}
 use Rattle.particle_text.specs.Points.{place}
 use Rattle.row_recursions.specs.Rows.{shifted_up}
-use Rattle.soundness.specs.Squares.{quadrant, IsQuarter, IsFarFrom, CellsAreApart}
+use Rattle.soundness.specs.Squares.{quadrant, IsQuarterOf, IsFarFrom, CellsAreApart}
 use Rattle.soundness.specs.Accounts.{LeafSource, LeafTarget, Accounting, under, is_leaf, accounts}
 use Rattle.soundness.specs.Computed.{total_row, moments_in, leaf_row, shifted_rows, local_row, local_radius, target_box}
 use Rattle.soundness.specs.Rules.{RowInside, SourceStands, TargetStands, Apart, Rules}
@@ -190,11 +190,11 @@ parents_below (suc (suc (suc (suc (suc zero))))) h = omega arith
 parents_below (suc (suc (suc (suc (suc (suc zero)))))) h = omega arith
 parents_below (suc (suc (suc (suc (suc (suc (suc n))))))) h = omega arith
 
-quarter : (d c : Square) → 0 < d.level → d.level ≤ d.grid → parent d ≡ c → IsQuarter d c
+quarter : (d c : Square) → 0 < d.level → d.level ≤ d.grid → parent d ≡ c → IsQuarterOf d c
 quarter d c h k e = record { below_root = h; in_grid = k; parent_is = e }
 
-quarters_placed : (n : ℕ) → 0 < n → n < 7 → IsQuarter (cell n) (cell (above n))
-quarters_placed n h l = below_seven (λ n. 0 < n → IsQuarter (cell n) (cell (above n)))
+quarters_placed : (n : ℕ) → 0 < n → n < 7 → IsQuarterOf (cell n) (cell (above n))
+quarters_placed n h l = below_seven (λ n. 0 < n → IsQuarterOf (cell n) (cell (above n)))
     (λ h. absurd (omega arith))
     (λ h. quarter (cell 1) (cell 0) (omega arith) (omega arith) refl)
     (λ h. quarter (cell 2) (cell 0) (omega arith) (omega arith) refl)

@@ -16,7 +16,7 @@ use Rattle.row_recursions.specs.Rows.{shifted_down, local_value}
 use Rattle.row_recursions.proofs.BoxSums.{units}
 use Rattle.row_recursions.proofs.DownLaws.{field_down}
 use Rattle.row_recursions.proofs.FieldLaws.{no_field, sum_of_fields, local_values}
-use Rattle.soundness.specs.Squares.{centre, offset, quadrant, IsQuarter}
+use Rattle.soundness.specs.Squares.{doubled_centre, offset, quadrant, IsQuarterOf}
 use Rattle.soundness.specs.Computed.{total_row}
 use Rattle.soundness.specs.Rules.{RowInside}
 use Rattle.soundness.proofs.Places.{side_positive, side_of-quarter, centre_of-quarter}
@@ -28,9 +28,9 @@ pub record HoldsValues (P s : ℕ) (b : Gaussian) (value : Gaussian → ℂ) (m 
 
 -- in a cell
 abbrev pub Local : ℕ → Square → (Gaussian → ℂ) → (ℕ → BoxEnds) → Type 0
-Local P b value m = HoldsValues P (side b) (centre b) value m
+Local P b value m = HoldsValues P (side b) (doubled_centre b) value m
 
-pub Local-field : (P : ℕ) (b : Square) (field : Gaussian → ComplexRatio) (m : ℕ → BoxEnds) → HoldsField P (side b) (centre b) field m → Local P b (λ t. units *ℂ complex_value (field t)) m
+pub Local-field : (P : ℕ) (b : Square) (field : Gaussian → ComplexRatio) (m : ℕ → BoxEnds) → HoldsField P (side b) (doubled_centre b) field m → Local P b (λ t. units *ℂ complex_value (field t)) m
 Local-field P b field m h = record { field = field; holds = h; is = λ t. refl }
 
 module _ (P : ℕ) (b : Square) where
@@ -53,14 +53,14 @@ module _ (P : ℕ) (b : Square) where
   pub Local-zero : Local P b (λ t. of_int_ℂ (pos 0)) (λ l. zero_box)
   Local-zero = record {
     field = λ t. zero_complex;
-    holds = no_field P (side b) (centre b) (side_positive b);
+    holds = no_field P (side b) (doubled_centre b) (side_positive b);
     is = λ t. ap (λ z. units *ℂ z) (Stands-zero.is) ∙ ring1 complex_rationals units (λ u. search quotes depth 9) tt;
   }
 
   pub Local-add : (f g : Gaussian → ℂ) (m n : ℕ → BoxEnds) → Local P b f m → Local P b g n → Local P b (λ t. f t +ℂ g t) (λ l. add_box (m l) (n l))
   Local-add f g m n h k = record {
     field = λ t. add_complex (h.field t) (k.field t);
-    holds = sum_of_fields P (side b) (centre b) h.field k.field m n (side_positive b) h.holds k.holds;
+    holds = sum_of_fields P (side b) (doubled_centre b) h.field k.field m n (side_positive b) h.holds k.holds;
     is = λ t.
         ap (λ z. units *ℂ z) (Stands-add (Stands-itself (h.field t) (h.holds.fraction t)) (Stands-itself (k.field t) (k.holds.fraction t))).is
         ∙ complex_rationals.mul_add _ _ _ ∙ ap₂ ◌+ℂ◌ (h.is t) (k.is t);
@@ -83,13 +83,13 @@ module _ (P : ℕ) (b : Square) where
     where
       held : (z : ℂ) → units *ℂ complex_value (h.field t) ≡ z → EnclosesBox (local_value P m (side b) (offset b t)) z
       held z e = subst (EnclosesBox (local_value P m (side b) (offset b t))) e
-          (enclosed_from_contained (pos (2 ^ 40)) _ (Stands-itself (h.field t) (h.holds.fraction t)) (local_values P (side b) (centre b) t h.field m (side_positive b) h.holds))
+          (enclosed_from_contained (pos (2 ^ 40)) _ (Stands-itself (h.field t) (h.holds.fraction t)) (local_values P (side b) (doubled_centre b) t h.field m (side_positive b) h.holds))
 
 -- from the parent to a quarter
-pub Local-down : (P : ℕ) (d c : Square) (f : Gaussian → ℂ) (m : ℕ → BoxEnds) → IsQuarter d c → Local P c f m → Local P d f (shifted_down P m (quadrant d))
+pub Local-down : (P : ℕ) (d c : Square) (f : Gaussian → ℂ) (m : ℕ → BoxEnds) → IsQuarterOf d c → Local P c f m → Local P d f (shifted_down P m (quadrant d))
 Local-down P d c f m q h = record {
   field = h.field;
   holds = subst (λ g. HoldsField P (side d) g h.field (shifted_down P m (quadrant d))) (sym (centre_of-quarter d c q))
-      (field_down P (side d) (quadrant d) (centre c) h.field m (side_positive d) (subst (λ s. HoldsField P s (centre c) h.field m) (side_of-quarter d c q) h.holds));
+      (field_down P (side d) (quadrant d) (doubled_centre c) h.field m (side_positive d) (subst (λ s. HoldsField P s (doubled_centre c) h.field m) (side_of-quarter d c q) h.holds));
   is = h.is;
 }

@@ -23,7 +23,7 @@ use Rattle.row_recursions.specs.Sources.{source_at}
 use Rattle.row_recursions.proofs.BoxSums.{units}
 use Rattle.row_recursions.proofs.MomentLaws.{exact_of, Stands-moment, source_moments, moments_up}
 use Rattle.truncation.specs.Places.{doubled_offset}
-use Rattle.soundness.specs.Squares.{centre, quadrant, IsQuarter}
+use Rattle.soundness.specs.Squares.{doubled_centre, quadrant, IsQuarterOf}
 use Rattle.soundness.specs.Accounts.{LeafSource, Accounting, is_child, is_leaf, children, sources_under}
 use Rattle.soundness.specs.Computed.{total_row, moments_in, shifted_rows}
 use Rattle.soundness.specs.Rules.{RowInside, Rules}
@@ -34,40 +34,40 @@ use Rattle.soundness.proofs.Terms.{source_in, sources_in}
 
 -- the row of a cell contains the moments of these sources
 abbrev pub HoldsIn : ℕ → Square → List LeafSource → (ℕ → BoxEnds) → Type 0
-HoldsIn P c xs m = HoldsMoments P (side c) (centre c) (sources_in xs) m
+HoldsIn P c xs m = HoldsMoments P (side c) (doubled_centre c) (sources_in xs) m
 
 -- ---- rows of one cell
 module _ (P : ℕ) (c : Square) where
   -- the exact moment k of one source
   abbrev moment_at : ℕ → LeafSource → ℂ
-  moment_at k x = exact_of (side c) (centre c) k (source_in x)
+  moment_at k x = exact_of (side c) (doubled_centre c) k (source_in x)
 
   -- in units
   abbrev moments_at : List LeafSource → ℕ → ℂ
   moments_at xs k = units *ℂ sum_list complex_rationals (moment_at k) xs
 
   abbrev listed : List LeafSource → ℕ → ℂ
-  listed xs k = units *ℂ sum_list complex_rationals (exact_of (side c) (centre c) k) (sources_in xs)
+  listed xs k = units *ℂ sum_list complex_rationals (exact_of (side c) (doubled_centre c) k) (sources_in xs)
 
   listed-is : (xs : List LeafSource) (k : ℕ) → listed xs k ≡ moments_at xs k
-  listed-is xs k = ap (λ z. units *ℂ z) (sum_list-map complex_rationals (exact_of (side c) (centre c) k) source_in xs)
+  listed-is xs k = ap (λ z. units *ℂ z) (sum_list-map complex_rationals (exact_of (side c) (doubled_centre c) k) source_in xs)
 
   moments_from : (xs : List LeafSource) (m : ℕ → BoxEnds) → HoldsIn P c xs m → (k : ℕ) → k < P → EnclosesBox (m k) (moments_at xs k)
-  moments_from xs m h k l = subst (EnclosesBox (m k)) (listed-is xs k) (enclosed_from_contained (pos (2 ^ 40)) (m k) (Stands-moment (side c) (centre c) (sources_in xs) k (side_positive c)) (h.contains k l))
+  moments_from xs m h k l = subst (EnclosesBox (m k)) (listed-is xs k) (enclosed_from_contained (pos (2 ^ 40)) (m k) (Stands-moment (side c) (doubled_centre c) (sources_in xs) k (side_positive c)) (h.contains k l))
 
   moments_to : (xs : List LeafSource) (m : ℕ → BoxEnds) → ((k : ℕ) → k < P → EnclosesBox (m k) (moments_at xs k)) → HoldsIn P c xs m
   moments_to xs m h = record {
-    contains = λ k l. contained_from_enclosed (pos (2 ^ 40)) (m k) (Stands-moment (side c) (centre c) (sources_in xs) k (side_positive c)) (subst (EnclosesBox (m k)) (sym (listed-is xs k)) (h k l));
+    contains = λ k l. contained_from_enclosed (pos (2 ^ 40)) (m k) (Stands-moment (side c) (doubled_centre c) (sources_in xs) k (side_positive c)) (subst (EnclosesBox (m k)) (sym (listed-is xs k)) (h k l));
   }
 
   pub HoldsIn-inside : (xs : List LeafSource) (m n : ℕ → BoxEnds) → RowInside P m n → HoldsIn P c xs m → HoldsIn P c xs n
   HoldsIn-inside xs m n i h = record { contains = λ k l. BoxEndsContain-inside (h.contains k l) (i k l) }
 
-  point_moments : (z : Gaussian) (kind : Kind) → HoldsMoments P (side c) (centre c) (source_at z kind ∷ []) (source_moment (side c) (pole kind) (dipole kind) (doubled_offset z (centre c)))
-  point_moments z (Charge q) = source_moments P (side c) (centre c) (source_at z (Charge q)) (side_positive c)
-  point_moments z (Dipole re im) = source_moments P (side c) (centre c) (source_at z (Dipole re im)) (side_positive c)
-  point_moments z (Vortex g) = source_moments P (side c) (centre c) (source_at z (Vortex g)) (side_positive c)
-  point_moments z Target = source_moments P (side c) (centre c) (source_at z Target) (side_positive c)
+  point_moments : (z : Gaussian) (kind : Kind) → HoldsMoments P (side c) (doubled_centre c) (source_at z kind ∷ []) (source_moment (side c) (pole kind) (dipole kind) (doubled_offset z (doubled_centre c)))
+  point_moments z (Charge q) = source_moments P (side c) (doubled_centre c) (source_at z (Charge q)) (side_positive c)
+  point_moments z (Dipole re im) = source_moments P (side c) (doubled_centre c) (source_at z (Dipole re im)) (side_positive c)
+  point_moments z (Vortex g) = source_moments P (side c) (doubled_centre c) (source_at z (Vortex g)) (side_positive c)
+  point_moments z Target = source_moments P (side c) (doubled_centre c) (source_at z Target) (side_positive c)
 
   -- the sum over sources
   pub HoldsIn-sources : (xs : List LeafSource) → HoldsIn P c xs (total_row (λ x. moments_in c x.point) xs)
@@ -88,10 +88,10 @@ module _ (P : ℕ) (c : Square) where
       (EnclosesBox-total (λ d. row d k) (λ d. moments_at (part d) k) parts (λ i d h. moments_from (part (get_or parts i d)) (row (get_or parts i d)) (each i d h) k l)))
 
 -- from a quarter to its parent
-HoldsIn-up : (P : ℕ) (d c : Square) (xs : List LeafSource) (m : ℕ → BoxEnds) → IsQuarter d c → HoldsIn P d xs m → HoldsIn P c xs (shifted_up m (quadrant d))
+HoldsIn-up : (P : ℕ) (d c : Square) (xs : List LeafSource) (m : ℕ → BoxEnds) → IsQuarterOf d c → HoldsIn P d xs m → HoldsIn P c xs (shifted_up m (quadrant d))
 HoldsIn-up P d c xs m q h =
-    subst (λ s. HoldsMoments P s (centre c) (sources_in xs) (shifted_up m (quadrant d))) (sym (side_of-quarter d c q))
-    (moments_up P (side d) (quadrant d) (centre c) (sources_in xs) m (side_positive d)
+    subst (λ s. HoldsMoments P s (doubled_centre c) (sources_in xs) (shifted_up m (quadrant d))) (sym (side_of-quarter d c q))
+    (moments_up P (side d) (quadrant d) (doubled_centre c) (sources_in xs) m (side_positive d)
     (subst (λ g. HoldsMoments P (side d) g (sources_in xs) m) (centre_of-quarter d c q) h))
 
 -- ---- the rows of an accounting

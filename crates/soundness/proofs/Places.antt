@@ -12,7 +12,7 @@ use Rattle.cell_name.proofs.Distances.{same_side, centres_differ}
 use Rattle.near_field.proofs.PairContains.{norm_positive_re, norm_positive_im}
 use Rattle.row_recursions.specs.Cells.{sign}
 use Rattle.truncation.specs.Places.{GaussianBeyond, times_side}
-use Rattle.soundness.specs.Squares.{centre, quadrant, sides_between, IsQuarter, IsIn, CellsAreApart}
+use Rattle.soundness.specs.Squares.{doubled_centre, quadrant, sides_between, IsQuarterOf, IsIn, CellsAreApart}
 use Rattle.soundness.specs.Accounts.{under}
 use Rattle.soundness.proofs.Nodes.{strong, under-root, under-parent}
 
@@ -28,7 +28,7 @@ side_above : (d : Square) → 0 < d.level → d.level ≤ d.grid → side (paren
 side_above d h k = let e : d.grid - (d.level - 1) ≡ suc (d.grid - d.level) = omega arith in ap (λ n. 2 ^ n) e ∙ pow-succ' 2 (d.grid - d.level)
 
 -- the parent's side is twice the quarter's
-pub side_of-quarter : (d c : Square) → IsQuarter d c → side c ≡ 2 * side d
+pub side_of-quarter : (d c : Square) → IsQuarterOf d c → side c ≡ 2 * side d
 side_of-quarter d c h = subst (λ p. side p ≡ 2 * side d) h.parent_is (side_above d h.below_root h.in_grid)
 
 -- ---- centres, along one axis: of the piece m of side s and of the piece of twice the side that has it
@@ -67,17 +67,17 @@ along h m s t e = ⊎_elim
         omega (arith, ints)
 
 -- the quarter's centre from the parent's
-pub centre_of-quarter : (d c : Square) → IsQuarter d c → centre d ≡ add_gaussian (centre c) (times_side (side d) (quadrant d))
+pub centre_of-quarter : (d c : Square) → IsQuarterOf d c → doubled_centre d ≡ add_gaussian (doubled_centre c) (times_side (side d) (quadrant d))
 centre_of-quarter d c h =
     let e : side (parent d) ≡ 2 * side d = side_above d h.below_root h.in_grid in
-    subst (λ p. centre d ≡ add_gaussian (centre p) (times_side (side d) (quadrant d))) h.parent_is
+    subst (λ p. doubled_centre d ≡ add_gaussian (doubled_centre p) (times_side (side d) (quadrant d))) h.parent_is
     (ap₂ gaussian (along (pos (2 ^ (d.grid - 1))) d.i (side d) (side (parent d)) e) (along (pos (2 ^ (d.grid - 1))) d.j (side d) (side (parent d)) e))
 
 -- ---- cells that are apart
 pub sides_of-apart : (b c : Square) → CellsAreApart b c → side b ≡ side c
 sides_of-apart b c h = same_side b c h.grid h.level
 
-pub centres_of-apart : (b c : Square) → CellsAreApart b c → sub_gaussian (centre b) (centre c) ≡ times_side (2 * side b) (sides_between b c)
+pub centres_of-apart : (b c : Square) → CellsAreApart b c → sub_gaussian (doubled_centre b) (doubled_centre c) ≡ times_side (2 * side b) (sides_between b c)
 centres_of-apart b c h =
     let e = centres_differ b c h.grid h.level in
     ap₂ gaussian (moved (doubled_centre_x b) (doubled_centre_x c) _ e.0) (moved (doubled_centre_y b) (doubled_centre_y c) _ e.1)
@@ -99,17 +99,17 @@ wider z c c' s t true e f k = let l = k.above in let m = k.below in record { abo
 wider z c c' s t false e f k = let l = k.above in let m = k.below in record { above = omega (arith, ints); below = omega (arith, ints) }
 
 -- a place in a quarter is in the cell
-pub IsIn-quarter : (d c : Square) (z : Gaussian) → IsQuarter d c → IsIn d z → IsIn c z
+pub IsIn-quarter : (d c : Square) (z : Gaussian) → IsQuarterOf d c → IsIn d z → IsIn c z
 IsIn-quarter d c z h k =
     let e = side_of-quarter d c h in
     let f = centre_of-quarter d c h in
     record {
-      re = wider z.re (centre c).re (centre d).re (side d) (side c) (d.i % 2 == 1) e (ap (λ g. g.re) f) k.re;
-      im = wider z.im (centre c).im (centre d).im (side d) (side c) (d.j % 2 == 1) e (ap (λ g. g.im) f) k.im;
+      re = wider z.re (doubled_centre c).re (doubled_centre d).re (side d) (side c) (d.i % 2 == 1) e (ap (λ g. g.re) f) k.re;
+      im = wider z.im (doubled_centre c).im (doubled_centre d).im (side d) (side c) (d.j % 2 == 1) e (ap (λ g. g.im) f) k.im;
     }
 
 module _ (above : ℕ → ℕ) (root : above 0 ≡ 0) (parents : (n : ℕ) → 0 < n → above n < n)
-    (nodes : ℕ) (cell : ℕ → Square) (quarters : (n : ℕ) → 0 < n → n < nodes → IsQuarter (cell n) (cell (above n))) where
+    (nodes : ℕ) (cell : ℕ → Square) (quarters : (n : ℕ) → 0 < n → n < nodes → IsQuarterOf (cell n) (cell (above n))) where
   -- a place in a node's cell is in the cells of all nodes above it
   pub IsIn-above : (z : Gaussian) (n c : ℕ) → n < nodes → IsIn (cell n) z → under above n c ≡ true → IsIn (cell c) z
   IsIn-above z = strong (λ n. (c : ℕ) → n < nodes → IsIn (cell n) z → under above n c ≡ true → IsIn (cell c) z) step

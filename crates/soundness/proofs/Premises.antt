@@ -1,16 +1,13 @@
--- For whoever shows the rules: the places and distances of cells, quadrants, and one entry of a list.
-use Rattle.std.proofs.Common.{◌≡◌, refl, sym, ap, ap₂, ◌∙◌, ℕ, zero, suc, ◌+◌, ◌*◌, ◌%◌, ◌<◌, ◌≤◌, arith, Bool, true, false, cond, not, ◌&&◌, List, [], ◌∷◌, length, get_or}
-use Rattle.std.specs.Prelude.{ℤ, pos, neg_ℤ, ◌+ℤ◌, ◌-ℤ◌, ◌≤ℤ◌, ◌<ℤ◌, ◌⊎◌, ◌==◌, max, unsigned_abs, filter}
+-- For whoever shows the rules: quadrants by name, one entry of a list, and the sum of the sources alone.
+use Rattle.std.proofs.Common.{◌≡◌, refl, sym, ap, ap₂, ◌∙◌, ℕ, zero, suc, ◌+◌, ◌%◌, ◌<◌, arith, Bool, true, false, cond, not, ◌&&◌, List, [], ◌∷◌, length, get_or}
+use Rattle.std.specs.Prelude.{◌==◌, filter}
 use Rattle.std.specs.List.{count_by}
-use Rattle.std.proofs.lemmas.Bool.{cases_Bool, cases_lt}
-use Rattle.std.proofs.lemmas.Int.{ints}
+use Rattle.std.proofs.lemmas.Bool.{cases_Bool}
 use Rattle.std.proofs.lemmas.List.Recursion.{is_count_by}
-use mathlib.Core.Logic.{⊎_elim, inl, inr}
+use mathlib.Core.Logic.{⊎_elim}
 use Rattle.exact_math.specs.Gaussian.{Gaussian, gaussian}
 use Rattle.exact_math.specs.Sums.{sum_terms}
-use Rattle.cell_name.specs.Apart.{AreTwoOrThreeSidesApart, IsLarge, columns_between, rows_between}
 use Rattle.cell_name.specs.Cell.{square, half_number}
-use Rattle.cell_name.specs.Square.{Square, side, corner_x, corner_y, offset_x, offset_y, Holds}
 use Rattle.cell_name.specs.declared.cell.Cell.{Cell}
 use Rattle.cell_name.specs.declared.cell.Quadrant.{Quadrant}
 use Rattle.near_field.specs.DirectSum.{is_source, acts_on, acting_on, direct_sum}
@@ -18,29 +15,7 @@ use Rattle.near_field.specs.Pair.{is_at, term_of}
 use Rattle.particle_text.specs.declared.Point.{Point}
 use Rattle.row_recursions.specs.Cells.{sign, quadrant_of}
 use Rattle.soundness.specs.Accounts.{LeafSource, points_of}
-use Rattle.soundness.specs.Squares.{quadrant, IsIn, IsFarFrom, CellsAreApart}
-
--- ---- cells
-near : (x c s : ℤ) → c ≤ℤ x → x <ℤ (c +ℤ s) → (neg_ℤ s ≤ℤ (x +ℤ x -ℤ (c +ℤ c +ℤ s))) × ((x +ℤ x -ℤ (c +ℤ c +ℤ s)) ≤ℤ s)
-near x c s h k = (omega (arith, ints), omega (arith, ints))
-
--- a cell that holds a place has it in its closed square
-pub IsIn-held : (c : Square) (x y : ℤ) → Holds c x y → IsIn c (gaussian x y)
-IsIn-held c x y h =
-    let a = near x (corner_x c) (pos (side c)) h.west h.east in
-    let b = near y (corner_y c) (pos (side c)) h.south h.north in
-    record { re = record { above = a.0; below = a.1 }; im = record { above = b.0; below = b.1 } }
-
--- a place with a large offset is far
-pub IsFarFrom-large : (c : Square) (x y : ℤ) → IsLarge (3 * side c) (offset_x c x) ⊎ IsLarge (3 * side c) (offset_y c y) → IsFarFrom c (gaussian x y)
-IsFarFrom-large c x y h = ⊎_elim (λ l. inl l.large) (λ l. inr l.large) h
-
--- cells of one level that are two or three sides apart
-pub CellsAreApart-sides : (b c : Square) → b.grid ≡ c.grid → b.level ≡ c.level → AreTwoOrThreeSidesApart b c → CellsAreApart b c
-CellsAreApart-sides b c e f h = record { grid = e; level = f; apart = either (unsigned_abs (columns_between b c)) (unsigned_abs (rows_between b c)) h.at_least_two }
-  where
-    either : (m n : ℕ) → 2 ≤ max m n → (2 ≤ m) ⊎ (2 ≤ n)
-    either m n h = ⊎_elim (λ l. inr (omega arith)) (λ l. inl (omega arith)) (cases_lt m 2)
+use Rattle.soundness.specs.Squares.{quadrant}
 
 -- the quadrant that a cell's name tells
 pub quadrant-named : (c : Cell) (q : Quadrant) → half_number q.right ≡ c.i % 2 → half_number q.top ≡ c.j % 2 → quadrant (square c) ≡ quadrant_of q

@@ -6,7 +6,7 @@ use Rattle.exact_math.specs.Ends.{BoxEnds, BoxEndsInside}
 use Rattle.cert_text.specs.declared.Letter.{Letter}
 use Rattle.cert_text.specs.declared.Letter.TheVariants.{U, V, W, X}
 use Rattle.particle_text.specs.Points.{place}
-use Rattle.soundness.specs.Squares.{IsQuarter, IsIn, IsFarFrom, CellsAreApart}
+use Rattle.soundness.specs.Squares.{IsQuarterOf, IsIn, IsFarFrom, CellsAreApart}
 use Rattle.soundness.specs.Accounts.{LeafSource, LeafTarget, Accounting, under, is_leaf, accounts}
 use Rattle.soundness.specs.Computed.{leaf_row, shifted_rows, local_row, local_radius, target_box}
 
@@ -35,10 +35,10 @@ module _ (A : Accounting) where
 
 -- the rules at order P
 pub record Rules (P : ℕ) (A : Accounting) : Type 0 where
-  -- nodes
+  -- nodes; past the last of them any smaller number serves as a parent
   pub root : A.parent 0 ≡ 0
   pub parents : (n : ℕ) → 0 < n → A.parent n < n
-  pub quarters : (n : ℕ) → 0 < n → n < A.nodes → IsQuarter (A.cell n) (A.cell (A.parent n))
+  pub quarters : (n : ℕ) → 0 < n → n < A.nodes → IsQuarterOf (A.cell n) (A.cell (A.parent n))
   pub sources : All (SourceStands A) A.sources
   pub targets : All (TargetStands A) A.targets
   -- entries

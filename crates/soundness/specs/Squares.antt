@@ -1,29 +1,21 @@
 -- How the squares of nodes lie to each other and to places.
 use Rattle.std.specs.Prelude.{◌≡◌, ◌%◌, ◌*◌, ◌≤◌, ◌<◌, ◌==◌}
 use Rattle.exact_math.specs.Gaussian.{Gaussian, gaussian}
-use Rattle.cell_name.specs.Square.{Square, side, parent, doubled_centre_x, doubled_centre_y}
-use Rattle.cell_name.specs.Apart.{columns_between, rows_between}
+use Rattle.cell_name.specs.Square.{Square, side, parent}
 use Rattle.truncation.specs.Places.{GaussianWithin, GaussianBeyond, doubled_offset}
 use Rattle.row_recursions.specs.Cells.{sign}
-
--- twice the centre
-abbrev pub centre : Square → Gaussian
-centre c = gaussian (doubled_centre_x c) (doubled_centre_y c)
+pub use Rattle.row_recursions.specs.Geometry.{doubled_centre, sides_between}
 
 -- the doubled offset of a place from the centre
 abbrev pub offset : Square → Gaussian → Gaussian
-offset c z = doubled_offset z (centre c)
+offset c z = doubled_offset z (doubled_centre c)
 
 -- the quadrant of a cell in its parent: 1 for the right and for the top half, -1 for the other
 abbrev pub quadrant : Square → Gaussian
 quadrant c = gaussian (sign (c.i % 2 == 1)) (sign (c.j % 2 == 1))
 
--- the centre of b minus that of c, in sides, for cells of one level
-abbrev pub sides_between : Square → Square → Gaussian
-sides_between b c = gaussian (columns_between b c) (rows_between b c)
-
 -- the cell d is a quarter of the cell c
-pub record IsQuarter (d c : Square) : Type 0 where
+pub record IsQuarterOf (d c : Square) : Type 0 where
   pub below_root : 0 < d.level
   pub in_grid : d.level ≤ d.grid
   pub parent_is : parent d ≡ c
