@@ -52,9 +52,9 @@ fn print(points: &[Point]) -> String {
     text
 }
 
-fn main() {
+fn measure(lines: usize) {
     let mut text = String::from("fmm 1 field\n");
-    for _ in 0..65_536 {
+    for _ in 0..lines {
         text.push_str("charge -12345 23456 -54321\n");
     }
     let start = Instant::now();
@@ -65,4 +65,9 @@ fn main() {
     let wrote = start.elapsed().as_micros();
     println!("parse {} bytes in {read} us, {} MB/s", text.len(), text.len() as u128 / read);
     println!("print {} bytes in {wrote} us, {} MB/s", printed.len(), printed.len() as u128 / wrote);
+}
+
+fn main() {
+    measure(8_192);
+    measure(65_536);
 }

@@ -5,7 +5,8 @@
 ghost use Rattle.std.specs.Prelude.{◌≡◌, ◌≤◌, pos};
 ghost use Rattle.truncation.specs.Entries.{weight as source_weight};
 ghost use Rattle.particle_text.specs.Limits.{InRange};
-ghost use Rattle.error_ledger.specs.Weights.{source_of, weight_of};
+ghost use Rattle.row_recursions.specs.Sources.{source_of};
+ghost use Rattle.error_ledger.specs.Weights.{weight_of};
 
 mod ledger;
 #[cfg(test)]

@@ -1,12 +1,11 @@
 -- What the calls on rows do to what a row contains and to its size.
 use Rattle.std.proofs.Common.{◌≡◌, sym, ap, ap₂, ◌∙◌, subst, ℕ, ◌+◌, ◌*◌, ◌^◌, ◌<◌, List, [], ◌∷◌, ◌++◌, arith, pos}
 use Rattle.std.proofs.lemmas.Int.{ints}
-use Rattle.exact_math.specs.Ends.{BoxEnds, BoxEndsWithin, BoxEndsContain, zero_box, add_box}
+use Rattle.exact_math.specs.Ends.{BoxEnds, BoxEndsWithin, BoxEndsContain, add_box}
 use Rattle.exact_math.specs.Gaussian.{Gaussian}
 use Rattle.exact_math.specs.Orders.{IsOrder}
 use Rattle.exact_math.specs.Sums.{sum_terms}
 use Rattle.complex_box.proofs.Sizes.{box_wider, add_box_within}
-use Rattle.complex_box.specs.Rows.{zero_cbox}
 use Rattle.cell_name.specs.Cell.{square}
 use Rattle.cell_name.specs.Square.{Holds}
 use Rattle.cell_name.specs.declared.cell.Cell.{Cell}
@@ -17,7 +16,7 @@ use Rattle.truncation.specs.Entries.{Source, multipole_cut}
 use Rattle.truncation.specs.Places.{GaussianBeyond, doubled_offset}
 use Rattle.row_recursions.specs.Cells.{side_of, centre_of, offset_from, moments_of}
 use Rattle.row_recursions.specs.Moments.{HoldsMoments}
-use Rattle.row_recursions.specs.Rows.{RowsAdd, HasPart, source_moment, multipole_value}
+use Rattle.row_recursions.specs.Rows.{RowsAdd, source_moment, multipole_value}
 use Rattle.row_recursions.specs.Sizes.{RowWithin}
 use Rattle.row_recursions.specs.Sources.{source_of}
 use Rattle.row_recursions.proofs.MomentLaws.{source_moments, sum_of_moments, multipole_values, moments_same}
@@ -49,17 +48,9 @@ pub added_moments : (P : ℕ) (c : Cell) (p : Point) (xs : List Source) (old new
 added_moments P c p xs old new adds h = moments_same P (side_of c) (centre_of c) (xs ++ source_of p ∷ []) (λ k. add_box (old k) (moments_of c p k)) new adds
     (sum_of_moments P (side_of c) (centre_of c) xs (source_of p ∷ []) old (moments_of c p) (side_positive c) h (point_moments P c p))
 
--- a sum that has the point's moments in it has what was computed of them
-pub has_part : (P : ℕ) (sum part contribution : ℕ → BoxEnds) → ((k : ℕ) → k < P → part k ≡ contribution k) → HasPart P sum contribution → HasPart P sum part
-has_part P sum part contribution is h = record { rest = h.rest; adds = λ k l. h.adds k l ∙ ap (add_box _) (sym (is k l)) }
-
 -- the value of a row contains the cut terms
 pub value_contains : (P : ℕ) (c : Cell) (t : Gaussian) (xs : List Source) (m : ℕ → BoxEnds) → GaussianBeyond (3 * side_of c) (offset_from c t) → HoldsMoments P (side_of c) (centre_of c) xs m
     → BoxEndsContain (pos (2 ^ 40)) (multipole_value P m (side_of c) (offset_from c t)) (sum_terms (multipole_cut P (centre_of c) t) xs)
 value_contains P c t xs m far h =
     let apart = far_norm_positive (side_of c) (offset_from c t) (side_positive c) far in
     multipole_values P (side_of c) (centre_of c) t xs m (side_positive c) (omega (arith, ints)) h
-
--- a row that was zero has its part in it
-pub has_all : (P : ℕ) (old part sum : ℕ → BoxEnds) → RowsAdd P old part sum → ((k : ℕ) → k < P → old k ≡ zero_box) → HasPart P sum part
-has_all P old part sum adds zero = record { rest = λ k. zero_cbox; adds = λ k h. adds k h ∙ ap (λ b. add_box b (part k)) (zero k h) }

@@ -11,6 +11,7 @@ pub mod FarLaws
 pub mod FarPlaces
 pub mod FarRows
 pub mod FieldLaws
+pub mod Geometry
 pub mod Halves
 pub mod KernelCounts
 pub mod KernelRows
@@ -23,6 +24,7 @@ pub mod PolynomialZeros
 pub mod RowSizes
 pub mod RowWrites
 pub mod Sides
+pub mod Turns
 pub mod UpRows
 pub mod Values
 pub mod Worked

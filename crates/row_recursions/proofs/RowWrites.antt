@@ -2,12 +2,12 @@
 use Rattle.std.proofs.Common.{◌≡◌, ◌≢◌, ℕ, ◌<◌, ◌≤◌, ◌+◌, List, length, sym, ap, ◌∙◌, arith, slice_set, slice_index_or, get_or-set_same, get_or-set_other, below_more, ◌+ℤ◌, ◌-ℤ◌, ℤ}
 use Rattle.std.proofs.lemmas.Int.{ints}
 use Rattle.std.proofs.lemmas.List.{get_or_read}
-use Rattle.exact_math.specs.Ends.{Ends, BoxEnds, add_box}
+use Rattle.exact_math.specs.Ends.{Ends, BoxEnds, zero_box, add_box}
 use Rattle.fixed_interval.specs.declared.Interval.{Interval}
 use Rattle.complex_box.specs.Box.{box_ends, TakeFits}
 use Rattle.complex_box.specs.Rows.{zero_cbox}
 use Rattle.complex_box.specs.declared.CBox.{CBox}
-use Rattle.row_recursions.specs.Rows.{row_of, HasPart}
+use Rattle.row_recursions.specs.Rows.{row_of, RowsAdd, HasPart}
 
 -- the box that was written
 pub row_set-same : (xs : List CBox) (i : ℕ) (v : CBox) → i < length xs → row_of (slice_set xs i v) i ≡ box_ends v
@@ -87,3 +87,11 @@ box_take_fits P k sum part b c l e f h =
       take_fits b.re c.re (h.rest k).re (ap (λ (x : BoxEnds). x.re.lo) g) (ap (λ (x : BoxEnds). x.re.hi) g),
       take_fits b.im c.im (h.rest k).im (ap (λ (x : BoxEnds). x.im.lo) g) (ap (λ (x : BoxEnds). x.im.hi) g),
     )
+
+-- a sum that has a contribution in it has what was computed of it
+pub has_part : (P : ℕ) (sum part contribution : ℕ → BoxEnds) → ((k : ℕ) → k < P → part k ≡ contribution k) → HasPart P sum contribution → HasPart P sum part
+has_part P sum part contribution is h = record { rest = h.rest; adds = λ k l. h.adds k l ∙ ap (add_box (box_ends (h.rest k))) (sym (is k l)) }
+
+-- a row that was zero has in it what was added
+pub has_all : (P : ℕ) (old part sum : ℕ → BoxEnds) → RowsAdd P old part sum → ((k : ℕ) → k < P → old k ≡ zero_box) → HasPart P sum part
+has_all P old part sum adds zero = record { rest = λ k. zero_cbox; adds = λ k h. adds k h ∙ ap (λ b. add_box b (part k)) (zero k h) }

@@ -1,4 +1,5 @@
 //! The laws of rows. Nothing here runs: each law is the contract of a function with an empty body.
+ghost use Rattle.row_recursions.specs.Geometry.{HeldPlaces, PairsOfCells, FarPlaces, QuartersOfCells};
 ghost use Rattle.row_recursions.specs.Laws.{NoMoments, SourceMoments, SumOfMoments, MomentsUp, MultipoleValues, NoField, SumOfFields, OneField, FieldConverted, FieldOfSource, FieldDown, LocalValues};
 ghost use Rattle.row_recursions.specs.Sizes.{MomentSizes, UpSizes, ConvertedSizes, FarSizes, DownSizes, LocalValueSizes, MultipoleValueSizes};
 
@@ -37,4 +38,14 @@ pub fn row_sizes()
     ensures down { DownSizes }
     ensures local_value { LocalValueSizes }
     ensures multipole_value { MultipoleValueSizes }
+{}
+
+/// Cells in the words of rows: a place in a cell is within its side; the centres of two cells of one level that don't touch and whose
+/// parents do are a distance of the kernel apart; a place in a cell that doesn't touch is beyond 3 sides; the centre of a quarter is one
+/// of its own sides, in doubled coordinates, from that of its cell in both directions.
+pub fn cells_and_rows()
+    ensures held { HeldPlaces }
+    ensures pairs { PairsOfCells }
+    ensures far { FarPlaces }
+    ensures quarters { QuartersOfCells }
 {}

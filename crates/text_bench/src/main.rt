@@ -1,7 +1,8 @@
-//! Reads, prints and writes 65,536 lines: with no argument it says what came out, and with the word `time` how many
-//! megabytes a second.
+//! Reads, prints and writes 8,192 and 65,536 lines: with no argument it says what came out, and with the word `time` how
+//! many megabytes a second.
 #![tactic(auto)]
 
+ghost use Rattle.std.specs.Prelude.{◌≤◌};
 ghost use Rattle.particle_text.specs.Limits.{WithinLimits};
 
 use complex_box::CBox;
@@ -10,9 +11,6 @@ use io_ports::{DropSink, MemSink, Sink};
 use particle_text::{Mode, Points, parse, print};
 use std::time::Instant;
 use std::{env, io};
-
-/// How many lines there are.
-const LINES: u32 = 65_536;
 
 /// Whether the command line has the word `time`.
 fn is_timed(rt: &HostRuntime) -> io::Result<bool> {
@@ -24,9 +22,9 @@ fn is_timed(rt: &HostRuntime) -> io::Result<bool> {
 }
 
 /// A text of that many charges.
-fn sample(rt: &HostRuntime) -> Option<Vec<u8>> {
+fn sample(rt: &HostRuntime, lines: u32) -> Option<Vec<u8>> {
     let mut text = Vec::from_slice(rt.alloc(), b"fmm 1 field\n").ok()?;
-    for _ in 0..LINES {
+    for _ in 0..lines {
         text.extend_from_slice(b"charge -12345 23456 -54321\n")
             .ok()?;
     }
@@ -64,10 +62,10 @@ fn line_length(rt: &HostRuntime) -> usize {
 }
 
 /// Writes as many lines of targets to a sink that keeps nothing.
-fn write_lines() -> bool {
+fn write_lines(lines: u32) -> bool {
     let mut sink = DropSink;
     let mut all = true;
-    for _ in 0..LINES {
+    for _ in 0..lines {
         all = all && write_line(&mut sink);
     }
     all
@@ -83,25 +81,33 @@ fn printed(rt: &HostRuntime, points: &Points) -> usize
     }
 }
 
-fn main(rt: HostRuntime) -> io::Result<()> {
-    let timed = is_timed(&rt)?;
-    let Some(text) = sample(&rt) else {
+/// Reads, prints and writes that many lines.
+fn measure(rt: &HostRuntime, timed: bool, lines: u32) -> io::Result<()>
+    requires { lines ≤ 65536 }
+{
+    let Some(text) = sample(rt, lines) else {
         return Ok(());
     };
-    let start = Instant::now(&rt)?;
+    let start = Instant::now(rt)?;
     let Ok(points) = parse(rt.alloc(), text.as_slice()) else {
         return Ok(());
     };
-    tell(&rt, timed, "parse", text.len(), start)?;
-    let start = Instant::now(&rt)?;
-    let bytes = printed(&rt, &points);
-    tell(&rt, timed, "print", bytes, start)?;
-    let line = line_length(&rt).min(256);
-    let start = Instant::now(&rt)?;
-    let bytes = if write_lines() {
-        line * LINES as usize
+    tell(rt, timed, "parse", text.len(), start)?;
+    let start = Instant::now(rt)?;
+    let bytes = printed(rt, &points);
+    tell(rt, timed, "print", bytes, start)?;
+    let line = line_length(rt).min(256);
+    let start = Instant::now(rt)?;
+    let bytes = if write_lines(lines) {
+        line * lines as usize
     } else {
         0
     };
-    tell(&rt, timed, "write_target", bytes, start)
+    tell(rt, timed, "write_target", bytes, start)
+}
+
+fn main(rt: HostRuntime) -> io::Result<()> {
+    let timed = is_timed(&rt)?;
+    measure(&rt, timed, 8_192)?;
+    measure(&rt, timed, 65_536)
 }

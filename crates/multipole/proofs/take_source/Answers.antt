@@ -4,7 +4,8 @@ use Rattle.particle_text.specs.Limits.{weight64}
 use Rattle.row_recursions.specs.Cells.{moments_of}
 use Rattle.row_recursions.specs.Rows.{row_of, HasPart}
 use Rattle.row_recursions.proofs.RowSizes.{taken_within}
-use Rattle.multipole.proofs.RowCalls.{part_within, has_part}
+use Rattle.row_recursions.proofs.RowWrites.{has_part}
+use Rattle.multipole.proofs.RowCalls.{part_within}
 use Rattle.multipole.proofs.take_source.Goals as goal
 
 pub take_row-requires-clause-part : goal.take_row-requires-clause-part

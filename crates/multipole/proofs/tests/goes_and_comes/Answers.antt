@@ -3,7 +3,7 @@ use Rattle.std.proofs.lemmas.List.{get_or-replicate}
 use Rattle.complex_box.specs.Box.{box_ends}
 use Rattle.complex_box.specs.Rows.{zero_cbox}
 use Rattle.row_recursions.specs.Rows.{row_of}
-use Rattle.multipole.proofs.RowCalls.{has_all}
+use Rattle.row_recursions.proofs.RowWrites.{has_all}
 use Rattle.multipole.proofs.tests.goes_and_comes.Goals as goal
 
 pub take_source-requires-clause-part : goal.take_source-requires-clause-part

@@ -1,0 +1,3 @@
+pub mod FourBoxes
+pub mod RoundSteps
+pub mod Sums

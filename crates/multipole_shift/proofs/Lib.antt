@@ -1,0 +1,2 @@
+pub mod RowShifts
+pub mod UpSteps

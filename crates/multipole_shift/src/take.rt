@@ -1,0 +1,33 @@
+//! A row out of its parent's again.
+ghost use Rattle.std.specs.Prelude.{◌≡◌, ℕ, ◌+◌, ◌^◌, ◌<◌, ◌≤◌, length};
+ghost use Rattle.exact_math.specs.Orders.{IsOrder};
+ghost use Rattle.row_recursions.specs.Cells.{quadrant_of};
+ghost use Rattle.row_recursions.specs.Rows.{row_of, RowsAdd, HasPart, shifted_up};
+ghost use Rattle.row_recursions.specs.Sizes.{RowWithin};
+
+use crate::rounds::shift_in_place;
+use cell_name::Quadrant;
+use complex_box::{CBox, Row, Work};
+use row_recursions::take_row;
+
+/// Takes the row of a child with the quadrant `q`, shifted to its parent's centre, away from the parent's row. The translations are
+/// raised by one. Conditions: `P` is one of the orders and the length of `into`, all ends of the child's row are at most 2^80 in size,
+/// the parent's row is a sum that has the shifted row as a part, and the count of translations is below 2^63.
+pub fn take_up<const P: usize>(child: Row<P>, q: Quadrant, into: &mut [CBox], work: &mut Work)
+    requires order { IsOrder P }
+    requires len { length into.old ≡ P }
+    requires child { RowWithin P (2 ^ 80) (row_of child.cells.now) }
+    requires part { HasPart P (row_of into.old) (shifted_up (row_of child.cells.now) (quadrant_of q)) }
+    requires room { work.old.translations < 2 ^ 63 }
+    ensures len { length into.new ≡ P }
+    ensures adds { RowsAdd P (row_of into.new) (shifted_up (row_of child.entry.cells.now) (quadrant_of q)) (row_of into.old) }
+    ensures size { (m n : ℕ) → RowWithin P m (row_of into.old) → RowWithin P n (row_of child.entry.cells.now) → RowWithin P (m + n) (row_of into.new) }
+    ensures translations { work.new.translations ≡ work.old.translations + 1 }
+    ensures pairs { work.new.pairs ≡ work.old.pairs }
+{
+    let mut part = [CBox::zero(); P];
+    part.copy_from_slice(child.cells);
+    shift_in_place(&mut part, q);
+    take_row(into, &part);
+    work.raise_translations();
+}
