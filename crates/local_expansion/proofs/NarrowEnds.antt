@@ -1,7 +1,7 @@
 -- Products of narrow intervals.
-use Rattle.std.proofs.Common.{◌≡◌, ◌∙◌, sym, subst, ◌^◌, arith, lit≤, ℤ, pos, ◌*ℤ◌, ◌≤ℤ◌, ◌<ℤ◌, SFits, to_z, of_z, to_z-of_z}
+use Rattle.std.proofs.Common.{◌≡◌, sym, subst, ◌^◌, arith, lit≤, ℤ, pos, ◌*ℤ◌, ◌≤ℤ◌, ◌<ℤ◌, SFits, to_z, of_z, to_z-of_z}
 use Rattle.std.proofs.lemmas.Int.{ints, clamps}
-use Rattle.std.specs.Int.{w64, w128, int_min, int_max}
+use Rattle.std.specs.Int.{w128, int_min, int_max}
 use Rattle.exact_math.specs.Ends.{times_ends}
 use Rattle.exact_math.specs.Within.{Within}
 use Rattle.exact_math.proofs.WholeSizes.{within-mul, within-weaker}
