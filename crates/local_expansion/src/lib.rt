@@ -25,6 +25,7 @@ ghost use Rattle.row_recursions.specs.Sizes.{RowWithin};
 ghost use Rattle.row_recursions.specs.Sources.{source_of};
 
 mod conversion;
+mod narrow;
 mod sources;
 #[cfg(test)]
 mod tests;
@@ -34,6 +35,7 @@ use cell_name::Cell;
 use complex_box::{CBox, Gauss, Row, Work};
 use conversion::coefficient;
 use kernel_table::Kernel;
+use narrow::is_narrow;
 use particle_text::Point;
 use row_recursions::{add_row, offset, side_bits};
 use sources::fill_far;
@@ -64,8 +66,9 @@ pub fn convert<const P: usize>(
     ensures translations { work.new.translations ≡ work.old.translations + 1 }
     ensures pairs { work.new.pairs ≡ work.old.pairs }
 {
+    let narrow = is_narrow(row);
     for l in 0..P {
-        into[l] = into[l].add(coefficient(kernel.column(e, l), row));
+        into[l] = into[l].add(coefficient(kernel.column(e, l), row, narrow));
     }
     work.raise_translations();
 }

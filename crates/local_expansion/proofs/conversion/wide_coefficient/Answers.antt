@@ -5,7 +5,7 @@ use Rattle.complex_box.specs.Rows.{zero_cbox}
 use Rattle.row_recursions.specs.Rows.{row_of, sum_boxes}
 use Rattle.row_recursions.proofs.RowWrites.{row_read}
 use Rattle.local_expansion.proofs.ProductSums.{product_fits, sum_fits, product_next}
-use Rattle.local_expansion.proofs.conversion.coefficient.Goals as goal
+use Rattle.local_expansion.proofs.conversion.wide_coefficient.Goals as goal
 
 pub add_product-requires-clause-product : goal.add_product-requires-clause-product
 add_product-requires-clause-product g c = product_fits g.row.P (row_of c.args.column.now) (row_of c.args.row.cells.now) c.requires.order c.requires.column c.requires.row c.loop-k.k _ _ (omega arith)

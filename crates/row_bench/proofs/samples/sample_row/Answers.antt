@@ -7,8 +7,8 @@ use Rattle.complex_box.specs.Box.{BoxWithin}
 use Rattle.complex_box.specs.declared.CBox.{CBox}
 use Rattle.row_recursions.specs.Rows.{row_of}
 use Rattle.row_recursions.proofs.RowWrites.{row_set-same, row_set-other}
-use Rattle.row_bench.proofs.loops.parent_row.Goals as goal
-use Rattle.row_bench.proofs.loops.parent_row.Goals.{After-new-in-loop-k}
+use Rattle.row_bench.proofs.samples.sample_row.Goals as goal
+use Rattle.row_bench.proofs.samples.sample_row.Goals.{After-new-in-loop-k}
 
 module _ (c : After-new-in-loop-k) where
   abbrev made : CBox
