@@ -2,7 +2,7 @@ pub mod ConvertCalls
 pub mod FarSources
 pub mod FarSteps
 pub mod FourBoxes
-pub mod NarrowProducts
+pub mod NarrowEnds
 pub mod Places
 pub mod ProductSums
 pub mod RowCalls

@@ -43,7 +43,3 @@ module _ (P : ℕ) (column row : ℕ → BoxEnds) (few : P ≤ 32) (narrow : Row
 pub by_kernel : (P : ℕ) (e : Gaussian) (l : ℕ) (column row : ℕ → BoxEnds) → ((k : ℕ) → k < P → column k ≡ kernel_entry e k l)
     → quot_box (sum_boxes P (λ k. times_box (column k) (row k))) (pos (2 ^ 40)) ≡ converted P (kernel_entry e) row l
 by_kernel P e l column row h = ap (λ b. quot_box b (pos (2 ^ 40))) (sum_same P _ _ (λ k i. ap (λ b. times_box b (row k)) (h k i))) ∙ sym (converted-is P (kernel_entry e) row l)
-
--- a narrow row is a row
-pub wide_row : (P : ℕ) (row : ℕ → BoxEnds) → RowWithin P (2 ^ 62) row → RowWithin P (2 ^ 80) row
-wide_row P row h k l = box_wider (2 ^ 62) (2 ^ 80) (row k) (omega arith) (h k l)

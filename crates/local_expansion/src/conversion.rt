@@ -9,6 +9,7 @@ use crate::narrow::narrow_coefficient;
 use complex_box::{Acc, CBox, Row};
 
 /// The sum of the products of a column of the kernel with a row, rounded once.
+#[inline]
 fn wide_coefficient<const P: usize>(column: &[CBox], row: Row<P>) -> CBox
     requires len { length column.now ≡ P }
     requires order { P ≤ 32 }
@@ -23,7 +24,7 @@ fn wide_coefficient<const P: usize>(column: &[CBox], row: Row<P>) -> CBox
     sum.sum.quot_shift(40)
 }
 
-/// The same, with the faster products where the row is known to be narrow.
+/// The same, by narrow products where the row's ends are at most 2^62 in size.
 #[inline]
 pub(crate) fn coefficient<const P: usize>(column: &[CBox], row: Row<P>, narrow: bool) -> CBox
     requires len { length column.now ≡ P }

@@ -1,10 +1,12 @@
-//! Brings a row of order 16 down a thousand times, to each of the four quadrants in turn, and says three boxes of the
-//! sum; with the word `time` a million times, and how long one call took.
+//! Calls each operation on rows of order 16 in a loop: with no argument a thousand times, whose results are folded into
+//! one number; with the word `time` for some 0.3 seconds, and how long one call took.
 #![tactic(auto)]
 
 mod loops;
+mod samples;
 
-use loops::bring_down;
+use kernel_table::Kernel;
+use loops::Operation;
 use std::time::Instant;
 use std::{env, io};
 
@@ -19,19 +21,23 @@ fn is_timed(rt: &HostRuntime) -> io::Result<bool> {
 
 fn main(rt: HostRuntime) -> io::Result<()> {
     let timed = is_timed(&rt)?;
-    let count = if timed { 1_000_000 } else { 1_000 };
-    let start = Instant::now(&rt)?;
-    let row = bring_down(count);
-    let nanos = start.elapsed(&rt)?.as_nanos();
-    for k in [0usize, 1, 15] {
-        let cell = row[k];
-        println!(rt;
-            "down {k}: {} {} {} {}",
-            cell.re.lo, cell.re.hi, cell.im.lo, cell.im.hi
-        )?;
-    }
-    if timed {
-        println!(rt; "down {count} calls, {} ns a call", nanos / 1_000_000)?;
+    let Ok(kernel) = Kernel::<16>::new(rt.alloc()) else {
+        return Err(io::Error::from(io::ErrorKind::OutOfMemory));
+    };
+    for operation in Operation::ALL {
+        let name = operation.name();
+        if timed {
+            let count = operation.many();
+            let start = Instant::now(&rt)?;
+            let folded = operation.run(&kernel, count);
+            let nanos = start.elapsed(&rt)?.as_nanos() / u128::from(count);
+            println!(rt;
+                "{name} {folded} {nanos} ns a call, {} a sixteenth",
+                nanos / 16
+            )?;
+        } else {
+            println!(rt; "{name} {}", operation.run(&kernel, 1_000))?;
+        }
     }
     Ok(())
 }

@@ -1,4 +1,4 @@
-use Rattle.std.proofs.Common.{◌∙◌, ap₂, arith, lit<}
+use Rattle.std.proofs.Common.{◌∙◌, ap₂, arith, lit<, rules}
 use Rattle.std.proofs.lemmas.List.{length-set}
 use Rattle.exact_math.specs.Ends.{add_box}
 use Rattle.complex_box.specs.Box.{number}
@@ -13,7 +13,7 @@ use Rattle.local_expansion.proofs.convert.Goals as goal
 pub coefficient-requires : goal.coefficient-requires
 coefficient-requires g c =
     let few = order_small g.row.P c.requires.order in
-    (lit< tt, (c.column.ensures.whole, (omega (arith, few), (column_within g.row.P (number c.args.e) (row_of c.args.row.cells.now) c.requires.order c.requires.distance c.loop-l.l c.column.result.now (omega arith) c.column.ensures, (c.requires.row, c.loop-l.invariant.narrow)))))
+    (lit< tt, (c.column.ensures.whole, (omega (arith, few), (column_within g.row.P (number c.args.e) (row_of c.args.row.cells.now) c.requires.order c.requires.distance c.loop-l.l c.column.result.now (omega arith) c.column.ensures, (c.requires.row, search rules)))))
 
 pub add-requires : goal.add-requires
 add-requires g c = sum_fits g.row.P (number c.args.e) (row_of c.args.row.cells.now) c.requires.order c.requires.distance (row_of c.args.into.now) c.loop-l.l _ _ (omega arith) c.requires.row c.requires.size
@@ -22,7 +22,6 @@ add-requires g c = sum_fits g.row.P (number c.args.e) (row_of c.args.row.cells.n
 
 pub loop-l-preserved : goal.loop-l-preserved
 loop-l-preserved g c = record {
-  narrow = c.loop-l.invariant.narrow;
   len = length-set c.loop-l.into c.loop-l.l c.add.result ∙ c.loop-l.invariant.len;
   written = written-next _ _ _ _ _ (omega (arith, c.loop-l.invariant.len))
       (c.add.ensures.ends ∙ ap₂ add_box

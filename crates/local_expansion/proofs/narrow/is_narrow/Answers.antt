@@ -1,5 +1,4 @@
-use Rattle.std.proofs.Common.{◌^◌, ap, subst, below_more}
-use mathlib.Core.Path.{refl}
+use Rattle.std.proofs.Common.{◌^◌, ap, subst, below_more, rules}
 use Rattle.exact_math.specs.Ends.{BoxEndsWithin}
 use Rattle.complex_box.specs.Box.{box_ends}
 use Rattle.complex_box.specs.Rows.{zero_cbox}
@@ -7,5 +6,5 @@ use Rattle.row_recursions.specs.Rows.{row_of}
 use Rattle.local_expansion.proofs.narrow.is_narrow.Goals as goal
 
 pub loop-k-preserved : goal.loop-k-preserved
-loop-k-preserved g c = below_more (λ k. BoxEndsWithin (2 ^ 62) (row_of c.args.row.cells.now k)) c.loop-k.k c.loop-k.invariant
-    (subst (BoxEndsWithin (2 ^ 62)) (ap box_ends (c.get.ensures zero_cbox)) (c.if-not-has_narrow_parts.ensures.0 refl))
+loop-k-preserved g c = below_more (λ j. BoxEndsWithin (2 ^ 62) (row_of c.args.row.cells.now j)) c.loop-k.k c.loop-k.invariant
+    (subst (BoxEndsWithin (2 ^ 62)) (ap box_ends (c.get.ensures zero_cbox)) (search rules))

@@ -1,0 +1,52 @@
+use Rattle.std.proofs.Common.{◌≡◌, ◌∙◌, suc, ◌+◌, ◌*◌, ◌^◌, ap, sym, arith, pos, ◌+ℤ◌, to_z, of_z}
+use Rattle.std.proofs.lemmas.Int.{ints}
+use Rattle.std.specs.Int.{w128}
+use Rattle.exact_math.specs.Ends.{scale_box}
+use Rattle.exact_math.specs.Within.{Within}
+use Rattle.complex_box.specs.Box.{box_ends, number}
+use Rattle.complex_box.proofs.Sizes.{box_wider, scale_box_within}
+use Rattle.row_recursions.proofs.RowWrites.{written-start, written-next}
+use Rattle.local_expansion.specs.FarPowers.{far_powers}
+use Rattle.local_expansion.proofs.FarSteps.{far_powers-zero, turn_fits, power_next, power_next_within}
+use Rattle.local_expansion.proofs.sources.fill_dipoles.Goals as goal
+use mathlib.Core.Path.{refl}
+
+pub gquot-power-requires-clause-fits : goal.gquot-power-requires-clause-fits
+gquot-power-requires-clause-fits c = turn_fits _ _ c.requires.size c.far_ratio-ratio.ensures.small
+
+pub loop-l-init : goal.loop-l-init
+loop-l-init c =
+    let low = c.far_ratio-ratio.ensures.positive in
+    let high = c.far_ratio-ratio.ensures.most in
+    let d : to_z w128 (of_z w128 c.far_ratio-ratio.result.divisor) ≡ c.far_ratio-ratio.result.divisor = omega (arith, ints) in
+    record {
+      written = written-start _ _ _ (λ j. refl);
+      power = power_next c.args.bits (number c.args.zeta) (box_ends c.args.first) _ _ _ _ 0 (sym (far_powers-zero _ _ _)) c.far_ratio-ratio.ensures.factor (d ∙ c.far_ratio-ratio.ensures.divisor) c.gquot-power.ensures.ends;
+      size = power_next_within c.args.bits (number c.args.zeta) _ _ _ _ c.requires.far c.requires.size c.far_ratio-ratio.ensures.factor (d ∙ c.far_ratio-ratio.ensures.divisor) c.gquot-power.ensures.ends;
+    }
+
+pub gquot-power-requires-in-loop-l-clause-fits : goal.gquot-power-requires-in-loop-l-clause-fits
+gquot-power-requires-in-loop-l-clause-fits c = turn_fits _ _ c.loop-l.invariant.size c.far_ratio-ratio.ensures.small
+
+pub scale-requires : goal.scale-requires
+scale-requires c =
+    let low = c.far_ratio-ratio.ensures.positive in
+    let high = c.far_ratio-ratio.ensures.most in
+    let d : to_z w128 (of_z w128 c.far_ratio-ratio.result.divisor) ≡ c.far_ratio-ratio.result.divisor = omega (arith, ints) in
+    let e : to_z w128 (of_z w128 (to_z w128 c.loop-l.l +ℤ pos 1)) ≡ pos (suc c.loop-l.l) = omega (arith, ints, c.requires.len) in
+    let w : Within 32 (pos (suc c.loop-l.l)) = record { above = omega (arith, ints); below = omega (arith, ints, c.requires.len) } in
+    rw e (box_wider (2 ^ 60 * 32) (2 ^ 126) _ (omega arith) (scale_box_within 32 (2 ^ 60) (pos (suc c.loop-l.l)) (box_ends c.gquot-power-in-loop-l.result) w
+    (power_next_within c.args.bits (number c.args.zeta) _ _ _ _ c.requires.far c.loop-l.invariant.size c.far_ratio-ratio.ensures.factor (d ∙ c.far_ratio-ratio.ensures.divisor) c.gquot-power-in-loop-l.ensures.ends)))
+
+pub loop-l-preserved : goal.loop-l-preserved
+loop-l-preserved c =
+    let low = c.far_ratio-ratio.ensures.positive in
+    let high = c.far_ratio-ratio.ensures.most in
+    let d : to_z w128 (of_z w128 c.far_ratio-ratio.result.divisor) ≡ c.far_ratio-ratio.result.divisor = omega (arith, ints) in
+    let e : to_z w128 (of_z w128 (to_z w128 c.loop-l.l +ℤ pos 1)) ≡ pos (suc c.loop-l.l) = omega (arith, ints, c.requires.len) in
+    let next = power_next c.args.bits (number c.args.zeta) (box_ends c.args.first) _ _ _ _ (suc c.loop-l.l) c.loop-l.invariant.power c.far_ratio-ratio.ensures.factor (d ∙ c.far_ratio-ratio.ensures.divisor) c.gquot-power-in-loop-l.ensures.ends in
+    record {
+      written = written-next _ _ _ _ _ (omega arith) (c.scale.ensures.ends ∙ ap (λ n. scale_box n (box_ends c.gquot-power-in-loop-l.result)) e ∙ ap (scale_box (pos (suc c.loop-l.l))) next) c.loop-l.invariant.written;
+      power = next ∙ ap (far_powers (box_ends c.args.first) (2 * 2 ^ c.args.bits) (number c.args.zeta)) {x = suc (suc c.loop-l.l)} {y = suc (c.loop-l.l + 1)} (omega arith);
+      size = power_next_within c.args.bits (number c.args.zeta) _ _ _ _ c.requires.far c.loop-l.invariant.size c.far_ratio-ratio.ensures.factor (d ∙ c.far_ratio-ratio.ensures.divisor) c.gquot-power-in-loop-l.ensures.ends;
+    }

@@ -1,0 +1,2 @@
+-- The cell of the samples.
+pub mod Middle
