@@ -1,2 +1,8 @@
 -- What the proofs of this crate rest on.
+pub mod Accounts
+pub mod Ascending
+pub mod Leaves
+pub mod Members
+pub mod Numbers
+pub mod Sums
 pub mod Worked
