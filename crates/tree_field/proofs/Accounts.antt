@@ -113,23 +113,23 @@ module _ (grid : ℕ) (points : List Point) (cap P : ℕ) (lists : TreeLists) (p
       step false e = filter_none (of_node letter n) (entries_from grid points cap P lists l (cell n)) (All-map (λ e. of_node letter n e ≡ false) (entry grid points cap P lists l (cell n)) (lists.entries l (cell n))
           (All-from_members (λ c. of_node letter n (entry grid points cap P lists l (cell n) c) ≡ false) (lists.entries l (cell n)) (λ c m. and_left (is_letter letter l) (n == number lists.cells (cell n)) e)))
 
+  abbrev from : ℕ → Letter → List Entry
+  from n l = entries_from grid points cap P lists l (cell n)
+
+  kept : (letter : Letter) (from : Letter → List Entry) → cond (is_letter letter U) (from U) [] ++ (cond (is_letter letter V) (from V) [] ++ (cond (is_letter letter W) (from W) [] ++ cond (is_letter letter X) (from X) [])) ≡ from letter
+  kept U from = append-nil (from U)
+  kept V from = append-nil (from V)
+  kept W from = append-nil (from W)
+  kept X from = refl
+
   pub entries_of-cell : (letter : Letter) (n : ℕ) → n < length lists.cells → entries_of given letter n ≡ entries_from grid points cap P lists letter (cell n)
   entries_of-cell letter n lt =
       filter_piece (of_node letter n) (of_cell grid points cap P lists) lists.cells (cell n) (ascending_differ lists.cells are.cells_are.ascending) (Contains-get_or lists.cells n (root grid) lt) (λ b h other. other_cell letter n b lt h other)
-      ∙ filter-append (of_node letter n) (from U) (from V ++ (from W ++ from X))
-      ∙ ap₂ (λ k l. k ++ l) (piece letter U n lt) (filter-append (of_node letter n) (from V) (from W ++ from X)
-      ∙ ap₂ (λ k l. k ++ l) (piece letter V n lt) (filter-append (of_node letter n) (from W) (from X)
+      ∙ filter-append (of_node letter n) (from n U) (from n V ++ (from n W ++ from n X))
+      ∙ ap₂ (λ k l. k ++ l) (piece letter U n lt) (filter-append (of_node letter n) (from n V) (from n W ++ from n X)
+      ∙ ap₂ (λ k l. k ++ l) (piece letter V n lt) (filter-append (of_node letter n) (from n W) (from n X)
       ∙ ap₂ (λ k l. k ++ l) (piece letter W n lt) (piece letter X n lt)))
-      ∙ kept letter
-    where
-      abbrev from : Letter → List Entry
-      from l = entries_from grid points cap P lists l (cell n)
-
-      kept : (letter : Letter) → cond (is_letter letter U) (from U) [] ++ (cond (is_letter letter V) (from V) [] ++ (cond (is_letter letter W) (from W) [] ++ cond (is_letter letter X) (from X) [])) ≡ from letter
-      kept U = append-nil (from U)
-      kept V = append-nil (from V)
-      kept W = append-nil (from W)
-      kept X = refl
+      ∙ kept letter (from n)
 
   -- the cells of the entries are cells of the tree
   pub second_in_tree : (letter : Letter) (n : ℕ) → n < length lists.cells → All (IsTreeCell grid points cap) (lists.entries letter (cell n))

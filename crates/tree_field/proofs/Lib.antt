@@ -3,6 +3,7 @@ pub mod Accounts
 pub mod Ascending
 pub mod Leaves
 pub mod Members
+pub mod MultipoleRows
 pub mod Numbers
 pub mod Sums
 pub mod Worked
