@@ -2,6 +2,7 @@
 pub mod Accounts
 pub mod Ascending
 pub mod Leaves
+pub mod LocalRows
 pub mod Members
 pub mod MultipoleRows
 pub mod Numbers
