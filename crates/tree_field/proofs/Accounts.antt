@@ -1,5 +1,5 @@
 -- The field of a list as an accounting, and the sums over its entries and sources as sums over cells and points.
-use Rattle.std.proofs.Common.{ℕ, ◌≡◌, ◌≢◌, ◌<◌, suc, List, [], ◌∷◌, ◌++◌, length, map, Bool, true, false, cond, ◌&&◌, filter, refl, sym, ap, ap₂, ◌∙◌, subst, arith, append-nil}
+use Rattle.std.proofs.Common.{ℕ, ◌≡◌, ◌≢◌, ◌<◌, List, [], ◌++◌, length, map, Bool, true, false, cond, ◌&&◌, filter, refl, sym, ap, ap₂, ◌∙◌, append-nil}
 use Rattle.std.specs.Prelude.{◌==◌, All, Contains, sum_by}
 use Rattle.std.specs.List.{flat_map}
 use Rattle.std.proofs.lemmas.Bool.{and_right, and_from, and_left, ne_eqb, eq-eqb}
@@ -7,7 +7,6 @@ use Rattle.std.proofs.lemmas.List.Elements.{All-append, All-map, All-contains, C
 use Rattle.exact_math.specs.Ends.{BoxEnds}
 use Rattle.cell_name.specs.Square.{Square, root}
 use Rattle.cell_lists.proofs.OneEntry.{in_tree_of}
-use Rattle.cell_lists.specs.Entries.{IsEntry}
 use Rattle.cert_text.specs.declared.Entry.{Entry}
 use Rattle.cert_text.specs.declared.Letter.{Letter}
 use Rattle.cert_text.specs.declared.Letter.TheVariants.{U, V, W, X}
@@ -99,7 +98,7 @@ module _ (grid : ℕ) (points : List Point) (cap P : ℕ) (lists : TreeLists) (p
   other_cell letter n b lt h other =
       filter_none (of_node letter n) (of_cell grid points cap P lists b)
       (All-of_cell grid points cap P lists (λ e. of_node letter n e ≡ false) b (λ l. All-from_members (λ c. of_node letter n (entry grid points cap P lists l b c) ≡ false) (lists.entries l b)
-      (λ c m. and_right (is_letter letter l) (n == number lists.cells b) (ne_eqb n (number lists.cells b) (λ e. other (sym (ap cell e ∙ cell_of_number grid points cap lists.cells positive inside are.cells_are b (All-contains (IsTreeCell grid points cap) lists.cells b are.cells_are.in_tree h)))))))) 
+      (λ c m. and_right (is_letter letter l) (n == number lists.cells b) (ne_eqb n (number lists.cells b) (λ e. other (sym (ap cell e ∙ cell_of_number grid points cap lists.cells positive inside are.cells_are b (All-contains (IsTreeCell grid points cap) lists.cells b are.cells_are.in_tree h))))))))
 
   piece : (letter l : Letter) (n : ℕ) → n < length lists.cells → filter (of_node letter n) (entries_from grid points cap P lists l (cell n)) ≡ cond (is_letter letter l) (entries_from grid points cap P lists l (cell n)) []
   piece letter l n lt = step (is_letter letter l) refl

@@ -1,13 +1,13 @@
 -- The leaf of a point, and which nodes it is under.
-use Rattle.std.proofs.Common.{ℕ, ◌≡◌, ◌+◌, ◌-◌, ◌<◌, ◌≤◌, zero, suc, inl, inr, List, length, Bool, true, false, cond, refl, sym, ap, ◌∙◌, subst, arith, add-one}
-use Rattle.std.specs.Prelude.{◌==◌, nat_lt, Contains}
-use Rattle.std.proofs.lemmas.Bool.{false≢true, cases_Bool, cases_lt, or_cases, or_right, ltb-true, ltb-false, eqb-true}
+use Rattle.std.proofs.Common.{ℕ, ◌≡◌, ◌+◌, ◌-◌, ◌<◌, ◌≤◌, zero, suc, inl, inr, List, length, Bool, true, false, cond, refl, sym, ap, ◌∙◌, subst, arith}
+use Rattle.std.specs.Prelude.{◌==◌, Contains}
+use Rattle.std.proofs.lemmas.Bool.{cases_lt, or_cases, or_right, ltb-true, ltb-false, eqb-true}
 use Rattle.std.proofs.lemmas.List.Elements.{All-contains}
 use mathlib.Core.Logic.{⊎_elim}
 use Rattle.particle_text.specs.declared.Point.{Point}
 use Rattle.particle_text.specs.Points.{place}
 use Rattle.cell_name.specs.Square.{Square, parent, IsInGrid, Holds, holds_test}
-use Rattle.cell_name.proofs.Cells.{Holds-square_at, Holds-parent, parent-square_at, square_at-root}
+use Rattle.cell_name.proofs.Cells.{Holds-square_at, Holds-parent, parent-square_at}
 use Rattle.cell_name.proofs.HoldsTest.{Holds-from_test, test-from_Holds}
 use Rattle.cell_lists.proofs.OneEntry.{cell_is}
 use Rattle.quadtree.specs.Tree.{count_in, AreInGrid, IsTreeCell, IsLeaf, AreTreeCells}

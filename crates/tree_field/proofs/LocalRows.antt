@@ -1,11 +1,10 @@
 -- Local rows, radii and boxes of the field as what is computed of an accounting.
-use Rattle.std.proofs.Common.{ℕ, ◌≡◌, ◌+◌, ◌-◌, ◌*◌, ◌<◌, ◌≤◌, zero, suc, List, [], ◌∷◌, length, refl, sym, ap, ap₂, ◌∙◌, arith}
+use Rattle.std.proofs.Common.{ℕ, ◌≡◌, ◌+◌, ◌*◌, ◌<◌, zero, suc, List, [], ◌∷◌, length, refl, sym, ap, ap₂, ◌∙◌, arith}
 use Rattle.std.specs.Prelude.{pos, Contains, sum_by}
-use Rattle.exact_math.specs.Ends.{BoxEnds, zero_box, add_box, widen_box}
+use Rattle.exact_math.specs.Ends.{zero_box, add_box, widen_box}
 use Rattle.exact_math.specs.Gaussian.{Gaussian}
 use Rattle.cell_name.specs.Square.{Square, side, parent}
 use Rattle.cell_lists.specs.Entries.{IsVPair, IsWPair}
-use Rattle.cert_text.specs.declared.Letter.{Letter}
 use Rattle.cert_text.specs.declared.Letter.TheVariants.{U, V, W, X}
 use Rattle.kernel_table.specs.Kernel.{kernel_entry}
 use Rattle.near_field.specs.Pair.{pair_box}
@@ -23,7 +22,7 @@ use Rattle.truncation.specs.Tails.{ceiling, pair_tail, single_tail}
 use Rattle.tree_field.specs.Lists.{TreeLists, AreTreeLists}
 use Rattle.tree_field.specs.Field.{sources_in, multipole_row, converted_rows, far_rows, local_at_level, local_row, weight_in, pair_radius, single_radius, radius_at_level, local_radius, local_value_at, multipole_values_at, pairs_at, radius_in, box_in}
 use Rattle.tree_field.proofs.Accounts.{accounting, over_sources, sum_over_sources, over_entries, sum_over_entries}
-use Rattle.tree_field.proofs.Numbers.{cell_at, above, tree_cell, first_is_root, level_positive, cell_above}
+use Rattle.tree_field.proofs.Numbers.{cell_at, tree_cell, first_is_root, level_positive, cell_above}
 
 -- ---- the row of the root, and that of a cell below it from its parent's
 root_level : (points : List Point) (cap P : ℕ) (lists : TreeLists) (level : ℕ) (b : Square) (k : ℕ) → level ≡ 0 → local_at_level points cap P lists level b k ≡ zero_box

@@ -1,8 +1,8 @@
 -- Multipole rows of the field as what is computed of an accounting.
-use Rattle.std.proofs.Common.{ℕ, ◌≡◌, ◌+◌, ◌-◌, ◌<◌, ◌≤◌, zero, suc, inl, inr, ◌⊎◌, List, [], ◌∷◌, length, map, Bool, true, false, not, cond, ◌&&◌, filter, refl, sym, ap, ap₂, ◌∙◌, subst, arith, add-one}
-use Rattle.std.specs.Prelude.{◌==◌, nat_lt, pos, All, AllPairs, Contains}
+use Rattle.std.proofs.Common.{ℕ, ◌≡◌, ◌+◌, ◌-◌, ◌<◌, ◌≤◌, zero, suc, inl, inr, ◌⊎◌, List, [], length, map, Bool, true, false, not, cond, filter, refl, sym, ap, ap₂, ◌∙◌, subst, arith, add-one}
+use Rattle.std.specs.Prelude.{◌==◌, nat_lt, pos, Contains}
 use Rattle.std.specs.List.{range_with_len}
-use Rattle.std.proofs.lemmas.Bool.{true≢false, false≢true, cases_Bool, and_parts, and_from, ltb-true, lt-ltb, le-ltb, eqb-true, eq-eqb, not-true, not-false, cases_lt}
+use Rattle.std.proofs.lemmas.Bool.{true≢false, cases_Bool, and_parts, and_from, ltb-true, lt-ltb, le-ltb, eqb-true, eq-eqb, not-false, cases_lt}
 use Rattle.std.proofs.lemmas.Int.{ints}
 use Rattle.std.proofs.lemmas.List.Elements.{All-weaker, All-filter, All-contains}
 use Rattle.std.proofs.lemmas.List.Kept.{AllPairs-filter}
@@ -28,7 +28,7 @@ use Rattle.soundness.specs.Accounts.{Accounting, is_child, is_leaf, children}
 use Rattle.soundness.specs.Computed.{total_box, total_row, moments_in, shifted_rows, leaf_row as given_leaf_row}
 use Rattle.soundness.specs.Squares.{quadrant}
 use Rattle.tree_field.specs.Lists.{TreeLists, AreTreeLists}
-use Rattle.tree_field.specs.Field.{is_source_in, sources_in, has_source, leaf_row, is_over, multipole_above, multipole_row}
+use Rattle.tree_field.specs.Field.{is_source_in, has_source, leaf_row, is_over, multipole_above, multipole_row}
 use Rattle.tree_field.proofs.Accounts.{accounting, over_sources}
 use Rattle.tree_field.proofs.Ascending.{same_list, quarters_ascend}
 use Rattle.tree_field.proofs.Members.{image_of, Contains-into_map, AllPairs-map, AllPairs-range, Contains-range, range_below, filter_none, found, list_any-member, none_passes}
