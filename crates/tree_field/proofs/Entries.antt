@@ -23,7 +23,7 @@ use Rattle.quadtree.proofs.Distinct.{AllPairs-append, All-flat_map, Contains-fla
 use Rattle.row_recursions.proofs.Geometry.{far_places, pairs_of_cells}
 use Rattle.soundness.specs.Accounts.{LeafSource, LeafTarget, Accounting, under, is_letter, reaches, accounts}
 use Rattle.soundness.specs.Rules.{Apart}
-use Rattle.soundness.specs.Squares.{IsFarFrom, AreApartCells}
+use Rattle.soundness.specs.Squares.{IsFarFrom, CellsAreApart}
 use Rattle.tree_field.specs.Lists.{TreeLists, AreTreeLists}
 use Rattle.tree_field.specs.Field.{targets}
 use Rattle.tree_field.proofs.Accounts.{leaf_number, leaf_source, leaf_target, sources, entry, entries_from, of_cell, accounting, All-of_cell}
@@ -96,7 +96,7 @@ module _ (grid : ℕ) (points : List Point) (cap P : ℕ) (lists : TreeLists) (p
   apart_of V b c tb tc e =
       let grids : b.grid ≡ c.grid = tb.of_grid ∙ sym tc.of_grid in
       let a = e.come_apart in
-      subst (λ s. AreApartCells s (cell (number lists.cells c))) (sym (is b tb)) (subst (λ s. AreApartCells b s) (sym (is c tc))
+      subst (λ s. CellsAreApart s (cell (number lists.cells c))) (sym (is b tb)) (subst (λ s. CellsAreApart b s) (sym (is c tc))
       (record { grid = grids; level = a.same_level; apart = (pairs_of_cells b c grids a.same_level a.apart a.parents_touch).beyond }))
   apart_of W b c tb tc e =
       let a = e.comes_apart in

@@ -173,7 +173,7 @@ module _ (grid : ℕ) (points : List Point) (cap P : ℕ) (lists : TreeLists) (p
       let level : (cell d).level - 1 ≡ (cell n).level = ap (λ (s : Square). s.level) h.parent_is in
       (subst (IsSplit points cap) h.parent_is (IsTreeCell-below grid points cap (cell d) lo here.level_in_grid here).1, omega (arith, here.level_in_grid))
 
-  pub leaf_rows_same : (n : ℕ) → n < length lists.cells → is_leaf given n ≡ true → (k : ℕ) → given_leaf_row P given n k ≡ multipole_row points cap (cell n) k
+  pub leaf_rows_same : (n : ℕ) → n < length lists.cells → is_leaf given n ≡ true → (k : ℕ) → given_leaf_row given n k ≡ multipole_row points cap (cell n) k
   leaf_rows_same n lt e k =
       let leaf = leaf_from_node n lt e in
       over_sources grid points cap P lists positive inside are (λ p. moments_in (cell n) p k) n lt
@@ -231,7 +231,7 @@ module _ (grid : ℕ) (points : List Point) (cap P : ℕ) (lists : TreeLists) (p
               zero_is : (m : ℕ) → m ≤ 0 → m ≡ 0
               zero_is m le = omega arith
 
-  pub inner_rows_same : (n : ℕ) → n < length lists.cells → is_leaf given n ≡ false → (k : ℕ) → shifted_rows P given n k ≡ multipole_row points cap (cell n) k
+  pub inner_rows_same : (n : ℕ) → n < length lists.cells → is_leaf given n ≡ false → (k : ℕ) → shifted_rows given n k ≡ multipole_row points cap (cell n) k
   inner_rows_same n lt e k =
       let s = split_from_node n lt e in
       let here = tree_cell grid points cap lists.cells positive inside are.cells_are n lt in
