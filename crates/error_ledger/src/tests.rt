@@ -31,10 +31,13 @@ fn weights(rt: HostRuntime) {
 
 #[test]
 fn radii(rt: HostRuntime) {
-    // One charge far from a cell of side 4, and nine charges seen from a cell of side 1.
+    // One charge far from a cell of side 4, nine charges in such a cell, and nine seen from a cell of side 1.
     let mut ledger = Ledger::new();
     ledger.add_single(1, 4, 4);
     assert_eq!(rt; ledger.radius(), 13_668_646_683);
+    let mut ledger = Ledger::new();
+    ledger.add_single(9, 4, 4);
+    assert_eq!(rt; ledger.radius(), 123_017_820_143);
     let mut ledger = Ledger::new();
     ledger.add_pair(9, 1, 4);
     assert_eq!(rt; ledger.radius(), 1_789_868_981_808);

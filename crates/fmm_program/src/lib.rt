@@ -10,6 +10,7 @@ mod tests;
 mod top;
 mod words;
 
+pub use point_sample::sample_points;
 pub use status::Status;
 pub use top::run;
 pub use words::{Opening, Words, plan};

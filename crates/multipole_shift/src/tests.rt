@@ -1,4 +1,4 @@
-//! A row that is known from elsewhere goes up and away again.
+//! A small row goes up and away again, with numbers by hand.
 
 use super::{shift_up, take_up};
 use cell_name::Quadrant;
@@ -28,6 +28,7 @@ fn up_and_away(rt: HostRuntime) {
     shift_up::<4>(child_row, below_on_the_right, &mut row, &mut work);
     is(&rt, row[0], (1, 1), (0, 0));
     is(&rt, row[1], (1, 2), (-1, 0));
+    is(&rt, row[2], (-1, 1), (-1, 1));
     is(&rt, row[3], (0, 2), (0, 3));
     take_up::<4>(child_row, below_on_the_right, &mut row, &mut work);
     for k in 0..4 {

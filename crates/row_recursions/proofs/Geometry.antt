@@ -1,12 +1,11 @@
 -- The laws of cells in the words of rows.
 use Rattle.exact_math.proofs.Common.{int_ring, int_quotes, ring4}
-use Rattle.std.proofs.Common.{◌⊎◌, ◌≡◌, refl, sym, ap, ap₂, ◌∙◌, ℕ, ◌+◌, ◌*◌, ◌^◌, ◌-◌, ◌≤◌, ◌<◌, max, arith, inl, inr, ℤ, pos, neg_ℤ, ◌+ℤ◌, ◌-ℤ◌, ◌*ℤ◌, ◌≤ℤ◌, unsigned_abs}
+use Rattle.std.proofs.Common.{◌⊎◌, ◌≡◌, ap₂, ℕ, ◌+◌, ◌*◌, ◌≤◌, max, arith, inl, inr, ℤ, pos, ◌+ℤ◌, ◌-ℤ◌, ◌*ℤ◌, unsigned_abs}
 use Rattle.std.proofs.lemmas.Int.{ints}
 use mathlib.Core.Logic.{⊎_elim}
 use Rattle.std.proofs.lemmas.Bool.{cases_lt}
-use Rattle.exact_math.specs.Gaussian.{Gaussian, gaussian}
+use Rattle.exact_math.specs.Gaussian.{gaussian}
 use Rattle.exact_math.specs.Within.{Within}
-use Rattle.cell_name.specs.Square.{Square, side, side_at, half, corner_x, child}
 use Rattle.cell_name.proofs.Axis.{side-halves}
 use Rattle.cell_name.proofs.Distances.{offset_x_at_most, offset_y_at_most, offset_large, centres_differ, two_or_three}
 use Rattle.row_recursions.specs.Geometry.{HeldPlaces, PairsOfCells, FarPlaces, QuartersOfCells, quarter_sign}

@@ -18,7 +18,9 @@ pub mod KernelRows
 pub mod LinearFunctionals
 pub mod MomentLaws
 pub mod MomentRows
+pub mod OneField
 pub mod Points
+pub mod PolynomialZeros
 pub mod RowSizes
 pub mod RowWrites
 pub mod Sides

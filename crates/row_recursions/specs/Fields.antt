@@ -11,8 +11,8 @@ use Rattle.row_recursions.specs.Moments.{in_sides}
 abbrev pub field_at : ℕ → ℕ → (ℕ → ComplexRatio) → Gaussian → ComplexRatio
 field_at P s coefficient o = over_complex (sum_complex P (λ l. mul_complex (coefficient l) (pow_complex (in_sides s o) l))) (pos s)
 
--- the row, whose boxes count units of 2^-40, contains the coefficients of a field, which is their polynomial about c/2 at all whole places of the plane and so
--- determines them
+-- the row, whose boxes count units of 2^-40, contains the coefficients of a field, which is their polynomial about c/2 at all whole places of the plane and, by
+-- a law, determines them
 pub record HoldsField (P s : ℕ) (c : Gaussian) (field : Gaussian → ComplexRatio) (m : ℕ → BoxEnds) : Type 0 where
   pub coefficient : ℕ → ComplexRatio
   pub fractions : (l : ℕ) → pos 0 <ℤ (coefficient l).denominator

@@ -1,5 +1,5 @@
 -- What the laws of cells say in the words of rows: doubled centres and offsets as complex numbers.
-use Rattle.std.specs.Prelude.{ℕ, ◌+◌, ◌*◌, ◌≤◌, ◌<◌, ◌≡◌, ℤ, pos, ◌*ℤ◌, ◌-ℤ◌}
+use Rattle.std.specs.Prelude.{ℕ, ◌*◌, ◌≤◌, ◌<◌, ◌≡◌, ℤ, pos, ◌-ℤ◌}
 use Rattle.exact_math.specs.Gaussian.{Gaussian, gaussian, add_gaussian, sub_gaussian}
 use Rattle.truncation.specs.Places.{GaussianWithin, GaussianBeyond, times_side, doubled_offset}
 use Rattle.cell_name.specs.Apart.{columns_between, rows_between}

@@ -1,8 +1,8 @@
 -- What the rounded recursions contain, for every order, side and centre. c and b are doubled centres.
-use Rattle.std.specs.Prelude.{ℕ, ◌*◌, ◌^◌, ◌≤◌, ◌<ℤ◌, pos, List, [], ◌∷◌, ◌++◌}
+use Rattle.std.specs.Prelude.{ℕ, ◌*◌, ◌^◌, ◌<◌, ◌≤◌, ◌<ℤ◌, pos, List, [], ◌∷◌, ◌++◌}
 use Rattle.exact_math.specs.Ends.{BoxEnds, BoxEndsContain, zero_box, add_box}
 use Rattle.exact_math.specs.Gaussian.{Gaussian, add_gaussian, norm_gaussian}
-use Rattle.exact_math.specs.Ratio.{ComplexRatio, zero_complex, add_complex}
+use Rattle.exact_math.specs.Ratio.{ComplexRatio, SameComplex, zero_complex, add_complex}
 use Rattle.exact_math.specs.Sums.{sum_terms}
 use Rattle.truncation.specs.Entries.{Source, pair_cut, multipole_cut, local_cut}
 use Rattle.truncation.specs.Places.{times_side, doubled_offset}
@@ -44,6 +44,11 @@ NoField = (P s : ℕ) (b : Gaussian) → 1 ≤ s → HoldsField P s b (λ t. zer
 abbrev pub SumOfFields : Type 0
 SumOfFields = (P s : ℕ) (b : Gaussian) (f g : Gaussian → ComplexRatio) (m n : ℕ → BoxEnds) → 1 ≤ s → HoldsField P s b f m → HoldsField P s b g n
     → HoldsField P s b (λ t. add_complex (f t) (g t)) (λ l. add_box (m l) (n l))
+
+-- a field has one list of coefficients, whatever rows hold it
+abbrev pub OneField : Type 0
+OneField = (P s : ℕ) (b : Gaussian) (field : Gaussian → ComplexRatio) (m n : ℕ → BoxEnds) → 1 ≤ s → (h : HoldsField P s b field m) (k : HoldsField P s b field n)
+    → (l : ℕ) → l < P → SameComplex (h.coefficient l) (k.coefficient l)
 
 -- from the row of a cell to a cell of its side e sides away: the cut terms of its sources, which are written in e and in the offsets from both centres
 abbrev pub FieldConverted : Type 0

@@ -1,6 +1,6 @@
 //! The laws of rows. Nothing here runs: each law is the contract of a function with an empty body.
 ghost use Rattle.row_recursions.specs.Geometry.{HeldPlaces, PairsOfCells, FarPlaces, QuartersOfCells};
-ghost use Rattle.row_recursions.specs.Laws.{NoMoments, SourceMoments, SumOfMoments, MomentsUp, MultipoleValues, NoField, SumOfFields, FieldConverted, FieldOfSource, FieldDown, LocalValues};
+ghost use Rattle.row_recursions.specs.Laws.{NoMoments, SourceMoments, SumOfMoments, MomentsUp, MultipoleValues, NoField, SumOfFields, OneField, FieldConverted, FieldOfSource, FieldDown, LocalValues};
 ghost use Rattle.row_recursions.specs.Sizes.{MomentSizes, UpSizes, ConvertedSizes, FarSizes, DownSizes, LocalValueSizes, MultipoleValueSizes};
 
 /// What multipole rows contain: of no source, of one source, of the sources of two rows, about the parent's centre, and their values.
@@ -15,11 +15,12 @@ pub fn multipole_rows()
     ensures value { MultipoleValues }
 {}
 
-/// What local rows contain: no field, the fields of two rows, the cut terms of the sources of a cell, those of a far source, the parent's
+/// What local rows contain: no field, the fields of two rows, the one list of coefficients of a field, the cut terms of the sources of a cell, those of a far source, the parent's
 /// field about the child's centre, and their values.
 pub fn local_rows()
     ensures none { NoField }
     ensures sum { SumOfFields }
+    ensures one { OneField }
     ensures converted { FieldConverted }
     ensures source { FieldOfSource }
     ensures down { FieldDown }

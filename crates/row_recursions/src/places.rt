@@ -52,7 +52,7 @@ pub struct FarRatio {
 }
 
 /// The factor of a step of a far source or a far target with the doubled offset `zeta` from the centre of a cell of side `2^bits`.
-/// Conditions: `bits` is at most 16, and a part of `zeta` is at least 3 sides in size.
+/// Conditions: `bits` is at most 16, both parts of `zeta` are at most 2^17 in size, and one is at least 3 sides.
 pub fn far_ratio(zeta: Gauss, bits: u32) -> FarRatio
     requires bits { bits ≤ 16 }
     requires size { GaussianWithin (2 ^ 17) (number zeta) }

@@ -1,12 +1,10 @@
-//! Builds the tree and the lists of 20,000 points that a generator makes, and counts the cells, the leaves and the
+//! Builds the tree and the lists of a sample of 20,000 points, and counts the cells, the leaves and the
 //! entries of each letter; with the word `time` it says how long both took.
 #![tactic(auto)]
 
-mod sample;
-
 use cell_lists::{EntryLists, lists};
 use cert_text::Letter;
-use particle_text::parse;
+use point_sample::sample_points;
 use quadtree::Tree;
 use std::time::Instant;
 use std::{env, io};
@@ -45,9 +43,8 @@ fn tell(rt: &HostRuntime, tree: &Tree, entries: &EntryLists) -> io::Result<()> {
 
 fn main(rt: HostRuntime) -> io::Result<()> {
     let timed = is_timed(&rt)?;
-    let text = sample::sample_text(rt.alloc(), 7, 20_000)?;
-    let Ok(points) = parse(rt.alloc(), text.as_bytes()) else {
-        return Err(io::Error::from(io::ErrorKind::InvalidData));
+    let Ok(points) = sample_points(rt.alloc(), 7, 20_000) else {
+        return Err(io::Error::from(io::ErrorKind::OutOfMemory));
     };
     let start = Instant::now(&rt)?;
     let Ok(tree) = Tree::build(rt.alloc(), &points, 32) else {

@@ -1,0 +1,26 @@
+use Rattle.std.proofs.Common.{◌∙◌, ◌++◌, ◌∷◌, [], ap, sym, subst, zero-add, arith}
+use Rattle.std.proofs.lemmas.List.FromFn.{map-range_with_len_more}
+use Rattle.particle_text.specs.declared.Mode.TheVariants.{Field}
+use Rattle.particle_text.specs.Limits.{WithinLimits}
+use Rattle.point_sample.specs.Generator.{state_after}
+use Rattle.point_sample.specs.Sample.{next_point, sample_point}
+use Rattle.point_sample.proofs.Draws.{five_more}
+use Rattle.point_sample.proofs.Within.{sample_within}
+use Rattle.point_sample.proofs.sample_points.Goals as goal
+
+pub points-init : goal.points-init
+unfolding state_after
+points-init c = record { state = c.new-generator.ensures; list = c.new-list.ensures }
+
+pub points-preserved : goal.points-preserved
+points-preserved c =
+    let made = c.next_point.ensures.point ∙ ap next_point c.points.invariant.state in
+    let more = map-range_with_len_more (sample_point c.args.seed) 0 c.points.counter c.points.counter (zero-add c.points.counter) in
+    record {
+      state = c.next_point.ensures.state ∙ ap (λ s. state_after s 5) c.points.invariant.state ∙ five_more c.args.seed c.points.counter;
+      list = c.in_ok-push.ensures.pushed ∙ (λ i. c.points.invariant.list i ++ made i ∷ []) ∙ sym more;
+    }
+
+pub returns-clause-within : goal.returns-clause-within
+returns-clause-within c =
+    subst (λ points. WithinLimits Field points) (sym c.points.invariant.list) (sample_within c.args.seed c.points.counter (omega arith))

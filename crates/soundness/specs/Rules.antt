@@ -1,0 +1,54 @@
+-- The rules of an accounting: each given row, radius and box includes what the method computes from the others that are given, each entry has its places apart, and
+-- each source is accounted for exactly once.
+use Rattle.std.specs.Prelude.{ℕ, ◌≡◌, ◌<◌, ◌≤◌, true, false, All}
+use Rattle.std.specs.List.{count_by}
+use Rattle.exact_math.specs.Ends.{BoxEnds, BoxEndsInside}
+use Rattle.cert_text.specs.declared.Letter.{Letter}
+use Rattle.cert_text.specs.declared.Letter.TheVariants.{U, V, W, X}
+use Rattle.particle_text.specs.Points.{place}
+use Rattle.soundness.specs.Squares.{IsQuarterOf, IsIn, IsFarFrom, CellsAreApart}
+use Rattle.soundness.specs.Accounts.{LeafSource, LeafTarget, Accounting, under, is_leaf, accounts}
+use Rattle.soundness.specs.Computed.{leaf_row, shifted_rows, local_row, local_radius, target_box}
+
+-- the first P boxes of a row lie in those of another
+abbrev pub RowInside : ℕ → (ℕ → BoxEnds) → (ℕ → BoxEnds) → Type 0
+RowInside P inner outer = (k : ℕ) → k < P → BoxEndsInside (inner k) (outer k)
+
+module _ (A : Accounting) where
+  -- a source stands in a leaf that has its place
+  pub record SourceStands (x : LeafSource) : Type 0 where
+    pub in_range : x.leaf < A.nodes
+    pub leaf : is_leaf A x.leaf ≡ true
+    pub held : IsIn (A.cell x.leaf) (place x.point)
+
+  -- a target stands in a node that has its place
+  pub record TargetStands (t : LeafTarget) : Type 0 where
+    pub in_range : t.leaf < A.nodes
+    pub held : IsIn (A.cell t.leaf) t.place
+
+  -- what has to be apart for an entry of each letter: nothing, the two cells, the targets from c, the sources from b
+  abbrev pub Apart : Letter → ℕ → ℕ → Type 0
+  Apart U b c = Unit {0}
+  Apart V b c = CellsAreApart (A.cell b) (A.cell c)
+  Apart W b c = All (λ t. under A.parent t.leaf b ≡ true → IsFarFrom (A.cell c) t.place) A.targets
+  Apart X b c = All (λ x. under A.parent x.leaf c ≡ true → IsFarFrom (A.cell b) (place x.point)) A.sources
+
+-- the rules at order P
+pub record Rules (P : ℕ) (A : Accounting) : Type 0 where
+  -- nodes; past the last of them any smaller number serves as a parent
+  pub root : A.parent 0 ≡ 0
+  pub parents : (n : ℕ) → 0 < n → A.parent n < n
+  pub quarters : (n : ℕ) → 0 < n → n < A.nodes → IsQuarterOf (A.cell n) (A.cell (A.parent n))
+  pub sources : All (SourceStands A) A.sources
+  pub targets : All (TargetStands A) A.targets
+  -- entries
+  pub in_range : All (λ e. e.c < A.nodes) A.entries
+  pub apart : All (λ e. Apart A e.letter e.b e.c) A.entries
+  pub once : All (λ t. All (λ x. count_by (accounts A t.leaf x) A.entries ≡ 1) A.sources) A.targets
+  -- rows, and the radii of the nodes above a target
+  pub leaf_rows : (n : ℕ) → n < A.nodes → is_leaf A n ≡ true → RowInside P (leaf_row A n) (A.multipole n)
+  pub inner_rows : (n : ℕ) → n < A.nodes → is_leaf A n ≡ false → RowInside P (shifted_rows A n) (A.multipole n)
+  pub local_rows : All (λ t. (n : ℕ) → under A.parent t.leaf n ≡ true → RowInside P (local_row P A n) (A.local n)) A.targets
+  pub radii : All (λ t. (n : ℕ) → under A.parent t.leaf n ≡ true → local_radius P A n ≤ A.radius n) A.targets
+  -- boxes
+  pub boxes : All (λ t. BoxEndsInside (target_box P A t) t.box) A.targets
