@@ -1,12 +1,13 @@
 -- The powers of a far source: of a ratio 2 s/zeta, with s = 2^bits.
-use Rattle.std.proofs.Common.{◌≡◌, refl, sym, ap, ap₂, ◌∙◌, subst, ℕ, suc, ◌+◌, ◌*◌, ◌^◌, arith, ℤ}
-use Rattle.exact_math.specs.Ends.{BoxEnds, BoxEndsWithin, gquot_box}
+use Rattle.std.proofs.Common.{◌≡◌, refl, sym, ap, ap₂, ◌∙◌, subst, ℕ, suc, ◌+◌, ◌*◌, ◌^◌, ◌<◌, arith, ℤ}
+use Rattle.exact_math.specs.Ends.{BoxEnds, BoxEndsWithin, add_box, gquot_box}
 use Rattle.exact_math.specs.Gaussian.{Gaussian, norm_gaussian}
 use Rattle.complex_box.specs.Box.{GscaleFits}
-use Rattle.complex_box.proofs.Sizes.{gscale_fits}
+use Rattle.complex_box.proofs.Sizes.{box_wider, add_box_within, gscale_fits}
 use Rattle.kernel_table.specs.Kernel.{conj_multiple}
 use Rattle.truncation.specs.Places.{GaussianWithin, GaussianBeyond}
 use Rattle.row_recursions.specs.Rows.{ratio_box}
+use Rattle.row_recursions.specs.Sizes.{RowWithin}
 use Rattle.row_recursions.proofs.RowSizes.{ratio_within, power_positive}
 use Rattle.local_expansion.specs.FarPowers.{far_powers}
 
@@ -36,3 +37,7 @@ module _ (bits : ℕ) (zeta : Gaussian) where
 -- the index after the next
 pub index_next : (b : BoxEnds) (m : ℕ) (zeta : Gaussian) (l : ℕ) {v : BoxEnds} → v ≡ far_powers b m zeta (suc l) → v ≡ far_powers b m zeta (l + 1)
 index_next b m zeta l e = e ∙ ap (far_powers b m zeta) {x = suc l} {y = l + 1} (omega arith)
+
+-- a power, added
+pub added_fits : (old : ℕ → BoxEnds) (n l : ℕ) (a b : BoxEnds) → RowWithin n (2 ^ 110) old → l < n → a ≡ old l → BoxEndsWithin (2 ^ 65) b → BoxEndsWithin (2 ^ 126) (add_box a b)
+added_fits old n l a b within h e w = box_wider (2 ^ 110 + 2 ^ 65) (2 ^ 126) (add_box a b) (omega arith) (add_box_within (2 ^ 110) (2 ^ 65) a b (subst (BoxEndsWithin (2 ^ 110)) (sym e) (within l h)) w)

@@ -2,13 +2,13 @@
 use Rattle.std.proofs.Common.{◌≡◌, sym, ap, ap₂, ◌∙◌, subst, ℕ, suc, ◌+◌, ◌*◌, ◌^◌, ◌≤◌, ◌<◌, arith, pos, ◌<ℤ◌}
 use Rattle.std.proofs.lemmas.Int.{ints}
 use Rattle.std.proofs.Math.Nat.{mul-le-mul_right}
-use Rattle.exact_math.specs.Ends.{BoxEnds, BoxEndsWithin, BoxEndsContain, add_box}
+use Rattle.exact_math.specs.Ends.{BoxEnds, BoxEndsContain, add_box}
 use Rattle.exact_math.specs.Gaussian.{Gaussian, norm_gaussian}
 use Rattle.exact_math.specs.Orders.{IsOrder}
 use Rattle.exact_math.specs.Ratio.{ComplexRatio, add_complex}
-use Rattle.complex_box.proofs.Sizes.{box_wider, add_box_within}
+use Rattle.complex_box.proofs.Sizes.{box_wider}
 use Rattle.cell_name.specs.declared.cell.Cell.{Cell}
-use Rattle.particle_text.specs.Limits.{InRange, size_of_gaussian, weight64}
+use Rattle.particle_text.specs.Limits.{size_of_gaussian, weight64}
 use Rattle.particle_text.specs.Points.{place, pole, dipole}
 use Rattle.particle_text.specs.declared.Point.{Point}
 use Rattle.truncation.specs.Entries.{local_cut}
@@ -20,7 +20,7 @@ use Rattle.row_recursions.specs.Sizes.{RowWithin}
 use Rattle.row_recursions.specs.Sources.{source_of}
 use Rattle.row_recursions.proofs.FarLaws.{field_of_source}
 use Rattle.row_recursions.proofs.FieldLaws.{sum_of_fields}
-use Rattle.row_recursions.proofs.Points.{pole_of-source, dipole_of-source, place_of-source, side_positive, weight_bounded}
+use Rattle.row_recursions.proofs.Points.{pole_of-source, dipole_of-source, place_of-source, side_positive}
 use Rattle.row_recursions.proofs.RowSizes.{order_small, far_norm_positive, far_source_within}
 
 -- a row with the same boxes
@@ -49,13 +49,6 @@ module _ (P : ℕ) (c : Cell) (p : Point) (order : IsOrder P) (far : GaussianBey
       let few = order_small P order in
       box_wider _ (2 ^ 40 * weight64 p) _ (heavier l (size_of_gaussian (pole p.kind)) (size_of_gaussian (dipole p.kind)) (omega arith))
       (far_source_within (side_of c) (pole p.kind) (dipole p.kind) (offset_from c (place p)) l (side_positive c) far)
-
-  -- the sum fits
-  pub sum_fits : (old part : ℕ → BoxEnds) → InRange p → RowWithin P (2 ^ 110) old → ((l : ℕ) → l < P → part l ≡ far_coefficients_of c p l) → (l : ℕ) → l < P → BoxEndsWithin (2 ^ 126) (add_box (old l) (part l))
-  sum_fits old part range bounded is l h =
-      let light = weight_bounded p range in
-      box_wider (2 ^ 110 + 2 ^ 40 * weight64 p) (2 ^ 126) _ (omega arith)
-      (add_box_within (2 ^ 110) (2 ^ 40 * weight64 p) (old l) (part l) (bounded l h) (subst (BoxEndsWithin (2 ^ 40 * weight64 p)) (sym (is l h)) (far_within l h)))
 
   -- it holds the cut term of the point's source
   pub far_field : HoldsField P (side_of c) (centre_of c) (λ t. local_cut P (centre_of c) t (source_of p)) (far_coefficients_of c p)

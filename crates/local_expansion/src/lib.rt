@@ -37,8 +37,8 @@ use conversion::coefficient;
 use kernel_table::Kernel;
 use narrow::is_narrow;
 use particle_text::Point;
-use row_recursions::{add_row, offset, side_bits};
-use sources::fill_far;
+use row_recursions::{offset, side_bits};
+use sources::add_far;
 use values::value_at;
 
 /// Adds the contribution of a far cell of the same side to a cell's local row: of the far cell's multipole row, at the distance `e` in sides
@@ -87,9 +87,7 @@ pub fn add_far_source<const P: usize>(into: &mut [CBox], cell: Cell, p: &Point)
     ensures contains { (field : Gaussian → ComplexRatio) → HoldsField P (side_of cell) (centre_of cell) field (row_of into.old) → HoldsField P (side_of cell) (centre_of cell) (λ t. add_complex (field t) (local_cut P (centre_of cell) t (source_of p.now))) (row_of into.new) }
     ensures size { (n : ℕ) → RowWithin P n (row_of into.old) → RowWithin P (n + 2 ^ 40 * weight64 p.now) (row_of into.new) }
 {
-    let mut part = [CBox::zero(); P];
-    fill_far(&mut part, cell, p);
-    add_row(into, &part);
+    add_far(into, cell, p);
 }
 
 /// The value of a local row at the place `(x, y)`, by Horner's scheme in `v/s` from the last coefficient on, with `v` the place's offset
