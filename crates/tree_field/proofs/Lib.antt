@@ -1,0 +1,13 @@
+-- What the proofs of this crate rest on.
+pub mod Accounts
+pub mod Ascending
+pub mod Entries
+pub mod Leaves
+pub mod LocalRows
+pub mod Members
+pub mod MultipoleRows
+pub mod Numbers
+pub mod OneTree
+pub mod Sums
+pub mod Whole
+pub mod Worked

@@ -1,0 +1,171 @@
+-- Local rows, radii and boxes of the field as what is computed of an accounting.
+use Rattle.std.proofs.Common.{ℕ, ◌≡◌, ◌+◌, ◌*◌, ◌<◌, zero, suc, List, [], ◌∷◌, length, refl, sym, ap, ap₂, ◌∙◌, arith}
+use Rattle.std.specs.Prelude.{pos, Contains, sum_by}
+use Rattle.exact_math.specs.Ends.{zero_box, add_box, widen_box}
+use Rattle.exact_math.specs.Gaussian.{Gaussian}
+use Rattle.cell_name.specs.Square.{Square, side, parent}
+use Rattle.cell_lists.specs.Entries.{IsVPair, IsWPair}
+use Rattle.cert_text.specs.declared.Letter.TheVariants.{U, V, W, X}
+use Rattle.kernel_table.specs.Kernel.{kernel_entry}
+use Rattle.near_field.specs.Pair.{pair_box}
+use Rattle.particle_text.specs.declared.Point.{Point}
+use Rattle.quadtree.specs.Tree.{AreInGrid}
+use Rattle.row_recursions.proofs.ZeroBoxes.{zero_left}
+use Rattle.row_recursions.specs.Rows.{converted, shifted_down, multipole_value}
+use Rattle.row_recursions.specs.Sources.{source_of}
+use Rattle.soundness.specs.Accounts.{LeafTarget, Accounting, sources_under}
+use Rattle.soundness.specs.Computed.{total_box, total_row, far_coefficients_in, weight_under, local_row as given_local_row, converted_rows as given_converted_rows, far_rows as given_far_rows, local_radius as given_local_radius, pair_radius as given_pair_radius, single_radius as given_single_radius, target_box as given_target_box, multipoles_at, pairs_at as given_pairs_at}
+use Rattle.soundness.specs.Accounts.{entries_of}
+use Rattle.soundness.specs.Squares.{offset, quadrant, sides_between}
+use Rattle.truncation.specs.Entries.{weight}
+use Rattle.truncation.specs.Tails.{ceiling, pair_tail, single_tail}
+use Rattle.tree_field.specs.Lists.{TreeLists, AreTreeLists}
+use Rattle.tree_field.specs.Field.{sources_in, multipole_row, converted_rows, far_rows, local_at_level, local_row, weight_in, pair_radius, single_radius, radius_at_level, local_radius, local_value_at, multipole_values_at, pairs_at, radius_in, box_in}
+use Rattle.tree_field.proofs.Accounts.{accounting, over_sources, sum_over_sources, over_entries, sum_over_entries}
+use Rattle.tree_field.proofs.Numbers.{cell_at, tree_cell, first_is_root, level_positive, cell_above}
+
+-- ---- the row of the root, and that of a cell below it from its parent's
+root_level : (points : List Point) (cap P : ℕ) (lists : TreeLists) (level : ℕ) (b : Square) (k : ℕ) → level ≡ 0 → local_at_level points cap P lists level b k ≡ zero_box
+unfolding local_at_level
+root_level points cap P lists level b k e = ap (λ l. local_at_level points cap P lists l b k) e
+
+pub local_row-root : (points : List Point) (cap P : ℕ) (lists : TreeLists) (b : Square) → b.level ≡ 0 → (k : ℕ) → local_row points cap P lists b k ≡ zero_box
+local_row-root points cap P lists b e k = root_level points cap P lists b.level b k e
+
+below_level : (points : List Point) (cap P : ℕ) (lists : TreeLists) (level : ℕ) (b : Square) (k : ℕ) → level ≡ b.level → 0 < level
+    → local_at_level points cap P lists level b k ≡ add_box (shifted_down P (local_row points cap P lists (parent b)) (quadrant b) k) (add_box (converted_rows points cap P lists b k) (far_rows points cap P lists b k))
+unfolding local_at_level
+below_level points cap P lists zero b k e lo = absurd (omega arith)
+below_level points cap P lists (suc level) b k e lo = ap (λ l. add_box (shifted_down P (local_at_level points cap P lists l (parent b)) (quadrant b) k) (add_box (converted_rows points cap P lists b k) (far_rows points cap P lists b k))) (omega arith)
+
+pub local_row-below : (points : List Point) (cap P : ℕ) (lists : TreeLists) (b : Square) → 0 < b.level → (k : ℕ)
+    → local_row points cap P lists b k ≡ add_box (shifted_down P (local_row points cap P lists (parent b)) (quadrant b) k) (add_box (converted_rows points cap P lists b k) (far_rows points cap P lists b k))
+local_row-below points cap P lists b lo k = below_level points cap P lists b.level b k refl lo
+
+root_radius : (points : List Point) (cap P : ℕ) (lists : TreeLists) (level : ℕ) (b : Square) → level ≡ 0 → radius_at_level points cap P lists level b ≡ 0
+unfolding radius_at_level
+root_radius points cap P lists level b e = ap (λ l. radius_at_level points cap P lists l b) e
+
+pub local_radius-root : (points : List Point) (cap P : ℕ) (lists : TreeLists) (b : Square) → b.level ≡ 0 → local_radius points cap P lists b ≡ 0
+local_radius-root points cap P lists b e = root_radius points cap P lists b.level b e
+
+below_radius : (points : List Point) (cap P : ℕ) (lists : TreeLists) (level : ℕ) (b : Square) → level ≡ b.level → 0 < level
+    → radius_at_level points cap P lists level b ≡ local_radius points cap P lists (parent b) + (sum_by (pair_radius points cap P lists (side b)) (lists.entries V b) + sum_by (single_radius points cap P lists (side b)) (lists.entries X b))
+unfolding radius_at_level
+below_radius points cap P lists zero b e lo = absurd (omega arith)
+below_radius points cap P lists (suc level) b e lo = ap (λ l. radius_at_level points cap P lists l (parent b) + (sum_by (pair_radius points cap P lists (side b)) (lists.entries V b) + sum_by (single_radius points cap P lists (side b)) (lists.entries X b))) (omega arith)
+
+pub local_radius-below : (points : List Point) (cap P : ℕ) (lists : TreeLists) (b : Square) → 0 < b.level
+    → local_radius points cap P lists b ≡ local_radius points cap P lists (parent b) + (sum_by (pair_radius points cap P lists (side b)) (lists.entries V b) + sum_by (single_radius points cap P lists (side b)) (lists.entries X b))
+local_radius-below points cap P lists b lo = below_radius points cap P lists b.level b refl lo
+
+empty_from : (xs : List Square) → ((c : Square) → Contains xs c → ⊥) → xs ≡ []
+empty_from [] h = refl
+empty_from (x ∷ xs) h = absurd (h x (0, omega arith, refl))
+
+module _ (grid : ℕ) (points : List Point) (cap P : ℕ) (lists : TreeLists) (positive : 0 < grid) (inside : AreInGrid grid points) (are : AreTreeLists grid points cap lists) where
+  abbrev given : Accounting
+  given = accounting grid points cap P lists
+
+  abbrev cell : ℕ → Square
+  cell n = cell_at grid lists.cells n
+
+  -- ---- the root has no entries of V and X
+  root_cell : 0 < length lists.cells → (cell 0).level ≡ 0
+  root_cell lt = ap (λ (s : Square). s.level) (first_is_root grid points cap lists.cells positive inside are.cells_are lt)
+
+  no_V : (b c : Square) → b.level ≡ 0 → IsVPair grid points cap b c → ⊥
+  no_V b c e h = omega (arith, h.come_apart.below_root)
+
+  no_X : (b c : Square) → b.level ≡ 0 → IsWPair grid points cap c b → ⊥
+  no_X b c e h = omega (arith, h.comes_apart.deeper)
+
+  root_V : 0 < length lists.cells → lists.entries V (cell 0) ≡ []
+  root_V lt = empty_from (lists.entries V (cell 0)) (λ c h.
+      let es = are.entries_are V (cell 0) (tree_cell grid points cap lists.cells positive inside are.cells_are 0 lt) in
+      no_V (cell 0) _ (root_cell lt) (es.entries h.0 c h.1).pair)
+
+  root_X : 0 < length lists.cells → lists.entries X (cell 0) ≡ []
+  root_X lt = empty_from (lists.entries X (cell 0)) (λ c h.
+      let es = are.entries_are X (cell 0) (tree_cell grid points cap lists.cells positive inside are.cells_are 0 lt) in
+      no_X (cell 0) _ (root_cell lt) (es.entries h.0 c h.1).pair)
+
+  -- ---- rows
+  converted_same : (n : ℕ) → n < length lists.cells → (k : ℕ) → given_converted_rows P given n k ≡ converted_rows points cap P lists (cell n) k
+  converted_same n lt k = over_entries grid points cap P lists positive inside are V n lt
+      (λ m. converted P (kernel_entry (sides_between (cell n) (cell m))) (multipole_row points cap (cell m)) k)
+      (λ c. converted P (kernel_entry (sides_between (cell n) c)) (multipole_row points cap c) k)
+      (λ m lm. refl)
+
+  far_same : (n : ℕ) → n < length lists.cells → (k : ℕ) → given_far_rows P given n k ≡ far_rows points cap P lists (cell n) k
+  far_same n lt k = over_entries grid points cap P lists positive inside are X n lt
+      (λ m. total_row (λ x. far_coefficients_in (cell n) x.point) (sources_under given m) k)
+      (λ c. total_row (far_coefficients_in (cell n)) (sources_in points c) k)
+      (λ m lm. over_sources grid points cap P lists positive inside are (λ p. far_coefficients_in (cell n) p k) m lm)
+
+  pub local_rows_same : (n : ℕ) → n < length lists.cells → (k : ℕ) → given_local_row P given n k ≡ local_row points cap P lists (cell n) k
+  local_rows_same zero lt k =
+      ap (add_box zero_box)
+      (ap₂ add_box
+      (converted_same 0 lt k ∙ ap (λ l. total_row (λ c. converted P (kernel_entry (sides_between (cell 0) c)) (multipole_row points cap c)) l k) (root_V lt))
+      (far_same 0 lt k ∙ ap (λ l. total_row (λ c. total_row (far_coefficients_in (cell 0)) (sources_in points c)) l k) (root_X lt))
+      ∙ zero_left zero_box)
+      ∙ zero_left zero_box
+      ∙ sym (local_row-root points cap P lists (cell 0) (root_cell lt) k)
+  local_rows_same (suc m) lt k =
+      ap₂ add_box
+      (ap (λ c. shifted_down P (local_row points cap P lists c) (quadrant (cell (suc m))) k) (cell_above grid points cap lists.cells positive inside are.cells_are (suc m) (omega arith) lt))
+      (ap₂ add_box (converted_same (suc m) lt k) (far_same (suc m) lt k))
+      ∙ sym (local_row-below points cap P lists (cell (suc m)) (level_positive grid points cap lists.cells positive inside are.cells_are (suc m) (omega arith) lt) k)
+
+  -- ---- radii
+  weight_same : (n : ℕ) → n < length lists.cells → weight_under P given n ≡ weight_in points cap P lists (cell n)
+  weight_same n lt = sum_over_sources grid points cap P lists positive inside are (λ p. weight P (source_of p)) n lt
+
+  pairs_lose : (n : ℕ) → n < length lists.cells → sum_by (given_pair_radius P given (side (cell n))) (entries_of given V n) ≡ sum_by (pair_radius points cap P lists (side (cell n))) (lists.entries V (cell n))
+  pairs_lose n lt = sum_over_entries grid points cap P lists positive inside are V n lt
+      (λ m. ceiling (weight_under P given m * pair_tail P) (side (cell n)))
+      (pair_radius points cap P lists (side (cell n)))
+      (λ m lm. ap (λ w. ceiling (w * pair_tail P) (side (cell n))) (weight_same m lm))
+
+  singles_lose : (n : ℕ) → n < length lists.cells → sum_by (given_single_radius P given (side (cell n))) (entries_of given X n) ≡ sum_by (single_radius points cap P lists (side (cell n))) (lists.entries X (cell n))
+  singles_lose n lt = sum_over_entries grid points cap P lists positive inside are X n lt
+      (λ m. ceiling (weight_under P given m * single_tail P) (side (cell n)))
+      (single_radius points cap P lists (side (cell n)))
+      (λ m lm. ap (λ w. ceiling (w * single_tail P) (side (cell n))) (weight_same m lm))
+
+  pub radii_same : (n : ℕ) → n < length lists.cells → given_local_radius P given n ≡ local_radius points cap P lists (cell n)
+  radii_same zero lt =
+      ap₂ (λ a b. 0 + (a + b))
+      (pairs_lose 0 lt ∙ ap (sum_by (pair_radius points cap P lists (side (cell 0)))) (root_V lt))
+      (singles_lose 0 lt ∙ ap (sum_by (single_radius points cap P lists (side (cell 0)))) (root_X lt))
+      ∙ sym (local_radius-root points cap P lists (cell 0) (root_cell lt))
+  radii_same (suc m) lt =
+      ap₂ (λ a b. a + b)
+      (ap (local_radius points cap P lists) (cell_above grid points cap lists.cells positive inside are.cells_are (suc m) (omega arith) lt))
+      (ap₂ (λ a b. a + b) (pairs_lose (suc m) lt) (singles_lose (suc m) lt))
+      ∙ sym (local_radius-below points cap P lists (cell (suc m)) (level_positive grid points cap lists.cells positive inside are.cells_are (suc m) (omega arith) lt))
+
+  -- ---- boxes
+  multipoles_same : (n : ℕ) → n < length lists.cells → (z : Gaussian) → multipoles_at P given n z ≡ multipole_values_at points cap P lists (cell n) z
+  multipoles_same n lt z = over_entries grid points cap P lists positive inside are W n lt
+      (λ m. multipole_value P (multipole_row points cap (cell m)) (side (cell m)) (offset (cell m) z))
+      (λ c. multipole_value P (multipole_row points cap c) (side c) (offset c z))
+      (λ m lm. refl)
+
+  pairs_same : (n : ℕ) → n < length lists.cells → (z : Gaussian) → given_pairs_at P given n z ≡ pairs_at points cap P lists (cell n) z
+  pairs_same n lt z = over_entries grid points cap P lists positive inside are U n lt
+      (λ m. total_box (λ x. pair_box z x.point) (sources_under given m))
+      (λ c. total_box (pair_box z) (sources_in points c))
+      (λ m lm. over_sources grid points cap P lists positive inside are (pair_box z) m lm)
+
+  widened_same : (n : ℕ) → n < length lists.cells → given.radius n + sum_by (λ e. given_single_radius P given (side (given.cell e.c)) e) (entries_of given W n) ≡ radius_in points cap P lists (cell n)
+  widened_same n lt = ap (λ r. local_radius points cap P lists (cell n) + r) (sum_over_entries grid points cap P lists positive inside are W n lt
+      (λ m. ceiling (weight_under P given m * single_tail P) (side (cell m)))
+      (λ c. single_radius points cap P lists (side c) c)
+      (λ m lm. ap (λ w. ceiling (w * single_tail P) (side (cell m))) (weight_same m lm)))
+
+  pub boxes_same : (t : LeafTarget) → t.leaf < length lists.cells → given_target_box P given t ≡ box_in points cap P lists (cell t.leaf) t.place
+  boxes_same t lt = ap₂ (λ b r. widen_box (add_box (local_value_at points cap P lists (cell t.leaf) t.place) b) (pos r))
+      (ap₂ add_box (multipoles_same t.leaf lt t.place) (pairs_same t.leaf lt t.place))
+      (widened_same t.leaf lt)

@@ -1,0 +1,5 @@
+use Rattle.tree_field.proofs.OneTree.{one_tree}
+use Rattle.tree_field.proofs.law.tree_is_determined.Goals as goal
+
+pub returns : goal.returns
+returns c = record { one = one_tree }

@@ -1,0 +1,43 @@
+-- The field row by row, each from its sources and from the rows next to it, and that lists of a tree are determined.
+use Rattle.std.specs.Prelude.{ℕ, ◌≡◌, ◌+◌, ◌<◌, ◌≤◌, ◌⊎◌, List, filter, sum_by}
+use Rattle.exact_math.specs.Ends.{zero_box, add_box}
+use Rattle.cell_name.specs.Square.{Square, side, parent}
+use Rattle.cert_text.specs.declared.Letter.{Letter}
+use Rattle.cert_text.specs.declared.Letter.TheVariants.{V, X}
+use Rattle.particle_text.specs.declared.Point.{Point}
+use Rattle.quadtree.specs.Splitting.{quarters}
+use Rattle.quadtree.specs.Tree.{count_in, IsTreeCell}
+use Rattle.row_recursions.specs.Rows.{shifted_up, shifted_down}
+use Rattle.soundness.specs.Computed.{total_row}
+use Rattle.soundness.specs.Squares.{quadrant}
+use Rattle.tree_field.specs.Field.{has_source, leaf_row, multipole_row, converted_rows, far_rows, local_row, pair_radius, single_radius, local_radius}
+use Rattle.tree_field.specs.Lists.{TreeLists, AreTreeLists}
+
+-- of a cell with no more points than a leaf may have, or of the last level
+abbrev pub LeafRows : Type 0
+LeafRows = (points : List Point) (cap : ℕ) (c : Square) → (count_in points c ≤ cap) ⊎ (c.grid ≤ c.level) → (k : ℕ) → multipole_row points cap c k ≡ leaf_row points c k
+
+-- of another cell: its quarters' that have a source, shifted up
+abbrev pub InnerRows : Type 0
+InnerRows = (points : List Point) (cap : ℕ) (c : Square) → c.level < c.grid → cap < count_in points c → (k : ℕ)
+    → multipole_row points cap c k ≡ total_row (λ q. shifted_up (multipole_row points cap q) (quadrant q)) (filter (has_source points) (quarters c)) k
+
+abbrev pub RootRows : Type 0
+RootRows = (points : List Point) (cap P : ℕ) (lists : TreeLists) (b : Square) → b.level ≡ 0 → (k : ℕ) → local_row points cap P lists b k ≡ zero_box
+
+-- below the root: the parent's brought down, and what the V and X entries bring
+abbrev pub LocalRows : Type 0
+LocalRows = (points : List Point) (cap P : ℕ) (lists : TreeLists) (b : Square) → 0 < b.level → (k : ℕ)
+    → local_row points cap P lists b k ≡ add_box (shifted_down P (local_row points cap P lists (parent b)) (quadrant b) k) (add_box (converted_rows points cap P lists b k) (far_rows points cap P lists b k))
+
+abbrev pub RootRadius : Type 0
+RootRadius = (points : List Point) (cap P : ℕ) (lists : TreeLists) (b : Square) → b.level ≡ 0 → local_radius points cap P lists b ≡ 0
+
+abbrev pub Radii : Type 0
+Radii = (points : List Point) (cap P : ℕ) (lists : TreeLists) (b : Square) → 0 < b.level
+    → local_radius points cap P lists b ≡ local_radius points cap P lists (parent b) + (sum_by (pair_radius points cap P lists (side b)) (lists.entries V b) + sum_by (single_radius points cap P lists (side b)) (lists.entries X b))
+
+-- lists of one tree have the same cells, and the same entries at each of them
+abbrev pub OneTree : Type 0
+OneTree = (grid : ℕ) (points : List Point) (cap : ℕ) (these others : TreeLists) → AreTreeLists grid points cap these → AreTreeLists grid points cap others
+    → (these.cells ≡ others.cells) × ((letter : Letter) (b : Square) → IsTreeCell grid points cap b → these.entries letter b ≡ others.entries letter b)

@@ -1,0 +1,28 @@
+//! The laws of the field. Nothing here runs: each law is the contract of a function with an empty body.
+ghost use Rattle.tree_field.specs.Contains.{FieldContains};
+ghost use Rattle.tree_field.specs.Laws.{LeafRows, InnerRows, RootRows, LocalRows, RootRadius, Radii, OneTree};
+
+/// The box of each target contains the direct sum of the list, for each list of points within a grid, each capacity of the leaves and each
+/// order from 2 on.
+///
+/// The field is an accounting of its own cells, entries, rows and radii that meets the rules of soundness: what is computed of it is what it
+/// has. Cells that don't touch are apart, and exactly one entry accounts for each target and source.
+pub fn boxes_contain_the_sum()
+    ensures contains { FieldContains }
+{}
+
+/// The multipole row of a cell from its sources or from its quarters' rows; the local row and the radius of a cell from its parent's and
+/// from its entries.
+pub fn rows_of_neighbours()
+    ensures leaf { LeafRows }
+    ensures inner { InnerRows }
+    ensures root { RootRows }
+    ensures local { LocalRows }
+    ensures root_radius { RootRadius }
+    ensures radius { Radii }
+{}
+
+/// A list of points and a capacity have one tree with its entries.
+pub fn tree_is_determined()
+    ensures one { OneTree }
+{}

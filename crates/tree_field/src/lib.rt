@@ -1,0 +1,11 @@
+//! The field of the method over the adaptive tree: multipole rows, local rows and radii of its cells, and a box for each target, as definitions
+//! for any list of points, any capacity of the leaves, any order and any grid; and that each box contains the exact direct sum. Nothing
+//! here runs.
+//!
+//! `specs/` has the cells and entries as lists, the recursions on cells, and the counts of translations and pairs. Rows are those of
+//! `row_recursions`, cells and entries are the predicates of `quadtree` and `cell_lists`.
+#![tactic(auto)]
+
+mod law;
+
+pub use law::{boxes_contain_the_sum, rows_of_neighbours, tree_is_determined};
