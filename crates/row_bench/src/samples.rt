@@ -1,6 +1,6 @@
 //! A row, a cell, and arguments that follow from a counter.
 ghost use Rattle.std.specs.Prelude.{◌≡◌, ◌*◌, ◌^◌};
-ghost use Rattle.truncation.specs.Places.{GaussianBeyond};
+ghost use Rattle.truncation.specs.Places.{GaussianBeyond, doubled_offset};
 ghost use Rattle.complex_box.specs.Box.{number};
 ghost use Rattle.cell_name.specs.Cell.{square};
 ghost use Rattle.cell_name.specs.Square.{side, Holds};
@@ -10,7 +10,6 @@ ghost use Rattle.particle_text.specs.Points.{place};
 ghost use Rattle.row_recursions.specs.Geometry.{doubled_centre};
 ghost use Rattle.row_recursions.specs.Rows.{row_of};
 ghost use Rattle.row_recursions.specs.Sizes.{RowWithin};
-ghost use Rattle.truncation.specs.Places.{doubled_offset};
 ghost use Rattle.row_bench.specs.Middle.{middle};
 
 use cell_name::{Cell, Quadrant};
