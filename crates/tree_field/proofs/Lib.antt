@@ -1,6 +1,7 @@
 -- What the proofs of this crate rest on.
 pub mod Accounts
 pub mod Ascending
+pub mod EachList
 pub mod Entries
 pub mod Leaves
 pub mod LocalRows
@@ -8,6 +9,7 @@ pub mod Members
 pub mod MultipoleRows
 pub mod Numbers
 pub mod OneTree
+pub mod Sorting
 pub mod Sums
 pub mod Whole
 pub mod Worked

@@ -6,7 +6,7 @@ use Rattle.cert_text.specs.declared.Letter.{Letter}
 use Rattle.cert_text.specs.declared.Letter.TheVariants.{V, X}
 use Rattle.particle_text.specs.declared.Point.{Point}
 use Rattle.quadtree.specs.Splitting.{quarters}
-use Rattle.quadtree.specs.Tree.{count_in, IsTreeCell}
+use Rattle.quadtree.specs.Tree.{AreInGrid, count_in, IsTreeCell}
 use Rattle.row_recursions.specs.Rows.{shifted_up, shifted_down}
 use Rattle.soundness.specs.Computed.{total_row}
 use Rattle.soundness.specs.Squares.{quadrant}
@@ -36,6 +36,10 @@ RootRadius = (points : List Point) (cap P : ℕ) (lists : TreeLists) (b : Square
 abbrev pub Radii : Type 0
 Radii = (points : List Point) (cap P : ℕ) (lists : TreeLists) (b : Square) → 0 < b.level
     → local_radius points cap P lists b ≡ local_radius points cap P lists (parent b) + (sum_by (pair_radius points cap P lists (side b)) (lists.entries V b) + sum_by (single_radius points cap P lists (side b)) (lists.entries X b))
+
+-- each list of points within a grid has a tree with its entries
+abbrev pub EachListHasTree : Type 0
+EachListHasTree = (grid : ℕ) (points : List Point) (cap : ℕ) → 0 < grid → AreInGrid grid points → (lists : TreeLists) × AreTreeLists grid points cap lists
 
 -- lists of one tree have the same cells, and the same entries at each of them
 abbrev pub OneTree : Type 0

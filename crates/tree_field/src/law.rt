@@ -1,6 +1,6 @@
 //! The laws of the field. Nothing here runs: each law is the contract of a function with an empty body.
 ghost use Rattle.tree_field.specs.Contains.{FieldContains};
-ghost use Rattle.tree_field.specs.Laws.{LeafRows, InnerRows, RootRows, LocalRows, RootRadius, Radii, OneTree};
+ghost use Rattle.tree_field.specs.Laws.{LeafRows, InnerRows, RootRows, LocalRows, RootRadius, Radii, EachListHasTree, OneTree};
 
 /// The box of each target contains the direct sum of the list, for each list of points within a grid, each capacity of the leaves and each
 /// order from 2 on.
@@ -22,7 +22,8 @@ pub fn rows_of_neighbours()
     ensures radius { Radii }
 {}
 
-/// A list of points and a capacity have one tree with its entries.
+/// Each list of points within a grid has, for each capacity, one tree with its entries.
 pub fn tree_is_determined()
+    ensures some { EachListHasTree }
     ensures one { OneTree }
 {}
