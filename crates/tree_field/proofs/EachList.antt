@@ -1,33 +1,28 @@
 -- Each list of points within a grid has the lists of a tree.
-use Rattle.std.proofs.Common.{ℕ, ◌≡◌, ◌<◌, inl, inr, ◌⊎◌, List, Bool, true, false, not, filter, refl, sym, ◌∙◌, subst, arith}
+use Rattle.std.proofs.Common.{ℕ, ◌≡◌, ◌<◌, inl, inr, ◌⊎◌, List, Bool, true, false, filter, refl, sym, ◌∙◌, subst, arith}
 use Rattle.std.specs.List.{list_any}
-use Rattle.std.proofs.lemmas.Bool.{true≢false, false≢true, cases_Bool, cases_lt, cases_eq, and_parts, and_from, not-true}
+use Rattle.std.proofs.lemmas.Bool.{true≢false, false≢true, cases_Bool, cases_lt, cases_eq}
 use Rattle.std.proofs.lemmas.List.Elements.{All-contains}
 use Rattle.std.proofs.lemmas.List.Kept.{AllPairs-filter}
 use mathlib.Core.Logic.{⊎_elim}
 use Rattle.cell_name.specs.Order.{IsBefore}
-use Rattle.cell_name.specs.Square.{Square, parent, holds_test}
+use Rattle.cell_name.specs.Square.{Square, parent}
 use Rattle.cell_name.proofs.Cells.{decide_touches}
-use Rattle.cell_name.proofs.HoldsTest.{Holds-from_test, test-from_Holds}
 use Rattle.cell_lists.specs.Entries.{IsWPair, IsPair, IsEntry}
 use Rattle.cell_lists.proofs.OneEntry.{in_tree_of}
 use Rattle.cert_text.specs.declared.Letter.{Letter}
 use Rattle.cert_text.specs.declared.Letter.TheVariants.{U, V, W, X}
-use Rattle.near_field.specs.DirectSum.{is_source}
-use Rattle.particle_text.specs.Points.{IsTarget, IsSource}
-use Rattle.particle_text.specs.declared.Kind.{Kind}
-use Rattle.particle_text.specs.declared.Kind.TheVariants.{Charge, Dipole, Vortex, Target}
 use Rattle.particle_text.specs.declared.Point.{Point}
 use Rattle.quadtree.specs.Splitting.{cells_to_level}
 use Rattle.quadtree.specs.Tree.{AreInGrid, IsTreeCell, IsSplit, IsLeaf, HasTarget, HasSource, AreTreeCells}
 use Rattle.quadtree.proofs.Distinct.{Contains-filter, Contains-into_filter}
 use Rattle.quadtree.proofs.Parents.{leaf_or_split}
 use Rattle.quadtree.proofs.TreeLevels.{cells_to_level_are, cells_to_level_whole, cells_to_level_differ}
-use Rattle.tree_field.specs.Field.{is_source_in}
-use Rattle.tree_field.specs.Work.{is_target_in}
+use Rattle.tree_field.specs.Field.{has_source}
+use Rattle.tree_field.specs.Work.{has_target}
 use Rattle.tree_field.specs.Laws.{EachListHasTree}
 use Rattle.tree_field.specs.Lists.{TreeLists, AreEntriesOf, AreTreeLists}
-use Rattle.tree_field.proofs.Entries.{is_target_from, is_source_from}
+use Rattle.tree_field.proofs.Occupants.{HasTarget-from_test, test-from_HasTarget, HasSource-from_test, test-from_HasSource}
 use Rattle.tree_field.proofs.Members.{All-from_members, found, list_any-member}
 use Rattle.tree_field.proofs.Numbers.{same_cell, same_from_test, test_itself}
 use Rattle.tree_field.proofs.Sorting.{sorted_cells, sorted_has, sorted_from, sorted_ascend}
@@ -77,35 +72,11 @@ unfolding is_yes
 from_yes (inl p) e = p
 from_yes (inr n) e = absurd (false≢true e)
 
-target_test : (k : Kind) → IsTarget k → not (is_source k) ≡ true
-target_test (Charge q) h = absurd h
-target_test (Dipole re im) h = absurd h
-target_test (Vortex g) h = absurd h
-target_test Target h = refl
-
-source_test : (k : Kind) → IsSource k → is_source k ≡ true
-source_test (Charge q) h = refl
-source_test (Dipole re im) h = refl
-source_test (Vortex g) h = refl
-source_test Target h = absurd h
-
 decide_target : (points : List Point) (b : Square) → Decided (HasTarget points b)
-decide_target points b = ⊎_elim
-    (λ e.
-    let f = found (is_target_in b) points e in
-    let parts = and_parts (not (is_source f.member.kind)) (holds_test b f.member.x f.member.y) f.passes in
-    inl (record { target = f.member; here = record { listed = f.listed; held = Holds-from_test b f.member.x f.member.y parts.1 }; is_target = is_target_from f.member.kind (not-true _ parts.0) }))
-    (λ e. inr (λ h. true≢false (sym (list_any-member (is_target_in b) points h.target h.here.listed (and_from (not (is_source h.target.kind)) (holds_test b h.target.x h.target.y) (target_test h.target.kind h.is_target) (test-from_Holds b h.target.x h.target.y h.here.held))) ∙ e)))
-    (cases_Bool (list_any (is_target_in b) points))
+decide_target points b = ⊎_elim (λ e. inl (HasTarget-from_test points b e)) (λ e. inr (λ h. true≢false (sym (test-from_HasTarget points b h) ∙ e))) (cases_Bool (has_target points b))
 
 decide_source : (points : List Point) (c : Square) → Decided (HasSource points c)
-decide_source points c = ⊎_elim
-    (λ e.
-    let f = found (is_source_in c) points e in
-    let parts = and_parts (is_source f.member.kind) (holds_test c f.member.x f.member.y) f.passes in
-    inl (record { source = f.member; here = record { listed = f.listed; held = Holds-from_test c f.member.x f.member.y parts.1 }; is_source = is_source_from f.member.kind parts.0 }))
-    (λ e. inr (λ h. true≢false (sym (list_any-member (is_source_in c) points h.source h.here.listed (and_from (is_source h.source.kind) (holds_test c h.source.x h.source.y) (source_test h.source.kind h.is_source) (test-from_Holds c h.source.x h.source.y h.here.held))) ∙ e)))
-    (cases_Bool (list_any (is_source_in c) points))
+decide_source points c = ⊎_elim (λ e. inl (HasSource-from_test points c e)) (λ e. inr (λ h. true≢false (sym (test-from_HasSource points c h) ∙ e))) (cases_Bool (has_source points c))
 
 module _ (grid : ℕ) (points : List Point) (cap : ℕ) (cells : List Square) (are : AreTreeCells grid points cap cells) where
   decide_tree : (c : Square) → Decided (IsTreeCell grid points cap c)
