@@ -14,4 +14,5 @@ pub mod Program
 pub mod Sorting
 pub mod Sums
 pub mod Whole
+pub mod Work
 pub mod Worked
