@@ -13,10 +13,7 @@ use Rattle.cell_lists.proofs.OneEntry.{in_tree_of, each_pair_has_one_entry}
 use Rattle.cert_text.specs.declared.Entry.{Entry}
 use Rattle.cert_text.specs.declared.Letter.{Letter}
 use Rattle.cert_text.specs.declared.Letter.TheVariants.{U, V, W, X}
-use Rattle.near_field.specs.DirectSum.{is_source}
-use Rattle.particle_text.specs.Points.{place, IsTarget, IsSource}
-use Rattle.particle_text.specs.declared.Kind.{Kind}
-use Rattle.particle_text.specs.declared.Kind.TheVariants.{Charge, Dipole, Vortex, Target}
+use Rattle.particle_text.specs.Points.{place}
 use Rattle.particle_text.specs.declared.Point.{Point}
 use Rattle.quadtree.specs.Tree.{AreInGrid, IsTreeCell}
 use Rattle.quadtree.proofs.Distinct.{AllPairs-append, All-flat_map, Contains-flat_map, Contains-filter, different-flat_map}
@@ -30,6 +27,7 @@ use Rattle.tree_field.proofs.Accounts.{leaf_number, leaf_source, leaf_target, so
 use Rattle.tree_field.proofs.Ascending.{ascending_differ}
 use Rattle.tree_field.proofs.Leaves.{leaf_holds, only_leaf, cell_of_leaf, under_is_holding}
 use Rattle.tree_field.proofs.Members.{All-from_members, Contains-into_map, AllPairs-map, AllPairs-both, count_one}
+use Rattle.tree_field.proofs.Occupants.{is_target_from, is_source_from}
 use Rattle.tree_field.proofs.Numbers.{number, cell_at, above, number_below, cell_of_number}
 
 letter_itself : (l : Letter) → is_letter l l ≡ true
@@ -37,19 +35,6 @@ letter_itself U = refl
 letter_itself V = refl
 letter_itself W = refl
 letter_itself X = refl
-
--- a target of the list, and a source
-pub is_target_from : (k : Kind) → is_source k ≡ false → IsTarget k
-is_target_from (Charge q) e = absurd (true≢false e)
-is_target_from (Dipole re im) e = absurd (true≢false e)
-is_target_from (Vortex g) e = absurd (true≢false e)
-is_target_from Target e = tt
-
-pub is_source_from : (k : Kind) → is_source k ≡ true → IsSource k
-is_source_from (Charge q) e = tt
-is_source_from (Dipole re im) e = tt
-is_source_from (Vortex g) e = tt
-is_source_from Target e = absurd (true≢false (sym e))
 
 module _ (grid : ℕ) (points : List Point) (cap P : ℕ) (lists : TreeLists) (positive : 0 < grid) (inside : AreInGrid grid points) (are : AreTreeLists grid points cap lists) where
   abbrev given : Accounting

@@ -50,13 +50,13 @@ pub local_radius-root : (points : List Point) (cap P : ℕ) (lists : TreeLists) 
 local_radius-root points cap P lists b e = root_radius points cap P lists b.level b e
 
 below_radius : (points : List Point) (cap P : ℕ) (lists : TreeLists) (level : ℕ) (b : Square) → level ≡ b.level → 0 < level
-    → radius_at_level points cap P lists level b ≡ local_radius points cap P lists (parent b) + (sum_by (pair_radius points cap P lists (side b)) (lists.entries V b) + sum_by (single_radius points cap P lists (side b)) (lists.entries X b))
+    → radius_at_level points cap P lists level b ≡ local_radius points cap P lists (parent b) + (sum_by (pair_radius points P (side b)) (lists.entries V b) + sum_by (single_radius points P (side b)) (lists.entries X b))
 unfolding radius_at_level
 below_radius points cap P lists zero b e lo = absurd (omega arith)
-below_radius points cap P lists (suc level) b e lo = ap (λ l. radius_at_level points cap P lists l (parent b) + (sum_by (pair_radius points cap P lists (side b)) (lists.entries V b) + sum_by (single_radius points cap P lists (side b)) (lists.entries X b))) (omega arith)
+below_radius points cap P lists (suc level) b e lo = ap (λ l. radius_at_level points cap P lists l (parent b) + (sum_by (pair_radius points P (side b)) (lists.entries V b) + sum_by (single_radius points P (side b)) (lists.entries X b))) (omega arith)
 
 pub local_radius-below : (points : List Point) (cap P : ℕ) (lists : TreeLists) (b : Square) → 0 < b.level
-    → local_radius points cap P lists b ≡ local_radius points cap P lists (parent b) + (sum_by (pair_radius points cap P lists (side b)) (lists.entries V b) + sum_by (single_radius points cap P lists (side b)) (lists.entries X b))
+    → local_radius points cap P lists b ≡ local_radius points cap P lists (parent b) + (sum_by (pair_radius points P (side b)) (lists.entries V b) + sum_by (single_radius points P (side b)) (lists.entries X b))
 local_radius-below points cap P lists b lo = below_radius points cap P lists b.level b refl lo
 
 empty_from : (xs : List Square) → ((c : Square) → Contains xs c → ⊥) → xs ≡ []
@@ -119,26 +119,26 @@ module _ (grid : ℕ) (points : List Point) (cap P : ℕ) (lists : TreeLists) (p
       ∙ sym (local_row-below points cap P lists (cell (suc m)) (level_positive grid points cap lists.cells positive inside are.cells_are (suc m) (omega arith) lt) k)
 
   -- ---- radii
-  weight_same : (n : ℕ) → n < length lists.cells → weight_under P given n ≡ weight_in points cap P lists (cell n)
+  weight_same : (n : ℕ) → n < length lists.cells → weight_under P given n ≡ weight_in points P (cell n)
   weight_same n lt = sum_over_sources grid points cap P lists positive inside are (λ p. weight P (source_of p)) n lt
 
-  pairs_lose : (n : ℕ) → n < length lists.cells → sum_by (given_pair_radius P given (side (cell n))) (entries_of given V n) ≡ sum_by (pair_radius points cap P lists (side (cell n))) (lists.entries V (cell n))
+  pairs_lose : (n : ℕ) → n < length lists.cells → sum_by (given_pair_radius P given (side (cell n))) (entries_of given V n) ≡ sum_by (pair_radius points P (side (cell n))) (lists.entries V (cell n))
   pairs_lose n lt = sum_over_entries grid points cap P lists positive inside are V n lt
       (λ m. ceiling (weight_under P given m * pair_tail P) (side (cell n)))
-      (pair_radius points cap P lists (side (cell n)))
+      (pair_radius points P (side (cell n)))
       (λ m lm. ap (λ w. ceiling (w * pair_tail P) (side (cell n))) (weight_same m lm))
 
-  singles_lose : (n : ℕ) → n < length lists.cells → sum_by (given_single_radius P given (side (cell n))) (entries_of given X n) ≡ sum_by (single_radius points cap P lists (side (cell n))) (lists.entries X (cell n))
+  singles_lose : (n : ℕ) → n < length lists.cells → sum_by (given_single_radius P given (side (cell n))) (entries_of given X n) ≡ sum_by (single_radius points P (side (cell n))) (lists.entries X (cell n))
   singles_lose n lt = sum_over_entries grid points cap P lists positive inside are X n lt
       (λ m. ceiling (weight_under P given m * single_tail P) (side (cell n)))
-      (single_radius points cap P lists (side (cell n)))
+      (single_radius points P (side (cell n)))
       (λ m lm. ap (λ w. ceiling (w * single_tail P) (side (cell n))) (weight_same m lm))
 
   pub radii_same : (n : ℕ) → n < length lists.cells → given_local_radius P given n ≡ local_radius points cap P lists (cell n)
   radii_same zero lt =
       ap₂ (λ a b. 0 + (a + b))
-      (pairs_lose 0 lt ∙ ap (sum_by (pair_radius points cap P lists (side (cell 0)))) (root_V lt))
-      (singles_lose 0 lt ∙ ap (sum_by (single_radius points cap P lists (side (cell 0)))) (root_X lt))
+      (pairs_lose 0 lt ∙ ap (sum_by (pair_radius points P (side (cell 0)))) (root_V lt))
+      (singles_lose 0 lt ∙ ap (sum_by (single_radius points P (side (cell 0)))) (root_X lt))
       ∙ sym (local_radius-root points cap P lists (cell 0) (root_cell lt))
   radii_same (suc m) lt =
       ap₂ (λ a b. a + b)
@@ -162,7 +162,7 @@ module _ (grid : ℕ) (points : List Point) (cap P : ℕ) (lists : TreeLists) (p
   widened_same : (n : ℕ) → n < length lists.cells → given.radius n + sum_by (λ e. given_single_radius P given (side (given.cell e.c)) e) (entries_of given W n) ≡ radius_in points cap P lists (cell n)
   widened_same n lt = ap (λ r. local_radius points cap P lists (cell n) + r) (sum_over_entries grid points cap P lists positive inside are W n lt
       (λ m. ceiling (weight_under P given m * single_tail P) (side (cell m)))
-      (λ c. single_radius points cap P lists (side c) c)
+      (λ c. single_radius points P (side c) c)
       (λ m lm. ap (λ w. ceiling (w * single_tail P) (side (cell m))) (weight_same m lm)))
 
   pub boxes_same : (t : LeafTarget) → t.leaf < length lists.cells → given_target_box P given t ≡ box_in points cap P lists (cell t.leaf) t.place

@@ -17,7 +17,6 @@ use Rattle.near_field.specs.DirectSum.{is_source}
 use Rattle.particle_text.specs.declared.Point.{Point}
 use Rattle.quadtree.specs.Splitting.{quarters}
 use Rattle.quadtree.specs.Tree.{count_in, AreInGrid, IsTreeCell, IsSplit, IsLeaf}
-use Rattle.quadtree.proofs.Counts.{count_by-listed}
 use Rattle.quadtree.proofs.Distinct.{Contains-filter, Contains-into_filter}
 use Rattle.quadtree.proofs.LeafLevel.{cell_of, tree_at_next}
 use Rattle.quadtree.proofs.Parents.{cell_of_point, leaf_or_split, IsTreeCell-below, IsTreeCell-from_below}
@@ -32,6 +31,7 @@ use Rattle.tree_field.specs.Field.{is_source_in, has_source, leaf_row, is_over, 
 use Rattle.tree_field.proofs.Accounts.{accounting, over_sources}
 use Rattle.tree_field.proofs.Ascending.{same_list, quarters_ascend}
 use Rattle.tree_field.proofs.Members.{image_of, Contains-into_map, AllPairs-map, AllPairs-range, Contains-range, range_below, filter_none, found, list_any-member, none_passes}
+use Rattle.tree_field.proofs.Occupants.{occupied_from_source}
 use Rattle.tree_field.proofs.Numbers.{number, cell_at, above, tree_cell, number_below, cell_of_number, number_of_cell, first_is_root, level_positive, cell_above, above_number}
 use Rattle.tree_field.proofs.Sums.{total_box-map, total_box-same, total_box-fewer}
 
@@ -244,10 +244,7 @@ module _ (grid : ℕ) (points : List Point) (cap P : ℕ) (lists : TreeLists) (p
       row q = shifted_up (multipole_row points cap q) (quadrant q) k
 
       occupied : (q : Square) → has_source points q ≡ true → is_occupied q ≡ true
-      occupied q t =
-          let f = found (is_source_in q) points t in
-          let p : Point = f.member in
-          lt-ltb 0 (count_in points q) (count_by-listed (λ p. holds_test q p.x p.y) points p f.listed (and_parts (is_source p.kind) (holds_test q p.x p.y) f.passes).1)
+      occupied q t = lt-ltb 0 (count_in points q) (occupied_from_source points q t)
 
       nothing : (q : Square) → IsQuarter (cell n) q → (cell n).grid ≡ grid → (cell n).level < grid → has_source points q ≡ false → row q ≡ zero_box
       nothing q h g lt f = shifted_zero (multipole_row points cap q) (quadrant q) k (multipole_row-zero points cap q (omega (arith, h.of_grid, h.level)) f)

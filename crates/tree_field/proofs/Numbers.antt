@@ -10,17 +10,17 @@ use Rattle.cell_name.proofs.Order.{IsBefore-irrefl}
 use Rattle.quadtree.specs.Tree.{AreInGrid, IsTreeCell, AreTreeCells}
 use Rattle.quadtree.proofs.Parents.{IsTreeCell-parent}
 
-abbrev same_cell : Square → Square → Bool
+abbrev pub same_cell : Square → Square → Bool
 same_cell c d = (c.grid == d.grid) && (c.level == d.level) && (c.i == d.i) && (c.j == d.j)
 
-same_from_test : (c d : Square) → same_cell c d ≡ true → c ≡ d
+pub same_from_test : (c d : Square) → same_cell c d ≡ true → c ≡ d
 same_from_test c d e =
     let three = and_parts ((c.grid == d.grid) && (c.level == d.level) && (c.i == d.i)) (c.j == d.j) e in
     let two = and_parts ((c.grid == d.grid) && (c.level == d.level)) (c.i == d.i) three.0 in
     let one = and_parts (c.grid == d.grid) (c.level == d.level) two.0 in
     same_square c d (eqb-true _ _ one.0) (eqb-true _ _ one.1) (eqb-true _ _ two.1) (eqb-true _ _ three.1)
 
-test_itself : (c : Square) → same_cell c c ≡ true
+pub test_itself : (c : Square) → same_cell c c ≡ true
 test_itself c = and_from _ _ (and_from _ _ (and_from _ _ (eq-eqb c.grid c.grid refl) (eq-eqb c.level c.level refl)) (eq-eqb c.i c.i refl)) (eq-eqb c.j c.j refl)
 
 -- where a cell stands in a list

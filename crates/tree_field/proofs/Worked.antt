@@ -11,7 +11,9 @@ use Rattle.particle_text.specs.declared.Kind.TheVariants.{Charge, Target}
 use Rattle.particle_text.specs.declared.Point.{Point}
 use Rattle.row_recursions.specs.Rows.{pole_moment, dipole_moment, source_moment, up_round, shifted_up, converted, far_pole, far_dipole, far_source, down_round, shifted_down, local_round, local_value, multipole_round, multipole_value}
 use Rattle.truncation.specs.Tails.{pair_tail, single_tail}
+use Rattle.quadtree.specs.Splitting.{cells_to_level}
 use Rattle.tree_field.specs.Lists.{TreeLists}
+use Rattle.tree_field.proofs.Sorting.{sorted_cells}
 use Rattle.tree_field.specs.Field.{multipole_above, leaf_below, local_at_level, radius_at_level, target_box}
 use Rattle.tree_field.specs.Work.{translations, pairs}
 
@@ -51,6 +53,9 @@ v_lists = record { cells = down_to_origin (cell 4 9 8 ∷ cell 5 16 16 ∷ cell 
     given W b = []
     given X b = []
 
+v_cells : sorted_cells (cells_to_level 5 v_points 8 5) ≡ v_lists.cells
+v_cells = refl
+
 v_box : target_box v_points 8 4 v_lists 5 (gaussian (pos 2) (pos 0)) ≡ box (pos 3312552165840) (pos 6892290129456) (neg_ℤ (pos 1596595453488)) (pos 1983142510128)
 unfolding leaf_below local_at_level radius_at_level multipole_above local_value local_round shifted_down down_round converted kernel_entry kernel_power source_moment pole_moment dipole_moment pair_tail
 v_box = refl
@@ -70,6 +75,9 @@ u_lists = record { cells = down_to_origin (cell 5 16 16 ∷ cell 5 17 16 ∷ [])
     given V b = []
     given W b = []
     given X b = []
+
+u_cells : sorted_cells (cells_to_level 5 u_points 8 5) ≡ u_lists.cells
+u_cells = refl
 
 u_box : target_box u_points 8 4 u_lists 5 (gaussian (pos 1) (pos 0)) ≡ box (pos 9895604649984) (pos 9895604649984) (pos 0) (pos 0)
 unfolding leaf_below local_at_level radius_at_level local_value local_round shifted_down down_round
@@ -91,6 +99,9 @@ w_lists = record { cells = cell 0 0 0 ∷ cell 1 1 1 ∷ cell 2 2 2 ∷ cell 2 3
     given W b = cond (is_cell b 2 3 2) (cell 3 4 4 ∷ []) []
     given X b = []
 
+w_cells : sorted_cells (cells_to_level 5 w_points 8 5) ≡ w_lists.cells
+w_cells = refl
+
 w_box : target_box w_points 8 4 w_lists 5 (gaussian (pos 8) (pos 0)) ≡ box (pos 1127786607614) (pos 1373822247902) (neg_ℤ (pos 75518917824)) (pos 170516722464)
 unfolding leaf_below local_at_level radius_at_level multipole_above local_value local_round shifted_down down_round multipole_value multipole_round shifted_up up_round source_moment pole_moment dipole_moment single_tail
 w_box = refl
@@ -110,6 +121,9 @@ x_lists = record { cells = w_lists.cells; entries = given }
     given V b = []
     given W b = []
     given X b = cond (is_cell b 3 4 4) (cell 2 3 2 ∷ []) []
+
+x_cells : sorted_cells (cells_to_level 5 x_points 8 5) ≡ x_lists.cells
+x_cells = refl
 
 x_box : target_box x_points 8 4 x_lists 5 (gaussian (pos 0) (pos 0)) ≡ box (neg_ℤ (pos 152646916439)) (neg_ℤ (pos 125309623062)) (neg_ℤ (pos 18946302502)) (pos 8390990876)
 unfolding leaf_below local_at_level radius_at_level local_value local_round shifted_down down_round far_source far_pole far_dipole single_tail

@@ -42,6 +42,19 @@ module _ (points : List Point) where
   abbrev pub leaf_row : Square → ℕ → BoxEnds
   leaf_row c = total_row (moments_in c) (sources_in c)
 
+  -- ---- what an entry can lose
+  module _ (P : ℕ) where
+    abbrev pub weight_in : Square → ℕ
+    weight_in c = sum_by (λ p. weight P (source_of p)) (sources_in c)
+
+    -- two cells of the side s
+    abbrev pub pair_radius : ℕ → Square → ℕ
+    pair_radius s c = ceiling (weight_in c * pair_tail P) s
+
+    -- a cell of the side s, and the other seen by its points
+    abbrev pub single_radius : ℕ → Square → ℕ
+    single_radius s c = ceiling (weight_in c * single_tail P) s
+
   module _ (cap : ℕ) where
     -- whether the cell has more points than a leaf may have
     abbrev pub is_over : Square → Bool
@@ -86,20 +99,10 @@ module _ (points : List Point) where
       abbrev pub local_row : Square → ℕ → BoxEnds
       local_row b = local_at_level b.level b
 
-      -- ---- radii: what the entries can lose
-      abbrev pub weight_in : Square → ℕ
-      weight_in c = sum_by (λ p. weight P (source_of p)) (sources_in c)
-
-      -- of an entry of two cells of the side s, and of one of which a cell has the side s and the other is seen by its points
-      abbrev pub pair_radius : ℕ → Square → ℕ
-      pair_radius s c = ceiling (weight_in c * pair_tail P) s
-
-      abbrev pub single_radius : ℕ → Square → ℕ
-      single_radius s c = ceiling (weight_in c * single_tail P) s
-
+      -- ---- radii
       unfoldable pub radius_at_level : ℕ → Square → ℕ
       radius_at_level zero b = 0
-      radius_at_level (suc level) b = radius_at_level level (parent b) + (sum_by (pair_radius (side b)) (lists.entries V b) + sum_by (single_radius (side b)) (lists.entries X b))
+      radius_at_level (suc level) b = radius_at_level level (parent b) + (sum_by (pair_radius P (side b)) (lists.entries V b) + sum_by (single_radius P (side b)) (lists.entries X b))
 
       abbrev pub local_radius : Square → ℕ
       local_radius b = radius_at_level b.level b
@@ -116,7 +119,7 @@ module _ (points : List Point) where
 
       -- what all entries on the way to the leaf can lose
       abbrev pub radius_in : Square → ℕ
-      radius_in b = local_radius b + sum_by (λ c. single_radius (side c) c) (lists.entries W b)
+      radius_in b = local_radius b + sum_by (λ c. single_radius P (side c) c) (lists.entries W b)
 
       abbrev pub box_in : Square → Gaussian → BoxEnds
       box_in b z = widen_box (add_box (local_value_at b z) (add_box (multipole_values_at b z) (pairs_at b z))) (pos (radius_in b))

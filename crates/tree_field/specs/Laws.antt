@@ -1,17 +1,18 @@
 -- The field row by row, each from its sources and from the rows next to it, and that lists of a tree are determined.
-use Rattle.std.specs.Prelude.{ℕ, ◌≡◌, ◌+◌, ◌<◌, ◌≤◌, ◌⊎◌, List, filter, sum_by}
+use Rattle.std.specs.Prelude.{ℕ, ◌≡◌, ◌+◌, ◌*◌, ◌<◌, ◌≤◌, ◌⊎◌, List, length, filter, sum_by}
 use Rattle.exact_math.specs.Ends.{zero_box, add_box}
 use Rattle.cell_name.specs.Square.{Square, side, parent}
 use Rattle.cert_text.specs.declared.Letter.{Letter}
 use Rattle.cert_text.specs.declared.Letter.TheVariants.{V, X}
 use Rattle.particle_text.specs.declared.Point.{Point}
 use Rattle.quadtree.specs.Splitting.{quarters}
-use Rattle.quadtree.specs.Tree.{count_in, IsTreeCell}
+use Rattle.quadtree.specs.Tree.{AreInGrid, count_in, IsTreeCell}
 use Rattle.row_recursions.specs.Rows.{shifted_up, shifted_down}
 use Rattle.soundness.specs.Computed.{total_row}
 use Rattle.soundness.specs.Squares.{quadrant}
 use Rattle.tree_field.specs.Field.{has_source, leaf_row, multipole_row, converted_rows, far_rows, local_row, pair_radius, single_radius, local_radius}
 use Rattle.tree_field.specs.Lists.{TreeLists, AreTreeLists}
+use Rattle.tree_field.specs.Work.{translations}
 
 -- of a cell with no more points than a leaf may have, or of the last level
 abbrev pub LeafRows : Type 0
@@ -35,9 +36,17 @@ RootRadius = (points : List Point) (cap P : ℕ) (lists : TreeLists) (b : Square
 
 abbrev pub Radii : Type 0
 Radii = (points : List Point) (cap P : ℕ) (lists : TreeLists) (b : Square) → 0 < b.level
-    → local_radius points cap P lists b ≡ local_radius points cap P lists (parent b) + (sum_by (pair_radius points cap P lists (side b)) (lists.entries V b) + sum_by (single_radius points cap P lists (side b)) (lists.entries X b))
+    → local_radius points cap P lists b ≡ local_radius points cap P lists (parent b) + (sum_by (pair_radius points P (side b)) (lists.entries V b) + sum_by (single_radius points P (side b)) (lists.entries X b))
+
+-- each list of points within a grid has a tree with its entries
+abbrev pub EachListHasTree : Type 0
+EachListHasTree = (grid : ℕ) (points : List Point) (cap : ℕ) → 0 < grid → AreInGrid grid points → (lists : TreeLists) × AreTreeLists grid points cap lists
 
 -- lists of one tree have the same cells, and the same entries at each of them
 abbrev pub OneTree : Type 0
 OneTree = (grid : ℕ) (points : List Point) (cap : ℕ) (these others : TreeLists) → AreTreeLists grid points cap these → AreTreeLists grid points cap others
     → (these.cells ≡ others.cells) × ((letter : Letter) (b : Square) → IsTreeCell grid points cap b → these.entries letter b ≡ others.entries letter b)
+
+-- the translations are at most the V entries and twice the cells
+abbrev pub TranslationsAreFew : Type 0
+TranslationsAreFew = (points : List Point) (lists : TreeLists) → translations points lists ≤ sum_by (λ b. length (lists.entries V b)) lists.cells + 2 * length lists.cells

@@ -3,4 +3,5 @@ pub mod Contains
 pub mod Field
 pub mod Laws
 pub mod Lists
+pub mod Program
 pub mod Work

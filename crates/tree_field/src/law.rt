@@ -1,6 +1,7 @@
 //! The laws of the field. Nothing here runs: each law is the contract of a function with an empty body.
 ghost use Rattle.tree_field.specs.Contains.{FieldContains};
-ghost use Rattle.tree_field.specs.Laws.{LeafRows, InnerRows, RootRows, LocalRows, RootRadius, Radii, OneTree};
+ghost use Rattle.tree_field.specs.Laws.{LeafRows, InnerRows, RootRows, LocalRows, RootRadius, Radii, EachListHasTree, OneTree, TranslationsAreFew};
+ghost use Rattle.tree_field.specs.Program.{ListsOfTree, NodesOfTree, LeavesOfTree, WorkOfTree};
 
 /// The box of each target contains the direct sum of the list, for each list of points within a grid, each capacity of the leaves and each
 /// order from 2 on.
@@ -22,7 +23,22 @@ pub fn rows_of_neighbours()
     ensures radius { Radii }
 {}
 
-/// A list of points and a capacity have one tree with its entries.
+/// Each list of points within a grid has, for each capacity, one tree with its entries.
 pub fn tree_is_determined()
+    ensures some { EachListHasTree }
     ensures one { OneTree }
+{}
+
+/// A tree that the program built and its entry lists, in the words of the field: cells and entries by their numbers, the sources of a
+/// cell by the positions of its members, the quarters with a source by the numbers of the children, the leaf of each point, and the counts.
+pub fn trees_of_the_program()
+    ensures lists { ListsOfTree }
+    ensures nodes { NodesOfTree }
+    ensures leaves { LeavesOfTree }
+    ensures work { WorkOfTree }
+{}
+
+/// The translations are at most the V entries and twice the cells: one for each V entry, and two at most for each cell below the root.
+pub fn translations_are_few()
+    ensures few { TranslationsAreFew }
 {}

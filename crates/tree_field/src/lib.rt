@@ -8,4 +8,7 @@
 
 mod law;
 
-pub use law::{boxes_contain_the_sum, rows_of_neighbours, tree_is_determined};
+pub use law::{
+    boxes_contain_the_sum, rows_of_neighbours, translations_are_few, tree_is_determined,
+    trees_of_the_program,
+};

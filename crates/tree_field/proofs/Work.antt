@@ -1,0 +1,69 @@
+-- The counts of translations and pairs, by the numbers of the cells.
+use Rattle.std.proofs.Common.{ℕ, ◌≡◌, ◌+◌, ◌<◌, ◌≤◌, inl, inr, List, [], length, map, Bool, ◌&&◌, refl, sym, ap, ap₂, ◌∙◌, arith, lit<}
+use Rattle.std.specs.Prelude.{nat_lt, sum_by}
+use Rattle.std.specs.List.{range_with_len, count_by}
+use Rattle.std.proofs.lemmas.Bool.{lt-ltb, ltb-true, cases_lt}
+use Rattle.std.proofs.lemmas.List.{length-map}
+use Rattle.std.proofs.lemmas.List.FromFn.{fill_by_all}
+use Rattle.std.proofs.lemmas.List.Sums.{count_by-le-length}
+use Rattle.std.specs.Prelude.{cond}
+use Rattle.cell_name.specs.Cell.{square}
+use Rattle.cell_name.specs.Square.{Square, root}
+use Rattle.cell_lists.specs.Row.{row}
+use Rattle.cert_text.specs.declared.Letter.TheVariants.{U, V}
+use Rattle.quadtree.specs.TreeModel.{TreeModel, squares, size, square_of, node_of}
+use Rattle.tree_field.specs.Field.{has_source}
+use Rattle.tree_field.specs.Laws.{TranslationsAreFew}
+use Rattle.tree_field.specs.Program.{WorkOfTree}
+use Rattle.tree_field.specs.Work.{has_target, pairs_between}
+use Rattle.tree_field.proofs.Leaves.{same_test}
+use Rattle.tree_field.proofs.Members.{All-from_members, range_below}
+use Rattle.tree_field.proofs.Numbers.{first_is_root, level_positive}
+use Rattle.tree_field.proofs.Program.{lists_of_tree, nodes_of_tree}
+use Rattle.tree_field.proofs.Sums.{sum_by-map, sum_by-same}
+
+-- a sum over all cells, by their numbers
+sum_by_numbers : (tree : TreeModel) (f : Square → ℕ) (g : ℕ → ℕ) → ((n : ℕ) → n < size tree → f (square_of tree n) ≡ g n) → sum_by f (squares tree) ≡ sum_by g (range_with_len 0 (size tree))
+sum_by_numbers tree f g same =
+    ap (sum_by f) (fill_by_all (square_of tree) (squares tree) (size tree) (root 16) (length-map tree.cells square) (λ k lt. refl))
+    ∙ sum_by-map f (square_of tree) (range_with_len 0 (size tree))
+    ∙ sum_by-same (λ n. f (square_of tree n)) g (range_with_len 0 (size tree)) (All-from_members (λ n. f (square_of tree n) ≡ g n) (range_with_len 0 (size tree)) (λ n h. same n (range_below (size tree) n h)))
+
+zero_is : (n : ℕ) → n ≤ 0 → n ≡ 0
+zero_is n le = omega arith
+
+-- a sum over the rows of lists
+sum_by_rows : (rows : List (List ℕ)) (n : ℕ) (f : List ℕ → ℕ) → length rows ≡ n → sum_by f rows ≡ sum_by (λ k. f (row rows k)) (range_with_len 0 n)
+sum_by_rows rows n f e = ap (sum_by f) (fill_by_all (row rows) rows n [] e (λ k lt. refl)) ∙ sum_by-map f (row rows) (range_with_len 0 n)
+
+pub work_of_tree : WorkOfTree
+work_of_tree tree lists points cap these inside h are a =
+    let of = lists_of_tree tree lists points cap these inside h are a in
+    record {
+      translations_are = ap₂ (λ m n. m + n) (ap (count_by (λ c. nat_lt 0 c.level && has_source points c)) of.cells ∙ sources)
+          (ap₂ (λ m n. m + n) (ap (sum_by (λ b. length (these.entries V b))) of.cells ∙ converted (of.entries V)) (ap (count_by (λ c. nat_lt 0 c.level && has_target points c)) of.cells ∙ targets));
+      pairs_are = ap (sum_by (λ b. sum_by (pairs_between points b) (these.entries U b))) of.cells ∙ sum_by_numbers tree _ _ (λ n lt.
+          ap (sum_by (pairs_between points (square_of tree n))) (of.entries U n lt) ∙ sum_by-map (pairs_between points (square_of tree n)) (square_of tree) (row lists.u n));
+    }
+  where
+    level_is : (n : ℕ) → n < size tree → nat_lt 0 (square_of tree n).level ≡ nat_lt 0 n
+    level_is n lt = same_test _ _ (λ e. lt-ltb 0 n (not_first n (ltb-true 0 (square_of tree n).level e)))
+        (λ e. lt-ltb 0 (square_of tree n).level (level_positive 16 points cap (squares tree) (lit< tt) inside h.cells_are n (ltb-true 0 n e) (omega (arith, length-map tree.cells square))))
+      where
+        not_first : (n : ℕ) → 0 < (square_of tree n).level → 0 < n
+        not_first n lo = elim (cases_lt 0 n) [ inl lt ↦ lt | inr le ↦ absurd (let e : (square_of tree n).level ≡ 0 = ap (λ k. (square_of tree k).level) (zero_is n le) ∙ ap (λ (s : Square). s.level) (first_is_root 16 points cap (squares tree) (lit< tt) inside h.cells_are (omega (arith, length-map tree.cells square))) in omega arith) ]
+
+    sources : count_by (λ c. nat_lt 0 c.level && has_source points c) (squares tree) ≡ count_by (λ n. nat_lt 0 n && (node_of tree n).has_source) (range_with_len 0 (size tree))
+    sources = sum_by_numbers tree _ _ (λ n lt. ap₂ (λ (a b : Bool). cond {A = ℕ} (a && b) 1 0) (level_is n lt) (sym (nodes_of_tree tree points cap inside h n lt).source))
+
+    targets : count_by (λ c. nat_lt 0 c.level && has_target points c) (squares tree) ≡ count_by (λ n. nat_lt 0 n && (node_of tree n).has_target) (range_with_len 0 (size tree))
+    targets = sum_by_numbers tree _ _ (λ n lt. ap₂ (λ (a b : Bool). cond {A = ℕ} (a && b) 1 0) (level_is n lt) (sym (nodes_of_tree tree points cap inside h n lt).target))
+
+    converted : ((n : ℕ) → n < size tree → these.entries V (square_of tree n) ≡ map (square_of tree) (row lists.v n)) → sum_by (λ b. length (these.entries V b)) (squares tree) ≡ sum_by (λ list. length list) lists.v
+    converted e = sum_by_numbers tree _ _ (λ n lt. ap length (e n lt) ∙ length-map (row lists.v n) (square_of tree)) ∙ sym (sum_by_rows lists.v (size tree) (λ list. length list) (are.as_many V))
+
+pub translations_are_few : TranslationsAreFew
+translations_are_few points lists =
+    let m = count_by-le-length (λ c. nat_lt 0 c.level && has_source points c) lists.cells in
+    let n = count_by-le-length (λ c. nat_lt 0 c.level && has_target points c) lists.cells in
+    omega (arith, m, n)
