@@ -4,6 +4,8 @@
 
 mod loops;
 mod samples;
+#[cfg(test)]
+mod tests;
 
 use kernel_table::Kernel;
 use loops::Operation;
