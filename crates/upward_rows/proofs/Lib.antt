@@ -1,0 +1,6 @@
+-- Lemmas on the rows of a tree.
+pub mod Points
+pub mod Sizes
+pub mod Slices
+pub mod Totals
+pub mod Trees
