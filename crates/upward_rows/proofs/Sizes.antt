@@ -1,24 +1,20 @@
 -- How large the multipole rows of the field are: 2^40 times the weight of the points in the cell.
-use Rattle.std.proofs.Common.{ℕ, ◌≡◌, ◌+◌, ◌-◌, ◌*◌, ◌^◌, ◌%◌, ◌<◌, ◌≤◌, inl, inr, zero, suc, List, [], ◌∷◌, length, get_or, take, Bool, true, false, cond, filter, refl, sym, ap, ◌∙◌, subst, arith}
+use Rattle.std.proofs.Common.{ℕ, ◌≡◌, ◌+◌, ◌-◌, ◌*◌, ◌^◌, ◌%◌, ◌<◌, ◌≤◌, inl, inr, zero, suc, List, [], ◌∷◌, take, Bool, true, false, cond, filter, refl, sym, ap, ◌∙◌, subst, arith}
 use Rattle.std.specs.Prelude.{All, sum_by, ◌==◌}
 use Rattle.std.proofs.lemmas.Bool.{cases_Bool}
 use Rattle.std.proofs.Math.Nat.{mul-le-mul_left, mul-le-mul_right}
 use Rattle.std.proofs.lemmas.List.Elements.{All-weaker, All-filter, All-take}
 use Rattle.std.proofs.lemmas.List.Sums.{sum_by-cons, sum_by-take-drop}
-use Rattle.exact_math.specs.Ends.{BoxEnds, BoxEndsWithin}
-use Rattle.exact_math.specs.Gaussian.{Gaussian}
+use Rattle.exact_math.specs.Ends.{BoxEnds}
 use Rattle.complex_box.proofs.Sizes.{box_wider}
 use Rattle.cell_name.specs.Square.{Square, side, child, Holds, holds_test}
 use Rattle.cell_name.proofs.Cells.{Holds-parent}
 use Rattle.cell_name.proofs.HoldsTest.{Holds-from_test, test-from_Holds}
 use Rattle.cell_name.proofs.Quarters.{lies_in_one_child, parent-child}
-use Rattle.cell_name.specs.declared.cell.Quadrant.{Quadrant}
-use Rattle.truncation.specs.Places.{GaussianWithin}
 use Rattle.particle_text.specs.declared.Point.{Point}
 use Rattle.particle_text.specs.Limits.{weight64, total_weight, size_of_gaussian}
 use Rattle.particle_text.specs.Points.{place, pole, dipole}
 use Rattle.quadtree.specs.Splitting.{quarters}
-use Rattle.quadtree.specs.Tree.{count_in}
 use Rattle.quadtree.proofs.TreeCells.{IsQuarter, quarters_are}
 use Rattle.row_recursions.specs.Rows.{shifted_up}
 use Rattle.row_recursions.specs.Sizes.{RowWithin}
@@ -27,7 +23,7 @@ use Rattle.row_recursions.proofs.RowSizes.{source_moment_within, shifted_up_with
 use Rattle.row_recursions.proofs.Turns.{unit_quadrant}
 use Rattle.soundness.specs.Computed.{total_row, moments_in}
 use Rattle.soundness.specs.Squares.{offset, quadrant}
-use Rattle.tree_field.specs.Field.{is_source_in, sources_in, has_source, leaf_row, is_over, multipole_above, multipole_row}
+use Rattle.tree_field.specs.Field.{has_source, leaf_row, is_over, multipole_above, multipole_row}
 use Rattle.upward_rows.proofs.Points.{source_test, points_in, sources_among, all_held, IsHeld, sum_by-filter}
 use Rattle.upward_rows.proofs.Totals.{total_row-within, wider, sum_by-times}
 

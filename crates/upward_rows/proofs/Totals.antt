@@ -1,7 +1,6 @@
 -- Sums of rows, and how large they are.
-use Rattle.std.proofs.Common.{ℕ, ◌≡◌, ◌+◌, ◌*◌, ◌^◌, ◌<◌, ◌≤◌, zero, suc, List, [], ◌∷◌, ◌++◌, refl, sym, ap, ap₂, ◌∙◌, subst, arith}
+use Rattle.std.proofs.Common.{ℕ, ◌≡◌, ◌+◌, ◌*◌, ◌<◌, ◌≤◌, zero, suc, List, [], ◌∷◌, ◌++◌, ap, ap₂, ◌∙◌, arith}
 use Rattle.std.specs.Prelude.{All, fold, sum_by, pos}
-use Rattle.std.proofs.Math.Nat.{mul-le-mul_left}
 use Rattle.std.proofs.lemmas.List.Elements.{All-tail}
 use Rattle.std.proofs.lemmas.List.Sums.{fold-append, sum_by-cons}
 use Rattle.exact_math.specs.Ends.{BoxEnds, BoxEndsWithin, zero_box, add_box, scale_box, gscale_box, quot_box}
@@ -10,7 +9,7 @@ use Rattle.complex_box.proofs.Sizes.{box_wider, add_box_within}
 use Rattle.row_recursions.specs.Rows.{up_round, shifted_up}
 use Rattle.row_recursions.specs.Sizes.{RowWithin}
 use Rattle.row_recursions.proofs.RowSizes.{zero_within}
-use Rattle.soundness.specs.Computed.{total_box, total_row}
+use Rattle.soundness.specs.Computed.{total_row}
 
 -- one more
 pub total_row-more : {A : Type 0} (f : A → ℕ → BoxEnds) (xs : List A) (x : A) (k : ℕ) → total_row f (xs ++ x ∷ []) k ≡ add_box (total_row f xs k) (f x k)

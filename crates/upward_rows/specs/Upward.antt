@@ -1,5 +1,5 @@
 -- The multipole rows of the cells of a tree, one behind the other in one list of boxes, in the order of the cells.
-use Rattle.std.specs.Prelude.{ℕ, ◌≡◌, ◌+◌, ◌*◌, ◌≤◌, ◌<◌, Bool, ◌&&◌, nat_lt, cond, List, length}
+use Rattle.std.specs.Prelude.{ℕ, ◌≡◌, ◌+◌, ◌*◌, ◌≤◌, ◌<◌, Bool, ◌&&◌, nat_lt, cond, List}
 use Rattle.std.specs.List.{count_by}
 use Rattle.cell_name.specs.Square.{Square}
 use Rattle.complex_box.specs.Rows.{at}

@@ -5,7 +5,9 @@
 #![tactic(auto)]
 
 mod fill;
+mod pass;
 mod quarters;
 mod sources;
 
 pub use fill::fill_row;
+pub use pass::upward_pass;

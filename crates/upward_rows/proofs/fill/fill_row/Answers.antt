@@ -1,5 +1,5 @@
 -- The row stands in its place, and the rows behind it as before.
-use Rattle.std.proofs.Common.{rules, inl, inr, ◌≡◌, ◌+◌, ◌-◌, ◌*◌, ◌<◌, ◌≤◌, ◌++◌, ap, sym, ◌∙◌, arith, length}
+use Rattle.std.proofs.Common.{inl, inr, ◌≡◌, ◌+◌, ◌-◌, ◌*◌, ◌++◌, ap, sym, ◌∙◌, arith, length}
 use Rattle.std.proofs.lemmas.Bool.{cases_lt}
 use Rattle.complex_box.specs.Box.{box_ends}
 use Rattle.complex_box.specs.Rows.{zero_cbox}

@@ -1,16 +1,11 @@
 -- One quarter more.
-use Rattle.std.proofs.Common.{rules, ◌≡◌, ℕ, ◌+◌, ◌-◌, ◌*◌, ◌/◌, ◌%◌, ◌^◌, ◌<◌, ◌≤◌, ◌++◌, List, [], ◌∷◌, length, get_or, take, filter, Bool, true, false, ap, ap₂, lit<, sym, subst, refl, ◌∙◌, arith, length-append}
-use Rattle.std.specs.Prelude.{Contains}
-use Rattle.std.proofs.lemmas.Bool.{false≢true, cases_Bool}
+use Rattle.std.proofs.Common.{◌≡◌, ℕ, ◌+◌, ◌-◌, ◌^◌, List, [], ◌∷◌, length, take, filter, true, false, ap, ap₂, lit<, sym, subst, ◌∙◌, arith, length-append}
 use Rattle.std.proofs.lemmas.List.{take_all}
-use Rattle.std.proofs.lemmas.List.Edits.{get_or-between}
 use Rattle.exact_math.specs.Ends.{BoxEnds, BoxEndsWithin, add_box}
-use Rattle.complex_box.specs.Box.{box_ends}
 use Rattle.complex_box.specs.Counts.{Counts}
-use Rattle.cell_name.specs.Cell.{half_number}
-use Rattle.cell_name.specs.Square.{Square, root}
+use Rattle.cell_name.specs.Square.{Square}
 use Rattle.quadtree.specs.Splitting.{quarter, quarters}
-use Rattle.quadtree.specs.TreeModel.{size, square_of, node_of}
+use Rattle.quadtree.specs.TreeModel.{size, square_of}
 use Rattle.row_recursions.specs.Rows.{row_of, shifted_up}
 use Rattle.row_recursions.proofs.RowSizes.{order_small}
 use Rattle.row_recursions.specs.Cells.{quadrant_of}
@@ -19,8 +14,6 @@ use Rattle.soundness.specs.Squares.{quadrant}
 use Rattle.tree_field.specs.Field.{has_source, multipole_row}
 use Rattle.cell_lists.proofs.TreeNumbers.{read_at}
 use Rattle.complex_box.proofs.Sizes.{box_wider}
-use Rattle.cell_name.specs.Cell.{square}
-use Rattle.row_recursions.specs.Sizes.{RowWithin}
 use Rattle.tree_field.specs.Field.{leaf_row}
 use Rattle.tree_field.proofs.MultipoleRows.{multipole_row-split}
 use Rattle.upward_rows.proofs.Sizes.{multipole_row-light, shifted_sum_within}

@@ -1,13 +1,13 @@
 -- Where the search finds nothing, the tree doesn't have the quarter.
-use Rattle.std.proofs.Common.{ℕ, ◌≡◌, ◌<◌, length, get_or, sym, ap, ◌∙◌, subst, arith}
+use Rattle.std.proofs.Common.{◌≡◌, sym, ap, ◌∙◌, subst, arith}
 use Rattle.std.specs.Prelude.{Contains}
 use Rattle.std.proofs.lemmas.List.{length-map}
 use Rattle.std.proofs.lemmas.List.Elements.{Contains-get_or}
 use Rattle.cell_lists.proofs.TreeNumbers.{read_at}
-use Rattle.cell_name.specs.Cell.{square, half_number}
-use Rattle.cell_name.specs.Square.{Square, root, child}
+use Rattle.cell_name.specs.Cell.{square}
+use Rattle.cell_name.specs.Square.{root}
 use Rattle.quadtree.specs.Splitting.{quarter}
-use Rattle.quadtree.specs.TreeModel.{size, squares, square_of}
+use Rattle.quadtree.specs.TreeModel.{squares, square_of}
 use Rattle.upward_rows.proofs.quarters.quarter_with_source.Goals as goal
 
 pub returns-in-None : goal.returns-in-None

@@ -1,11 +1,10 @@
 -- The sources one after another.
-use Rattle.std.proofs.Common.{arith, ◌≡◌, ◌∙◌, ◌+◌, ◌*◌, ◌^◌, ◌<◌, ap, sym, refl, subst, length, get_or, take, List}
+use Rattle.std.proofs.Common.{arith, ◌∙◌, ◌*◌, ◌^◌, ap, sym, refl, subst, get_or, take}
 use Rattle.std.proofs.lemmas.List.{take_all}
 use Rattle.std.specs.Prelude.{sum_by}
 use Rattle.exact_math.specs.Ends.{BoxEndsWithin, add_box}
 use Rattle.complex_box.proofs.Sizes.{box_wider}
 use Rattle.cell_name.specs.Cell.{square}
-use Rattle.complex_box.specs.Rows.{zero_cbox}
 use Rattle.particle_text.specs.declared.Point.{Point}
 use Rattle.particle_text.specs.Limits.{weight64}
 use Rattle.row_recursions.specs.Rows.{row_of}
