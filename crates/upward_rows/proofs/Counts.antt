@@ -75,7 +75,6 @@ shifted_is points tree n q h = step (node_of tree n).is_leaf refl h
         record { inner = e; quarter = All-contains (IsQuarter (square_of tree n)) (quarters (square_of tree n)) q (quarters_are (square_of tree n)) kept.0; source = kept.1 }
 
 module _ (tree : TreeModel) (points : List Point) (capacity : ℕ) (is : IsTreeOf 16 tree points capacity) (inside : AreInGrid 16 points) where
-
   in_squares : (n : ℕ) → n < size tree → n < length (squares tree)
   in_squares n lt = omega (arith, length-map tree.cells square)
 

@@ -32,7 +32,6 @@ module _ (P n : ℕ) (front back row : List CBox) (whole : length front ≡ (n +
   abbrev pub written : List CBox
   written = put_mid (n * P) (length front - n * P) front row
 
-
   front_length : length (take (n * P) front) ≡ n * P
   front_length = let e = length-take (n * P) front in omega (arith, e)
 

@@ -15,7 +15,7 @@ pub record IsTreeOfPoints (points : List Point) (tree : TreeModel) : Type 0 wher
   pub capacity : ℕ
   pub is_tree : IsTreeOf 16 tree points capacity
 
--- the rows of all cells from the number n on are those of the field, for a capacity that has this tree; the row of the cell m has the P boxes from the position
+-- the rows of all cells from the number n on are those of the field, whatever capacity gave the tree; the row of the cell m has the P boxes from the position
 -- m P on
 pub record UpFrom (points : List Point) (P : ℕ) (tree : TreeModel) (rows : List CBox) (n : ℕ) : Type 0 where
   pub rows_are : (capacity m k : ℕ) → IsTreeOf 16 tree points capacity → n ≤ m → m < size tree → k < P → row_of rows (m * P + k) ≡ multipole_row points capacity (square_of tree m) k

@@ -8,6 +8,8 @@ mod fill;
 mod pass;
 mod quarters;
 mod sources;
+#[cfg(test)]
+mod tests;
 
 pub use fill::fill_row;
 pub use pass::upward_pass;

@@ -26,13 +26,7 @@ pub(crate) fn quarter_with_source(tree: &Tree, n: usize, q: Quadrant) -> Option<
     ensures { MatchOption result ((m : ℕ) → m < size tree.now → square_of tree.now m ≡ quarter (square_of tree.now n) q → (node_of tree.now m).has_source ≡ true → ⊥) (λ m. (m < size tree.now) × (square_of tree.now m ≡ quarter (square_of tree.now n) q) × ((node_of tree.now m).has_source ≡ true)) }
 {
     match tree.find(tree.cells()[n].child(q)) {
-        Some(m) => {
-            if tree.has_source(m) {
-                Some(m)
-            } else {
-                None
-            }
-        }
+        Some(m) => { if tree.has_source(m) { Some(m) } else { None } }
         None => None,
     }
 }

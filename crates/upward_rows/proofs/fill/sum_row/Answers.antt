@@ -75,8 +75,7 @@ shift_up-requires g c =
     let inner = inner_is tree points capacity is n cell (sym c.is_leaf.ensures ∙ c.if-is_leaf.false) in
     let grid = ap (λ (s : Square). s.grid) c.in-Some.ensures.1 in
     let of_grid = inner.of_grid in
-    let low = inner.room in
-    (
+    let low = inner.room in (
       lit< tt,
       (
         order,
@@ -128,9 +127,9 @@ loop-k-preserved g c =
                 ap (λ l. row_of l j) w.row-is
                 ∙ w.shift_up.ensures.adds j h
                 ∙ ap₂ add_box (c.loop-k.invariant.row each has j h) (
-                    shifted_same P (row_of w.new.result.cells.now) (multipole_row points each (square_of tree m)) (quadrant_of c.quadrant-q.result)
-                    (row_behind P n m c.args.behind.now w.new.result.cells.now (multipole_row points each (square_of tree m)) w.new.ensures (λ i l. behind each m i has after inside l)) j h
-                    ∙ ap₂ (λ s z. shifted_up (multipole_row points each s) z j) e (sym (quadrant_is here c.quadrant-q.result)))
+                shifted_same P (row_of w.new.result.cells.now) (multipole_row points each (square_of tree m)) (quadrant_of c.quadrant-q.result)
+                (row_behind P n m c.args.behind.now w.new.result.cells.now (multipole_row points each (square_of tree m)) w.new.ensures (λ i l. behind each m i has after inside l)) j h
+                ∙ ap₂ (λ s z. shifted_up (multipole_row points each s) z j) e (sym (quadrant_is here c.quadrant-q.result)))
                 ∙ sym (total_row-more (f each) kept q j)
                 ∙ ap (λ l. total_row (f each) l j) (sym more);
             translations = omega (arith, raised, w.shift_up.ensures.translations, c.loop-k.invariant.translations, longer);
