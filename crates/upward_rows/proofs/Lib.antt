@@ -1,0 +1,7 @@
+-- Lemmas on the rows of a tree.
+pub mod Counts
+pub mod Points
+pub mod Sizes
+pub mod Slices
+pub mod Totals
+pub mod Trees

@@ -1,0 +1,64 @@
+-- One row of the slice of all rows.
+use Rattle.std.proofs.Common.{ℕ, ◌≡◌, ◌+◌, ◌-◌, ◌*◌, ◌<◌, ◌≤◌, List, ◌++◌, length, get_or, take, drop, sym, ap, ◌∙◌, arith, length-append, length-drop}
+use borrow.Rule.Slice.PartMut.{put_mid, post_of}
+use Rattle.std.proofs.Math.Nat.{mul-le-mul_right}
+use Rattle.std.specs.List.{between}
+use Rattle.std.proofs.lemmas.List.Edits.{get_or-between}
+use Rattle.exact_math.specs.Ends.{BoxEnds}
+use Rattle.std.proofs.lemmas.List.{get_or_append_left, get_or-append_right, length-take}
+use Rattle.complex_box.specs.Box.{box_ends}
+use Rattle.complex_box.specs.Rows.{zero_cbox}
+use Rattle.complex_box.specs.declared.CBox.{CBox}
+use Rattle.row_recursions.specs.Rows.{row_of}
+
+-- ---- positions
+pub row_fits : (a b P : ℕ) → a < b → a * P + P ≤ b * P
+row_fits a b P h = let m = mul-le-mul_right P (let l : a + 1 ≤ b = omega arith in l) in omega (arith, m)
+
+pub from_next : (m n P k : ℕ) → n < m → (n + 1) * P + ((m - (n + 1)) * P + k) ≡ m * P + k
+from_next m n P k h = let e : (n + 1 + (m - (n + 1))) * P ≡ m * P = ap (λ j. j * P) (omega arith) in omega (arith, e)
+
+pub rest_length : (x n s P : ℕ) → n < s → x + (n + 1) * P ≡ s * P → x ≡ (s - (n + 1)) * P
+rest_length x n s P h e = let f : (n + 1 + (s - (n + 1))) * P ≡ s * P = ap (λ j. j * P) (omega arith) in omega (arith, e, f)
+
+pub part_length : (P n : ℕ) (front : List CBox) → length front ≡ (n + 1) * P → length (take (length front - n * P) (drop (n * P) front)) ≡ P
+part_length P n front e =
+    let a = length-take (length front - n * P) (drop (n * P) front) in
+    let b = length-drop (n * P) front in
+    omega (arith, a, b, e)
+
+-- ---- the slice after the row n was written
+module _ (P n : ℕ) (front back row : List CBox) (whole : length front ≡ (n + 1) * P) (as_long : length row ≡ P) where
+  abbrev pub written : List CBox
+  written = put_mid (n * P) (length front - n * P) front row
+
+  front_length : length (take (n * P) front) ≡ n * P
+  front_length = let e = length-take (n * P) front in omega (arith, e)
+
+  written_length : length written ≡ (n + 1) * P
+  written_length =
+      let a = length-append (take (n * P) front) (row ++ post_of (n * P) (length front - n * P) front) in
+      let b = length-append row (post_of (n * P) (length front - n * P) front) in
+      let d = length-drop (length front - n * P) (drop (n * P) front) in
+      let e = length-drop (n * P) front in
+      omega (arith, a, b, d, e, front_length)
+
+  pub own_row : (k : ℕ) → k < P → row_of (written ++ back) (n * P + k) ≡ row_of row k
+  own_row k lt = ap box_ends (
+      get_or_append_left written back zero_cbox (n * P + k) (omega (arith, written_length))
+      ∙ get_or-append_right (take (n * P) front) (row ++ post_of (n * P) (length front - n * P) front) (n * P) (n * P + k) zero_cbox front_length (omega arith)
+      ∙ ap (λ j. get_or (row ++ post_of (n * P) (length front - n * P) front) j zero_cbox) (let e : n * P + k - n * P ≡ k = omega arith in e)
+      ∙ get_or_append_left row (post_of (n * P) (length front - n * P) front) zero_cbox k (omega arith))
+
+  pub later_row : (i : ℕ) → (n + 1) * P ≤ i → row_of (written ++ back) i ≡ row_of (front ++ back) i
+  later_row i le = ap box_ends (
+      get_or-append_right written back ((n + 1) * P) i zero_cbox written_length le
+      ∙ sym (get_or-append_right front back ((n + 1) * P) i zero_cbox whole le))
+
+-- ---- a row that is read from those behind
+pub row_behind : (P n m : ℕ) (behind cells : List CBox) (row : ℕ → BoxEnds) → cells ≡ between ((m - n - 1) * P) ((m - n - 1) * P + P) behind → ((k : ℕ) → k < P → row_of behind ((m - (n + 1)) * P + k) ≡ row k) → (k : ℕ) → k < P → row_of cells k ≡ row k
+row_behind P n m behind cells row e h k lt =
+    ap (λ l. row_of l k) e
+    ∙ ap box_ends (get_or-between behind ((m - n - 1) * P) ((m - n - 1) * P + P) k zero_cbox (omega arith))
+    ∙ ap (λ j. row_of behind (j * P + k)) (let d : m - n - 1 ≡ m - (n + 1) = omega arith in d)
+    ∙ h k lt

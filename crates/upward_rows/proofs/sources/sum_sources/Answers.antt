@@ -1,0 +1,64 @@
+-- The sources one after another.
+use Rattle.std.proofs.Common.{arith, ◌∙◌, ◌*◌, ◌^◌, ap, sym, refl, subst, get_or, take}
+use Rattle.std.proofs.lemmas.List.{take_all}
+use Rattle.std.specs.Prelude.{sum_by}
+use Rattle.exact_math.specs.Ends.{BoxEndsWithin, add_box}
+use Rattle.complex_box.proofs.Sizes.{box_wider}
+use Rattle.cell_name.specs.Cell.{square}
+use Rattle.particle_text.specs.declared.Point.{Point}
+use Rattle.particle_text.specs.Limits.{weight64}
+use Rattle.row_recursions.specs.Rows.{row_of}
+use Rattle.row_recursions.proofs.RowSizes.{order_small}
+use Rattle.soundness.specs.Computed.{total_row, moments_in}
+use Rattle.upward_rows.proofs.Points.{no_point, sources_at, sources_at-members, weight_so_far, more_yes, more_no, member_at, held_so_far}
+use Rattle.upward_rows.proofs.Sizes.{sources_within}
+use Rattle.upward_rows.proofs.Totals.{total_row-more}
+use Rattle.upward_rows.proofs.sources.sum_sources.Goals as goal
+use Rattle.upward_rows.proofs.sources.sum_sources.Goals.{then-is_source, else-is_source}
+
+pub bounds-points-k : goal.bounds-points-k
+bounds-points-k g c = (member_at c.args.points.now (square c.args.cell) c.args.members.now c.loop-k.k-index c.requires.members c.loop-k-test.true).inside
+
+pub add_source-requires-clause-inside : goal.add_source-requires-clause-inside
+add_source-requires-clause-inside g c = (member_at c.args.points.now (square c.args.cell) c.args.members.now c.loop-k.k-index c.requires.members c.loop-k-test.true).held
+
+pub add_source-requires-clause-size : goal.add_source-requires-clause-size
+add_source-requires-clause-size g c = λ k h.
+    let points = c.args.points.now in
+    let members = c.args.members.now in
+    let i = c.loop-k.k-index in
+    let few = order_small g.row.P c.requires.order in
+    let light = weight_so_far points (square c.args.cell) members i c.requires.members in
+    let limit = c.requires.weight in
+    subst (BoxEndsWithin (2 ^ 80)) (sym (c.loop-k.invariant k h))
+    (box_wider (2 ^ 40 * sum_by weight64 (sources_at points (take i members))) (2 ^ 80) _ (omega arith)
+    (sources_within g.row.P (square c.args.cell) (sources_at points (take i members)) (omega arith) (held_so_far points (square c.args.cell) members i c.requires.members) k h))
+
+pub loop-k-preserved : goal.loop-k-preserved
+loop-k-preserved g c = λ k h.
+    let points = c.args.points.now in
+    let members = c.args.members.now in
+    let i = c.loop-k.k-index in
+    let p : Point = get_or points (get_or members i 0) no_point in
+    let f = moments_in (square c.args.cell) in
+    elim c.if-is_source.branch [
+      | then-is_source w ↦
+          ap (λ l. row_of l k) w.row-is
+          ∙ w.add_source.ensures.adds k h
+          ∙ ap (λ b. add_box b (f p k)) (c.loop-k.invariant k h)
+          ∙ sym (total_row-more f (sources_at points (take i members)) p k)
+          ∙ ap (λ l. total_row f l k) (sym (more_yes points members i p c.loop-k-test.true refl (sym c.is_source.ensures ∙ w.if-is_source.true)))
+      | else-is_source w ↦
+          ap (λ l. row_of l k) w.row-is
+          ∙ c.loop-k.invariant k h
+          ∙ ap (λ l. total_row f l k) (sym (more_no points members i p c.loop-k-test.true refl (sym c.is_source.ensures ∙ w.if-is_source.false)))
+    ]
+
+pub returns : goal.returns
+returns g c = λ k h.
+    let points = c.args.points.now in
+    let members = c.args.members.now in
+    let f = moments_in (square c.args.cell) in
+    c.loop-k.invariant k h
+    ∙ ap (λ l. total_row f (sources_at points l) k) (take_all c.loop-k.k-index members (omega arith) ∙ c.requires.members)
+    ∙ ap (λ l. total_row f l k) (sources_at-members points (square c.args.cell))

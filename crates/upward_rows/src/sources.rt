@@ -1,0 +1,43 @@
+//! The row of a leaf.
+ghost use Rattle.std.specs.Prelude.{◌≡◌, ℕ, ◌≤◌, ◌<◌, length, All};
+ghost use Rattle.exact_math.specs.Orders.{IsOrder};
+ghost use Rattle.cell_name.specs.Cell.{square};
+ghost use Rattle.near_field.specs.DirectSum.{is_source as source_kind};
+ghost use Rattle.particle_text.specs.Limits.{InRange, most_weight, total_weight};
+ghost use Rattle.quadtree.specs.Members.{members_of};
+ghost use Rattle.row_recursions.specs.Rows.{row_of};
+ghost use Rattle.tree_field.specs.Field.{leaf_row};
+
+use cell_name::Cell;
+use complex_box::{CBox, clear};
+use multipole::add_source;
+use particle_text::{Kind, Point};
+
+fn is_source(kind: Kind) -> bool
+    ensures { result ≡ source_kind kind }
+{
+    !matches!(kind, Kind::Target)
+}
+
+/// Makes the sum of the moments of the sources in a cell, whose points stand at the positions `members`.
+pub(crate) fn sum_sources<const P: usize>(
+    points: &[Point],
+    members: &[u32],
+    cell: Cell,
+    row: &mut [CBox],
+)
+    requires order { IsOrder P }
+    requires range { All InRange points.now }
+    requires weight { total_weight points.now ≤ most_weight }
+    requires members { members.now ≡ members_of points.now (square cell) }
+    requires len { length row.old ≡ P }
+    ensures { (k : ℕ) → k < P → row_of row.new k ≡ leaf_row points.now (square cell) k }
+{
+    clear(row);
+    for k in members {
+        let p = &points[*k as usize];
+        if is_source(p.kind) {
+            add_source::<P>(row, cell, p);
+        }
+    }
+}
