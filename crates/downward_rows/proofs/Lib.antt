@@ -1,5 +1,11 @@
 -- What the proofs of this crate rest on.
+pub mod EntryPlaces
 pub mod FarPoints
+pub mod FarTotals
+pub mod FieldLists
+pub mod FieldRows
+pub mod FilledRows
+pub mod FlatPlaces
 pub mod PairRows
 pub mod SameRows
 pub mod Totals

@@ -1,7 +1,9 @@
 -- What the entries of a cell of the tree add to its local row, from the rows of all cells and from the points.
 use Rattle.std.specs.Prelude.{ℕ, ◌^◌, ◌<◌, ◌≤◌, ◌≡◌, List, length, Option, Some, None, slice_get, All}
-use Rattle.exact_math.specs.Ends.{BoxEnds, zero_box}
+use Rattle.exact_math.specs.Ends.{BoxEnds, zero_box, add_box}
 use Rattle.cell_name.specs.Square.{Square}
+use Rattle.cell_lists.specs.Row.{row}
+use Rattle.cell_lists.specs.declared.entry_lists.EntryLists.{EntryLists}
 use Rattle.complex_box.specs.declared.CBox.{CBox}
 use Rattle.kernel_table.specs.Kernel.{IsKernelDistance, kernel_entry}
 use Rattle.particle_text.specs.Limits.{InRange}
@@ -9,9 +11,9 @@ use Rattle.particle_text.specs.Points.{place}
 use Rattle.particle_text.specs.declared.Point.{Point}
 use Rattle.quadtree.specs.TreeModel.{TreeModel, size, square_of, node_of}
 use Rattle.row_recursions.specs.Geometry.{sides_between}
-use Rattle.row_recursions.specs.Rows.{converted}
+use Rattle.row_recursions.specs.Rows.{converted, shifted_down}
 use Rattle.soundness.specs.Computed.{total_row, far_coefficients_in}
-use Rattle.soundness.specs.Squares.{IsFarFrom}
+use Rattle.soundness.specs.Squares.{IsFarFrom, quadrant}
 use Rattle.downward_rows.specs.FlatRows.{row_at}
 
 -- the centre of cell b is a distance of the kernel from that of cell c
@@ -47,3 +49,17 @@ pub record IsFarCell (tree : TreeModel) (points : List Point) (b : Square) (c : 
   pub in_range : c < size tree
   pub few : length (node_of tree c).members ≤ 2 ^ 16
   pub each : All (IsFarPosition points b) (node_of tree c).members
+
+-- the V and X entries of cell n: short lists, the V cells a distance of the kernel away and the points of the X cells far from it
+pub record HasFarEntries (tree : TreeModel) (lists : EntryLists) (points : List Point) (n : ℕ) : Type 0 where
+  pub has_pairs : n < length lists.v
+  pub pairs : All (IsPairAt tree n) (row lists.v n)
+  pub short : length (row lists.v n) ≤ 27
+  pub has_far : n < length lists.x
+  pub far : All (IsFarCell tree points (square_of tree n)) (row lists.x n)
+  pub few : length (row lists.x n) ≤ 2 ^ 16
+
+-- the local row of cell n from its parent's row m
+abbrev pub row_from : ℕ → TreeModel → EntryLists → List Point → List CBox → ℕ → (ℕ → BoxEnds) → ℕ → BoxEnds
+row_from P tree lists points up n m k =
+    add_box (shifted_down P m (quadrant (square_of tree n)) k) (add_box (total_row (pair_row P tree up n) (row lists.v n) k) (total_row (far_row_of tree points (square_of tree n)) (row lists.x n) k))

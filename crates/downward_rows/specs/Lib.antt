@@ -1,3 +1,4 @@
--- What the contracts cite: rows end to end in a slice, and what entries add to them.
+-- What the contracts cite: rows end to end in a slice, what entries add to them, and the rows of the field.
 pub mod Entries
 pub mod FlatRows
+pub mod LocalRows

@@ -7,4 +7,7 @@
 
 mod far;
 mod pairs;
+mod rows;
+
+pub use rows::fill_row;
 
