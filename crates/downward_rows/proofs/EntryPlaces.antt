@@ -1,29 +1,28 @@
 -- Where the cells of the entries of a cell lie.
-use Rattle.std.proofs.Common.{ℕ, ◌≡◌, ◌<◌, ◌≤◌, ◌^◌, List, [], length, get_or, not, true, refl, ◌∙◌, sym, ap, subst, arith, Some, pos}
-use Rattle.std.specs.Prelude.{All, Contains, slice_get}
+use Rattle.std.proofs.Common.{ℕ, ◌≡◌, ◌<◌, ◌≤◌, ◌^◌, List, [], length, get_or, not, true, refl, ◌∙◌, sym, ap, subst, arith}
+use Rattle.std.specs.Prelude.{All, Contains}
 use Rattle.std.specs.List.{range_with_len}
 use Rattle.std.proofs.lemmas.List.Elements.{Contains-get_or}
 use Rattle.std.proofs.lemmas.List.FromFn.{length-range_with_len}
 use Rattle.std.proofs.lemmas.List.Filters.{length-filter_both}
 use Rattle.std.proofs.lemmas.Map.Keys.{sorted_from_strictly_increasing}
 use Rattle.std.proofs.lemmas.Map.Views.{length-le_from_below}
-use Rattle.std.proofs.lemmas.Option.{slice_get_within, get_or_from_slice_get}
+use Rattle.std.proofs.lemmas.Option.{get_or_from_slice_get}
 use Rattle.cell_name.proofs.HoldsTest.{Holds-from_test}
-use Rattle.cell_name.specs.Square.{Square, Touches, Holds}
+use Rattle.cell_name.specs.Square.{Square, Touches}
 use Rattle.cell_lists.proofs.TreeNumbers.{tree_cell_at}
 use Rattle.cell_lists.specs.Entries.{IsEntry, IsVPair, IsWPair}
-use Rattle.cell_lists.specs.Lists.{IsListOf, AreLists, VListsAreShort, lists_of}
+use Rattle.cell_lists.specs.Lists.{IsListOf, lists_of}
 use Rattle.cell_lists.specs.Row.{row}
 use Rattle.cell_lists.specs.declared.entry_lists.EntryLists.{EntryLists}
 use Rattle.cert_text.specs.declared.Letter.{Letter}
-use Rattle.cert_text.specs.declared.Letter.TheVariants.{U, V, W, X}
-use Rattle.particle_text.specs.Limits.{InRange, most_points}
-use Rattle.particle_text.specs.Points.{place}
+use Rattle.cert_text.specs.declared.Letter.TheVariants.{V, X}
+use Rattle.particle_text.specs.Limits.{InRange}
 use Rattle.particle_text.specs.declared.Point.{Point}
 use Rattle.quadtree.proofs.Distinct.{Contains-filter}
 use Rattle.quadtree.proofs.Limits.{in_grid}
 use Rattle.quadtree.specs.Members.{holds_position, holds_point, members_of}
-use Rattle.quadtree.specs.TreeModel.{TreeModel, size, square_of, node_of, IsTreeOf}
+use Rattle.quadtree.specs.TreeModel.{TreeModel, size, square_of, node_of}
 use Rattle.row_recursions.proofs.Geometry.{pairs_of_cells, far_places}
 use Rattle.tree_field.proofs.Members.{range_below}
 use Rattle.downward_rows.specs.Entries.{IsPairAt, IsFarPosition, IsFarCell, HasFarEntries}

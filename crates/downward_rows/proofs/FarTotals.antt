@@ -1,5 +1,5 @@
 -- What the points of a cell add, by their positions, is what its sources add.
-use Rattle.std.proofs.Common.{ℕ, zero, suc, ◌+◌, ◌<◌, ◌≡◌, List, [], ◌∷◌, length, Bool, true, false, cond, ◌&&◌, not, filter, Option, Some, None, refl, sym, ap, ◌∙◌, subst, arith, ◌≤ℤ◌, pos}
+use Rattle.std.proofs.Common.{ℕ, suc, ◌+◌, ◌<◌, ◌≡◌, List, [], ◌∷◌, length, Bool, true, false, cond, filter, Option, Some, refl, sym, ap, ◌∙◌, subst, arith}
 use Rattle.std.specs.Prelude.{fold, slice_get}
 use Rattle.std.specs.List.{range_with_len}
 use Rattle.std.proofs.lemmas.Bool.{false≢true}

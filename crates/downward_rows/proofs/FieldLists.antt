@@ -1,5 +1,5 @@
 -- The lists of the field are those of the tree, by the numbers of its cells.
-use Rattle.std.proofs.Common.{ℕ, ◌≡◌, ◌<◌, List, length, map, get_or, ◌∙◌, sym, ap, subst, arith}
+use Rattle.std.proofs.Common.{ℕ, ◌≡◌, ◌<◌, List, map, sym, subst}
 use Rattle.std.specs.Prelude.{AllPairs, Contains}
 use Rattle.std.proofs.lemmas.List.Elements.{All-contains}
 use Rattle.std.proofs.lemmas.List.Kept.{AllPairs-from_increasing}
@@ -15,10 +15,10 @@ use Rattle.cert_text.specs.declared.Letter.{Letter}
 use Rattle.cert_text.specs.declared.Letter.TheVariants.{U, V, W, X}
 use Rattle.particle_text.specs.declared.Point.{Point}
 use Rattle.quadtree.specs.Tree.{AreInGrid, IsTreeCell}
-use Rattle.quadtree.specs.TreeModel.{TreeModel, size, square_of, IsTreeOf}
+use Rattle.quadtree.specs.TreeModel.{TreeModel, size, square_of}
 use Rattle.tree_field.proofs.Ascending.{same_list}
 use Rattle.tree_field.proofs.Members.{Contains-into_map, image_of, AllPairs-map, AllPairs-both}
-use Rattle.tree_field.specs.Lists.{TreeLists, AreTreeLists, AreEntriesOf}
+use Rattle.tree_field.specs.Lists.{TreeLists, AreEntriesOf}
 use Rattle.downward_rows.specs.LocalRows.{IsFieldOf}
 
 second_in_tree : (grid : ℕ) (points : List Point) (cap : ℕ) (letter : Letter) (b c : Square) → IsPair grid points cap letter b c → IsTreeCell grid points cap c

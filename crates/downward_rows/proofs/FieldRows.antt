@@ -1,5 +1,5 @@
 -- The row that is filled is the local row of the field.
-use Rattle.std.proofs.Common.{ℕ, ◌≡◌, ◌+◌, ◌-◌, ◌*◌, ◌<◌, ◌≤◌, List, length, map, filter, get_or, Bool, true, false, ◌&&◌, not, Option, Some, None, refl, sym, ap, ap₂, ◌∙◌, subst, arith, pos}
+use Rattle.std.proofs.Common.{ℕ, ◌≡◌, ◌-◌, ◌*◌, ◌<◌, List, length, get_or, Bool, true, false, ◌&&◌, Some, refl, sym, ap, ap₂, ◌∙◌, subst, arith}
 use Rattle.std.specs.Prelude.{All, slice_get}
 use Rattle.std.specs.List.{range_with_len}
 use Rattle.std.proofs.lemmas.Bool.{false≢true}
@@ -23,22 +23,22 @@ use Rattle.particle_text.specs.Points.{place, pole, dipole}
 use Rattle.quadtree.proofs.Distinct.{Contains-into_filter}
 use Rattle.quadtree.specs.Members.{holds_point, holds_position, members_of}
 use Rattle.quadtree.specs.Tree.{AreInGrid}
-use Rattle.quadtree.specs.TreeModel.{TreeModel, size, square_of, node_of}
+use Rattle.quadtree.specs.TreeModel.{TreeModel, size, square_of}
 use Rattle.row_recursions.proofs.RowSizes.{power_positive}
 use Rattle.row_recursions.specs.Geometry.{sides_between}
-use Rattle.row_recursions.specs.Rows.{converted, shifted_down, far_source}
+use Rattle.row_recursions.specs.Rows.{converted, far_source}
 use Rattle.soundness.specs.Computed.{total_row, total_box, far_coefficients_in}
-use Rattle.soundness.specs.Squares.{offset, quadrant, IsFarFrom}
+use Rattle.soundness.specs.Squares.{offset, quadrant}
 use Rattle.tree_field.proofs.LocalRows.{local_row-below}
 use Rattle.tree_field.proofs.Members.{Contains-range}
 use Rattle.tree_field.proofs.Sums.{total_box-map, total_box-same}
 use Rattle.tree_field.specs.Field.{is_source_in, sources_in, multipole_row, converted_rows, far_rows, local_row}
 use Rattle.tree_field.specs.Lists.{TreeLists}
 use Rattle.truncation.specs.Places.{GaussianBeyond}
-use Rattle.downward_rows.specs.Entries.{pair_row, far_of, far_row_at, far_row_of, row_from, IsFarCell, IsFarPosition, HasFarEntries, IsPairAt}
+use Rattle.downward_rows.specs.Entries.{pair_row, far_of, far_row_at, far_row_of, row_from, IsFarCell, IsFarPosition, HasFarEntries}
 use Rattle.downward_rows.specs.FlatRows.{row_at, AreSameRows}
 use Rattle.downward_rows.specs.LocalRows.{IsFieldOf, AreMultipoleRows}
-use Rattle.downward_rows.proofs.FarTotals.{Agrees, positions_total}
+use Rattle.downward_rows.proofs.FarTotals.{positions_total}
 use Rattle.downward_rows.proofs.FieldLists.{entries_by_number}
 use Rattle.downward_rows.proofs.SameRows.{converted_same, shifted_down_same}
 

@@ -1,5 +1,5 @@
 -- The rows of all cells of a tree, as those of the field.
-use Rattle.std.specs.Prelude.{ℕ, ◌+◌, ◌*◌, ◌<◌, ◌≤◌, ◌≡◌, ◌&&◌, cond, nat_lt, List, length, All}
+use Rattle.std.specs.Prelude.{ℕ, ◌+◌, ◌<◌, ◌≤◌, ◌&&◌, cond, nat_lt, List, length, All}
 use Rattle.exact_math.specs.Ends.{zero_box}
 use Rattle.cell_lists.specs.Lists.{AreLists, VListsAreShort}
 use Rattle.cell_lists.specs.Row.{row}

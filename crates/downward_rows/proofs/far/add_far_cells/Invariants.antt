@@ -1,4 +1,4 @@
-use Rattle.std.proofs.Common.{◌≡◌, ℕ, ◌+◌, ◌*◌, ◌^◌, length, take}
+use Rattle.std.proofs.Common.{◌≡◌, ◌+◌, ◌*◌, ◌^◌, length, take}
 use Rattle.cell_name.specs.Cell.{square}
 use Rattle.row_recursions.specs.Rows.{row_of, RowsAdd}
 use Rattle.row_recursions.specs.Sizes.{RowWithin}

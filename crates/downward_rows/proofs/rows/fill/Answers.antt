@@ -1,4 +1,4 @@
-use Rattle.std.proofs.Common.{◌≡◌, ◌≤◌, ◌*◌, ◌+◌, ◌^◌, ap, ◌∙◌, arith, lit<}
+use Rattle.std.proofs.Common.{◌^◌, ap, ◌∙◌, arith, lit<}
 use Rattle.exact_math.specs.Ends.{add_box}
 use Rattle.cell_lists.proofs.CellNumbers.{level_positive, parent_before}
 use Rattle.cell_lists.specs.Row.{row}
@@ -8,7 +8,7 @@ use Rattle.row_recursions.specs.Rows.{row_of}
 use Rattle.soundness.specs.Computed.{total_row}
 use Rattle.soundness.specs.Squares.{quadrant}
 use Rattle.downward_rows.specs.Entries.{pair_row, far_row_of}
-use Rattle.downward_rows.specs.FlatRows.{row_at, AreSameRows}
+use Rattle.downward_rows.specs.FlatRows.{row_at}
 use Rattle.downward_rows.proofs.EntryPlaces.{far_entries}
 use Rattle.downward_rows.proofs.FilledRows.{some_tree}
 use Rattle.downward_rows.proofs.FlatPlaces.{room}

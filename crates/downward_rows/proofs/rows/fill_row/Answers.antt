@@ -1,7 +1,6 @@
-use Rattle.std.proofs.Common.{◌≡◌, ◌*◌, ◌^◌, ◌++◌, length, ap, ◌∙◌, arith, lit<}
+use Rattle.std.proofs.Common.{◌^◌, ◌++◌, ap, ◌∙◌, lit<}
 use Rattle.cell_lists.proofs.CellNumbers.{parent_before}
 use Rattle.quadtree.specs.TreeModel.{node_of}
-use Rattle.row_recursions.specs.Rows.{row_of}
 use Rattle.downward_rows.specs.FlatRows.{row_at}
 use Rattle.downward_rows.proofs.FilledRows.{some_tree, others_stay, above_stays, rows_filled}
 use Rattle.downward_rows.proofs.SameRows.{within_same}
