@@ -3,9 +3,11 @@ pub mod EntryPlaces
 pub mod FarPoints
 pub mod FarTotals
 pub mod FieldLists
+pub mod FieldRadii
 pub mod FieldRows
 pub mod FilledRows
 pub mod FlatPlaces
+pub mod Losses
 pub mod PairRows
 pub mod SameRows
 pub mod Totals

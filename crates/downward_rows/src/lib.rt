@@ -7,7 +7,9 @@
 
 mod far;
 mod pairs;
+mod radius;
 mod rows;
 
+pub use radius::local_radius;
 pub use rows::fill_row;
 
