@@ -11,3 +11,4 @@ pub mod Losses
 pub mod PairRows
 pub mod SameRows
 pub mod Totals
+pub mod ZeroRows

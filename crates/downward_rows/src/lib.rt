@@ -9,6 +9,8 @@ mod far;
 mod pairs;
 mod radius;
 mod rows;
+#[cfg(test)]
+mod tests;
 
 pub use radius::local_radius;
 pub use rows::fill_row;
