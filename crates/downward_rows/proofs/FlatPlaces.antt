@@ -20,6 +20,7 @@ module _ (P n : ℕ) (above : List CBox) (length_is : length above ≡ n * P) wh
   row_here own below e k l =
       ap box_ends (get_or-append_right above (own ++ below) (n * P) (n * P + k) zero_cbox length_is (omega arith)
       ∙ ap (λ i. get_or (own ++ below) i zero_cbox) (omega arith) ∙ get_or_append_left own below zero_cbox k (omega arith))
+
   row_after : (own below : List CBox) (m : ℕ) → length own ≡ P → n < m → (k : ℕ) → row_at P (above ++ (own ++ below)) m k ≡ row_of below (m * P + k - n * P - P)
   row_after own below m e h k =
       let r = room P n m h in

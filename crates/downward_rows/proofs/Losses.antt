@@ -1,5 +1,5 @@
 -- What entries can lose, one more at a time, and that it stays small.
-use Rattle.std.proofs.Common.{ℕ, ◌+◌, ◌-◌, ◌*◌, ◌/◌, ◌^◌, ◌<◌, ◌≤◌, ◌≡◌, List, length, get_or, take, ap, ap₂, ◌∙◌, arith, ℤ, pos, ◌+ℤ◌, SFits, w64, to_z, of_z}
+use Rattle.std.proofs.Common.{ℕ, ◌+◌, ◌*◌, ◌^◌, ◌<◌, ◌≤◌, ◌≡◌, List, length, get_or, take, ap, ap₂, ◌∙◌, arith, ℤ, pos, ◌+ℤ◌, SFits, w64, to_z, of_z}
 use Rattle.std.specs.Prelude.{sum_by, unsigned_abs, ◌≤ℤ◌}
 use Rattle.std.proofs.Math.Nat.{mul-le-mul_right, div-le_of_le-mul}
 use Rattle.std.proofs.Math.Seq.{take-length}

@@ -14,4 +14,3 @@ mod tests;
 
 pub use radius::local_radius;
 pub use rows::fill_row;
-

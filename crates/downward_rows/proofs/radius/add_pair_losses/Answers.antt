@@ -1,4 +1,4 @@
-use Rattle.std.proofs.Common.{◌≡◌, ◌+◌, ◌*◌, ◌^◌, ℤ, pos, get_or, ap, ◌∙◌, arith, w64, to_z, of_z}
+use Rattle.std.proofs.Common.{◌+◌, ◌*◌, ℤ, pos, get_or, ap, ◌∙◌, arith, w64, to_z, of_z}
 use Rattle.std.specs.Prelude.{sum_by, unsigned_abs}
 use Rattle.truncation.proofs.Tails.{pair_tail_le}
 use Rattle.truncation.specs.Tails.{ceiling, pair_tail}

@@ -1,12 +1,10 @@
-use Rattle.std.proofs.Common.{ℕ, ◌≡◌, ◌<◌, ◌≤◌, ◌+◌, List, length, ap, ◌∙◌, sym, subst, arith, pos, ℤ, w64, to_z, of_z}
+use Rattle.std.proofs.Common.{ℕ, ◌≡◌, ◌<◌, ◌≤◌, List, length, ap, ◌∙◌, sym, subst, arith, pos, w64, to_z, of_z}
 use Rattle.std.specs.Prelude.{All}
-use Rattle.cell_name.specs.Cell.{square}
 use Rattle.cell_name.specs.Square.{side}
 use Rattle.cell_lists.proofs.CellNumbers.{first_level, level_positive, parent_before}
 use Rattle.cell_lists.proofs.TreeNumbers.{read_at}
-use Rattle.cell_lists.specs.Row.{row}
 use Rattle.cert_text.specs.declared.Letter.TheVariants.{V, X}
-use Rattle.quadtree.specs.TreeModel.{square_of, node_of}
+use Rattle.quadtree.specs.TreeModel.{square_of}
 use Rattle.tree_field.proofs.LocalRows.{local_radius-root}
 use Rattle.tree_field.specs.Field.{local_radius}
 use Rattle.downward_rows.proofs.FieldRadii.{listed, numbers, few_entries, radius_read}
@@ -49,8 +47,8 @@ returns-clause-radius c = λ points cap field inside is w p.
     let level = level_positive c.args.tree.now c.cells-cells.ensures.tree c.args.n lo c.requires.number in
     let up = parent_before c.args.tree.now c.cells-cells.ensures.tree c.args.n lo c.requires.number in
     let s : to_z w64 (of_z w64 c.side-side.result) ≡ pos (side (square_of c.args.tree.now c.args.n)) =
-        side_read c.side-side.result c.side-side.ensures.at_least c.side-side.ensures.at_most ∙ c.side-side.ensures.value
-        ∙ ap (λ q. pos (side q)) (read_at c.args.tree.now c.cells-cells.result.now c.args.n c.index-cells-n.result c.cells-cells.ensures.all c.requires.number c.index-cells-n.is) in
+    side_read c.side-side.result c.side-side.ensures.at_least c.side-side.ensures.at_most ∙ c.side-side.ensures.value
+    ∙ ap (λ q. pos (side q)) (read_at c.args.tree.now c.cells-cells.result.now c.args.n c.index-cells-n.result c.cells-cells.ensures.all c.requires.number c.index-cells-n.is) in
     sum_read c.args.parent c.radius.result c.add_single_losses.new.ledger.radius c.requires.low c.requires.high c.radius.ensures c.add_single_losses.new.ledger.most
     ∙ radius_read c.args.order c.args.tree.now c.args.lists.now points cap field c.args.weights.now c.args.n inside c.cells-cells.ensures.tree c.requires.lists is c.requires.number w level
     (to_z w64 (of_z w64 c.side-side.result)) (to_z w64 (of_z w64 c.side-side.result)) c.args.parent c.v_list.result.now c.x_list.result.now c.new-ledger.result.radius c.add_pair_losses.new.ledger.radius c.add_single_losses.new.ledger.radius

@@ -27,12 +27,35 @@ row_of_cell-parent-requires g c =
 pub fill_below-requires : goal.fill_below-requires
 fill_below-requires g c =
     let some = some_tree c.args.tree.now c.args.lists.now c.args.points.now c.requires.tree in
-    let level = level_positive c.args.tree.now some c.args.n c.if-n-gt0.true c.requires.number in
-    (lit< tt, (lit< tt, (c.requires.order, (c.requires.number, (omega (arith, level), (far_entries c.args.tree.now c.args.lists.now c.args.points.now c.requires.tree c.args.n c.requires.number, (c.requires.rows, (c.requires.multipoles, (
-      within_same g.row.P (2 ^ 90) (row_of c.row_of_cell-parent.result.cells.now) (row_at g.row.P c.args.above.now (node_of c.args.tree.now c.args.n).parent)
-      (λ k h. c.row_of_cell-parent.ensures k h ∙ ap (λ p. row_at g.row.P c.args.above.now p k) c.parent.ensures) (c.requires.parent c.if-n-gt0.true),
-      (c.requires.len, c.requires.count),
-    )))))))))
+    let level = level_positive c.args.tree.now some c.args.n c.if-n-gt0.true c.requires.number in (
+      lit< tt,
+      (
+        lit< tt,
+        (
+          c.requires.order,
+          (
+            c.requires.number,
+            (
+              omega (arith, level),
+              (
+                far_entries c.args.tree.now c.args.lists.now c.args.points.now c.requires.tree c.args.n c.requires.number,
+                (
+                  c.requires.rows,
+                  (
+                    c.requires.multipoles,
+                    (
+                      within_same g.row.P (2 ^ 90) (row_of c.row_of_cell-parent.result.cells.now) (row_at g.row.P c.args.above.now (node_of c.args.tree.now c.args.n).parent)
+                          (λ k h. c.row_of_cell-parent.ensures k h ∙ ap (λ p. row_at g.row.P c.args.above.now p k) c.parent.ensures) (c.requires.parent c.if-n-gt0.true),
+                      (c.requires.len, c.requires.count),
+                    ),
+                  ),
+                ),
+              ),
+            ),
+          ),
+        ),
+      ),
+    )
 
 pub returns-then-has_target-clause-row : goal.returns-then-has_target-clause-row
 returns-then-has_target-clause-row g c = λ lo t k h.

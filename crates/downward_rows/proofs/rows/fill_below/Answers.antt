@@ -19,12 +19,35 @@ pub add_pairs-requires : goal.add_pairs-requires
 add_pairs-requires g c =
     let P : List ℕ → Type 0 = λ l. All (IsPairAt c.args.tree.now c.args.n) l in
     let pairs : All (IsPairAt c.args.tree.now c.args.n) c.v_list.result.now = subst P (sym c.v_list.ensures) c.requires.entries.pairs in
-    let short : length c.v_list.result.now ≡ length (row c.args.lists.now.v c.args.n) = ap (λ l. length l) c.v_list.ensures in
-    (lit< tt, (c.requires.order, (c.requires.number, (pairs, (omega (arith, c.requires.entries.short), (c.requires.rows, (λ k d h. c.requires.multipoles _ (pairs k d h).in_range, (c.shift_down.ensures.len, (
-      row_wider g.row.P (2 ^ 90 + 0) (2 ^ 90) (row_of c.shift_down.new.into) (omega arith)
-      (c.shift_down.ensures.size (2 ^ 90) 0 c.requires.parent (zero_row_within g.row.P c.clear.new.cells (c.clear.auto.cells ∙ c.requires.len) c.clear.ensures)),
-      omega arith,
-    )))))))))
+    let short : length c.v_list.result.now ≡ length (row c.args.lists.now.v c.args.n) = ap (λ l. length l) c.v_list.ensures in (
+      lit< tt,
+      (
+        c.requires.order,
+        (
+          c.requires.number,
+          (
+            pairs,
+            (
+              omega (arith, c.requires.entries.short),
+              (
+                c.requires.rows,
+                (
+                  λ k d h. c.requires.multipoles _ (pairs k d h).in_range,
+                  (
+                    c.shift_down.ensures.len,
+                    (
+                      row_wider g.row.P (2 ^ 90 + 0) (2 ^ 90) (row_of c.shift_down.new.into) (omega arith)
+                          (c.shift_down.ensures.size (2 ^ 90) 0 c.requires.parent (zero_row_within g.row.P c.clear.new.cells (c.clear.auto.cells ∙ c.requires.len) c.clear.ensures)),
+                      omega arith,
+                    ),
+                  ),
+                ),
+              ),
+            ),
+          ),
+        ),
+      ),
+    )
 
 pub returns-clause-row : goal.returns-clause-row
 returns-clause-row g c = λ k h.
