@@ -1,0 +1,92 @@
+-- Where the cells of the entries of a cell lie.
+use Rattle.std.proofs.Common.{ℕ, ◌≡◌, ◌<◌, ◌≤◌, ◌^◌, List, [], length, get_or, not, true, refl, ◌∙◌, sym, ap, subst, arith}
+use Rattle.std.specs.Prelude.{All, Contains}
+use Rattle.std.specs.List.{range_with_len}
+use Rattle.std.proofs.lemmas.List.Elements.{Contains-get_or}
+use Rattle.std.proofs.lemmas.List.FromFn.{length-range_with_len}
+use Rattle.std.proofs.lemmas.List.Filters.{length-filter_both}
+use Rattle.std.proofs.lemmas.Map.Keys.{sorted_from_strictly_increasing}
+use Rattle.std.proofs.lemmas.Map.Views.{length-le_from_below}
+use Rattle.std.proofs.lemmas.Option.{get_or_from_slice_get}
+use Rattle.cell_name.proofs.HoldsTest.{Holds-from_test}
+use Rattle.cell_name.specs.Square.{Square, Touches}
+use Rattle.cell_lists.proofs.TreeNumbers.{tree_cell_at}
+use Rattle.cell_lists.specs.Entries.{IsEntry, IsVPair, IsWPair}
+use Rattle.cell_lists.specs.Lists.{IsListOf, lists_of}
+use Rattle.cell_lists.specs.Row.{row}
+use Rattle.cell_lists.specs.declared.entry_lists.EntryLists.{EntryLists}
+use Rattle.cert_text.specs.declared.Letter.{Letter}
+use Rattle.cert_text.specs.declared.Letter.TheVariants.{V, X}
+use Rattle.particle_text.specs.Limits.{InRange}
+use Rattle.particle_text.specs.declared.Point.{Point}
+use Rattle.quadtree.proofs.Distinct.{Contains-filter}
+use Rattle.quadtree.proofs.Limits.{in_grid}
+use Rattle.quadtree.specs.Members.{holds_position, holds_point, members_of}
+use Rattle.quadtree.specs.TreeModel.{TreeModel, size, square_of, node_of}
+use Rattle.row_recursions.proofs.Geometry.{pairs_of_cells, far_places}
+use Rattle.tree_field.proofs.Members.{range_below}
+use Rattle.downward_rows.specs.Entries.{IsPairAt, IsFarPosition, IsFarCell, HasFarEntries}
+use Rattle.downward_rows.specs.LocalRows.{IsTreeWithLists}
+
+other_way : (b c : Square) → Touches b c → Touches c b
+other_way b c h = record { west = h.east; east = h.west; south = h.north; north = h.south }
+
+module _ (tree : TreeModel) (lists : EntryLists) (points : List Point) (has : IsTreeWithLists tree lists points) (n : ℕ) (lt : n < size tree) where
+  the_list : (letter : Letter) → IsListOf tree points has.cap letter n (row (lists_of lists letter) n)
+  the_list letter = has.lists_are.each points has.cap (in_grid points has.range) has.is_tree letter n lt
+
+  grid_is : (c : ℕ) → c < size tree → (square_of tree c).grid ≡ 16
+  grid_is c h = (tree_cell_at tree points has.cap c has.is_tree h).of_grid
+
+  level_is : (c : ℕ) → c < size tree → (square_of tree c).level ≤ 16
+  level_is c h = (tree_cell_at tree points has.cap c has.is_tree h).level_in_grid
+
+  entry_at : (letter : Letter) (k d : ℕ) → k < length (row (lists_of lists letter) n) → IsEntry 16 points has.cap letter (square_of tree n) (square_of tree (get_or (row (lists_of lists letter) n) k d))
+  entry_at letter k d h =
+      let is = the_list letter in
+      (is.exact (get_or (row (lists_of lists letter) n) k d) (is.numbers k d h)).0 (Contains-get_or (row (lists_of lists letter) n) k d h)
+
+  pair_at : (c : ℕ) → c < size tree → IsVPair 16 points has.cap (square_of tree n) (square_of tree c) → IsPairAt tree n c
+  pair_at c h e = record {
+    in_range = h;
+    distance = (pairs_of_cells (square_of tree n) (square_of tree c) (grid_is n lt ∙ sym (grid_is c h)) e.come_apart.same_level e.come_apart.apart e.come_apart.parents_touch).kernel;
+  }
+
+  far_position : (c k : ℕ) → c < size tree → IsWPair 16 points has.cap (square_of tree c) (square_of tree n) → Contains (members_of points (square_of tree c)) k → IsFarPosition points (square_of tree n) k
+  far_position c k h e m = record {
+    inside = inside;
+    range = λ p is. subst InRange (get_or_from_slice_get points k p p is) (has.range k p inside);
+    far = λ p is. far_places (square_of tree c) (square_of tree n) p.x p.y (grid_is c h ∙ sym (grid_is n lt)) (omega (arith, e.comes_apart.deeper)) (omega (arith, grid_is n lt, level_is n lt))
+        (λ t. e.comes_apart.apart (other_way (square_of tree c) (square_of tree n) t))
+        (Holds-from_test (square_of tree c) p.x p.y (sym (ap (holds_point (square_of tree c)) is) ∙ held));
+  }
+    where
+      held : holds_position (square_of tree c) points k ≡ true
+      held = (Contains-filter (λ j. holds_position (square_of tree c) points j) (range_with_len 0 (length points)) k m).1
+
+      inside : k < length points
+      inside = range_below (length points) k (Contains-filter (λ j. holds_position (square_of tree c) points j) (range_with_len 0 (length points)) k m).0
+
+  few_members : (c : ℕ) → c < size tree → length (node_of tree c).members ≤ 2 ^ 16
+  few_members c h =
+      let e : length (node_of tree c).members ≡ length (members_of points (square_of tree c)) = ap (λ l. length l) (has.is_tree.nodes_are c h).members_are in
+      let le = length-filter_both (λ j. holds_position (square_of tree c) points j) (λ j. not (holds_position (square_of tree c) points j)) (λ j. refl) (range_with_len 0 (length points)) in
+      omega (arith, e, le, length-range_with_len 0 (length points), has.count)
+
+  far_cell : (c : ℕ) → c < size tree → IsWPair 16 points has.cap (square_of tree c) (square_of tree n) → IsFarCell tree points (square_of tree n) c
+  far_cell c h e = record {
+    in_range = h;
+    few = few_members c h;
+    each = let P : List ℕ → Type 0 = λ l. All (IsFarPosition points (square_of tree n)) l in
+        subst P (sym (has.is_tree.nodes_are c h).members_are) (λ k d inside. far_position c (get_or (members_of points (square_of tree c)) k d) h e (Contains-get_or (members_of points (square_of tree c)) k d inside));
+  }
+
+  pub far_entries : HasFarEntries tree lists points n
+  far_entries = record {
+    has_pairs = omega (arith, lt, has.lists_are.as_many V);
+    pairs = λ k d h. pair_at (get_or (row lists.v n) k d) ((the_list V).numbers k d h) (entry_at V k d h).pair;
+    short = has.short n [] (omega (arith, lt, has.lists_are.as_many V));
+    has_far = omega (arith, lt, has.lists_are.as_many X);
+    far = λ k d h. far_cell (get_or (row lists.x n) k d) ((the_list X).numbers k d h) (entry_at X k d h).pair;
+    few = let le = length-le_from_below (size tree) (row lists.x n) (sorted_from_strictly_increasing (row lists.x n) (the_list X).ascending) (the_list X).numbers in omega (arith, le, has.is_tree.few);
+  }

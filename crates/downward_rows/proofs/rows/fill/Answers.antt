@@ -1,0 +1,65 @@
+use Rattle.std.proofs.Common.{◌^◌, ap, ◌∙◌, arith, lit<}
+use Rattle.exact_math.specs.Ends.{add_box}
+use Rattle.cell_lists.proofs.CellNumbers.{level_positive, parent_before}
+use Rattle.cell_lists.specs.Row.{row}
+use Rattle.quadtree.specs.TreeModel.{square_of, node_of}
+use Rattle.row_recursions.proofs.RowSizes.{order_small}
+use Rattle.row_recursions.specs.Rows.{row_of}
+use Rattle.soundness.specs.Computed.{total_row}
+use Rattle.soundness.specs.Squares.{quadrant}
+use Rattle.downward_rows.specs.Entries.{pair_row, far_row_of}
+use Rattle.downward_rows.specs.FlatRows.{row_at}
+use Rattle.downward_rows.proofs.EntryPlaces.{far_entries}
+use Rattle.downward_rows.proofs.FilledRows.{some_tree}
+use Rattle.downward_rows.proofs.FlatPlaces.{room}
+use Rattle.downward_rows.proofs.SameRows.{within_same, shifted_down_same}
+use Rattle.downward_rows.proofs.rows.fill.Goals as goal
+
+pub row_of_cell-parent-requires : goal.row_of_cell-parent-requires
+row_of_cell-parent-requires g c =
+    let some = some_tree c.args.tree.now c.args.lists.now c.args.points.now c.requires.tree in
+    let p = parent_before c.args.tree.now some c.args.n c.if-n-gt0.true c.requires.number in
+    let small = order_small g.row.P c.requires.order in
+    let few = c.requires.tree.is_tree.few in
+    let r = room g.row.P c.parent.result c.args.n (omega (arith, c.parent.ensures, p.before)) in
+    (lit< tt, (omega (arith, small), (omega (arith, c.parent.ensures, p.before, few, c.requires.number), omega (arith, r, c.requires.above))))
+
+pub fill_below-requires : goal.fill_below-requires
+fill_below-requires g c =
+    let some = some_tree c.args.tree.now c.args.lists.now c.args.points.now c.requires.tree in
+    let level = level_positive c.args.tree.now some c.args.n c.if-n-gt0.true c.requires.number in (
+      lit< tt,
+      (
+        lit< tt,
+        (
+          c.requires.order,
+          (
+            c.requires.number,
+            (
+              omega (arith, level),
+              (
+                far_entries c.args.tree.now c.args.lists.now c.args.points.now c.requires.tree c.args.n c.requires.number,
+                (
+                  c.requires.rows,
+                  (
+                    c.requires.multipoles,
+                    (
+                      within_same g.row.P (2 ^ 90) (row_of c.row_of_cell-parent.result.cells.now) (row_at g.row.P c.args.above.now (node_of c.args.tree.now c.args.n).parent)
+                          (λ k h. c.row_of_cell-parent.ensures k h ∙ ap (λ p. row_at g.row.P c.args.above.now p k) c.parent.ensures) (c.requires.parent c.if-n-gt0.true),
+                      (c.requires.len, c.requires.count),
+                    ),
+                  ),
+                ),
+              ),
+            ),
+          ),
+        ),
+      ),
+    )
+
+pub returns-then-has_target-clause-row : goal.returns-then-has_target-clause-row
+returns-then-has_target-clause-row g c = λ lo t k h.
+    c.fill_below.ensures.row k h
+    ∙ ap (λ b. add_box b (add_box (total_row (pair_row g.row.P c.args.tree.now c.args.up.now c.args.n) (row c.args.lists.now.v c.args.n) k) (total_row (far_row_of c.args.tree.now c.args.points.now (square_of c.args.tree.now c.args.n)) (row c.args.lists.now.x c.args.n) k)))
+    (shifted_down_same g.row.P (row_of c.row_of_cell-parent.result.cells.now) (row_at g.row.P c.args.above.now (node_of c.args.tree.now c.args.n).parent) (quadrant (square_of c.args.tree.now c.args.n))
+    (λ j l. c.row_of_cell-parent.ensures j l ∙ ap (λ p. row_at g.row.P c.args.above.now p j) c.parent.ensures) k)

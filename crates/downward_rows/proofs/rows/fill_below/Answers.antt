@@ -1,0 +1,63 @@
+use Rattle.std.proofs.Common.{ℕ, ◌≡◌, ◌+◌, ◌^◌, List, length, ap, ap₂, ◌∙◌, subst, sym, arith, lit<}
+use Rattle.std.specs.Prelude.{All}
+use Rattle.exact_math.specs.Ends.{add_box}
+use Rattle.cell_name.specs.Cell.{square}
+use Rattle.cell_lists.proofs.TreeNumbers.{read_at}
+use Rattle.cell_lists.specs.Row.{row}
+use Rattle.local_shift.proofs.Sums.{nothing_at}
+use Rattle.quadtree.specs.TreeModel.{square_of}
+use Rattle.row_recursions.specs.Cells.{quadrant_of}
+use Rattle.row_recursions.specs.Rows.{row_of, shifted_down}
+use Rattle.soundness.specs.Computed.{total_row}
+use Rattle.soundness.specs.Squares.{quadrant}
+use Rattle.downward_rows.specs.Entries.{IsPairAt, pair_row, far_row_of}
+use Rattle.downward_rows.proofs.FilledRows.{zero_row_within, three_added, quadrant_read}
+use Rattle.downward_rows.proofs.Totals.{row_wider}
+use Rattle.downward_rows.proofs.rows.fill_below.Goals as goal
+
+pub add_pairs-requires : goal.add_pairs-requires
+add_pairs-requires g c =
+    let P : List ℕ → Type 0 = λ l. All (IsPairAt c.args.tree.now c.args.n) l in
+    let pairs : All (IsPairAt c.args.tree.now c.args.n) c.v_list.result.now = subst P (sym c.v_list.ensures) c.requires.entries.pairs in
+    let short : length c.v_list.result.now ≡ length (row c.args.lists.now.v c.args.n) = ap (λ l. length l) c.v_list.ensures in (
+      lit< tt,
+      (
+        c.requires.order,
+        (
+          c.requires.number,
+          (
+            pairs,
+            (
+              omega (arith, c.requires.entries.short),
+              (
+                c.requires.rows,
+                (
+                  λ k d h. c.requires.multipoles _ (pairs k d h).in_range,
+                  (
+                    c.shift_down.ensures.len,
+                    (
+                      row_wider g.row.P (2 ^ 90 + 0) (2 ^ 90) (row_of c.shift_down.new.into) (omega arith)
+                          (c.shift_down.ensures.size (2 ^ 90) 0 c.requires.parent (zero_row_within g.row.P c.clear.new.cells (c.clear.auto.cells ∙ c.requires.len) c.clear.ensures)),
+                      omega arith,
+                    ),
+                  ),
+                ),
+              ),
+            ),
+          ),
+        ),
+      ),
+    )
+
+pub returns-clause-row : goal.returns-clause-row
+returns-clause-row g c = λ k h.
+    let e : square c.index-cells-n.result ≡ square_of c.args.tree.now c.args.n = read_at c.args.tree.now c.cells-cells.result.now c.args.n c.index-cells-n.result c.cells-cells.ensures.all c.requires.number c.index-cells-n.is in
+    three_added g.row.P (row_of c.clear.new.cells) (row_of c.shift_down.new.into) (row_of c.add_pairs.new.into) (row_of c.add_far_cells.new.into)
+    (shifted_down g.row.P (row_of c.args.parent.cells.now) (quadrant_of c.quadrant.result))
+    (total_row (pair_row g.row.P c.args.tree.now c.args.up.now c.args.n) c.v_list.result.now)
+    (total_row (far_row_of c.args.tree.now c.args.points.now (square c.index-cells-n.result)) c.x_list.result.now)
+    (nothing_at g.row.P c.clear.new.cells (c.clear.auto.cells ∙ c.requires.len) c.clear.ensures) c.shift_down.ensures.adds c.add_pairs.ensures.adds c.add_far_cells.ensures.adds k h
+    ∙ ap₂ add_box
+    (ap (λ q. shifted_down g.row.P (row_of c.args.parent.cells.now) q k) (quadrant_read c.quadrant.result (square c.index-cells-n.result) c.quadrant.ensures.right c.quadrant.ensures.top ∙ ap quadrant e))
+    (ap₂ add_box (ap (λ l. total_row (pair_row g.row.P c.args.tree.now c.args.up.now c.args.n) l k) c.v_list.ensures)
+    (ap₂ (λ b l. total_row (far_row_of c.args.tree.now c.args.points.now b) l k) e c.x_list.ensures))

@@ -1,0 +1,66 @@
+//! The X entries of a cell: the sources of cells that are far from it.
+ghost use Rattle.std.specs.Prelude.{◌≡◌, ℕ, ◌+◌, ◌*◌, ◌^◌, ◌≤◌, ◌<◌, length, All};
+ghost use Rattle.exact_math.specs.Orders.{IsOrder};
+ghost use Rattle.cell_name.specs.Cell.{square};
+ghost use Rattle.quadtree.specs.TreeModel.{size, square_of, node_of};
+ghost use Rattle.row_recursions.specs.Rows.{row_of, RowsAdd};
+ghost use Rattle.row_recursions.specs.Sizes.{RowWithin};
+ghost use Rattle.soundness.specs.Computed.{total_row};
+ghost use Rattle.downward_rows.specs.Entries.{IsFarPosition, IsFarCell, far_row_at, far_row_of};
+
+use cell_name::Cell;
+use complex_box::CBox;
+use local_expansion::add_far_source;
+use particle_text::Point;
+use quadtree::Tree;
+
+/// Adds what the point at a position adds to the row of a cell that is far from it.
+fn add_position<const P: usize>(cell: Cell, points: &[Point], k: u32, into: &mut [CBox])
+    requires order { IsOrder P }
+    requires far { IsFarPosition points.now (square cell) k }
+    requires len { length into.old ≡ P }
+    requires sum { RowWithin P (2 ^ 110) (row_of into.old) }
+    ensures len { length into.new ≡ P }
+    ensures adds { RowsAdd P (row_of into.old) (far_row_at points.now (square cell) k) (row_of into.new) }
+    ensures size { (n : ℕ) → RowWithin P n (row_of into.old) → RowWithin P (n + 2 ^ 67) (row_of into.new) }
+{
+    add_far_source::<P>(into, cell, &points[k as usize]);
+}
+
+/// Adds what the points at these positions add to the row of a cell that is far from them.
+fn add_positions<const P: usize>(cell: Cell, points: &[Point], list: &[u32], into: &mut [CBox])
+    requires order { IsOrder P }
+    requires far { All (IsFarPosition points.now (square cell)) list.now }
+    requires few { length list.now ≤ 2 ^ 16 }
+    requires len { length into.old ≡ P }
+    requires sum { RowWithin P (2 ^ 109) (row_of into.old) }
+    ensures len { length into.new ≡ P }
+    ensures adds { RowsAdd P (row_of into.old) (total_row (far_row_at points.now (square cell)) list.now) (row_of into.new) }
+    ensures size { (n : ℕ) → RowWithin P n (row_of into.old) → RowWithin P (n + 2 ^ 83) (row_of into.new) }
+{
+    for k in list {
+        add_position::<P>(cell, points, *k, into);
+    }
+}
+
+/// Adds what the points of each cell of an X list add to the row of a cell.
+pub(crate) fn add_far_cells<const P: usize>(
+    tree: &Tree,
+    cell: Cell,
+    points: &[Point],
+    list: &[u32],
+    into: &mut [CBox],
+)
+    requires order { IsOrder P }
+    requires far { All (IsFarCell tree.now points.now (square cell)) list.now }
+    requires few { length list.now ≤ 2 ^ 16 }
+    requires len { length into.old ≡ P }
+    requires sum { RowWithin P (2 ^ 91) (row_of into.old) }
+    ensures len { length into.new ≡ P }
+    ensures adds { RowsAdd P (row_of into.old) (total_row (far_row_of tree.now points.now (square cell)) list.now) (row_of into.new) }
+    ensures size { RowWithin P (2 ^ 100) (row_of into.new) }
+{
+    for c in list {
+        add_positions::<P>(cell, points, tree.members(*c as usize), into);
+    }
+}

@@ -1,0 +1,85 @@
+//! The radius of a local row.
+ghost use Rattle.std.specs.Prelude.{◌≡◌, ℕ, ◌+◌, ◌^◌, ◌≤◌, ◌<◌, pos, ◌≤ℤ◌, ◌+ℤ◌, unsigned_abs, length, sum_by, All, List};
+ghost use Rattle.cell_lists.specs.Lists.{AreLists};
+ghost use Rattle.particle_text.specs.declared.Point.{Point};
+ghost use Rattle.quadtree.specs.Tree.{AreInGrid};
+ghost use Rattle.quadtree.specs.TreeModel.{size, square_of, node_of};
+ghost use Rattle.tree_field.specs.Field.{local_radius};
+ghost use Rattle.tree_field.specs.Lists.{TreeLists};
+ghost use Rattle.downward_rows.specs.LocalRows.{IsFieldOf};
+ghost use Rattle.downward_rows.specs.Radii.{IsWeight, AreWeights, pair_loss, single_loss};
+
+use cell_lists::EntryLists;
+use error_ledger::Ledger;
+use quadtree::Tree;
+
+/// Adds what the entries of a V list can lose, for a cell of this side.
+fn add_pair_losses(weights: &[i128], list: &[u32], side: i64, order: u32, ledger: &mut Ledger)
+    requires list { All (λ c. c < length weights.now) list.now }
+    requires few { length list.now ≤ 65536 }
+    requires weights { All IsWeight weights.now }
+    requires least_side { pos 1 ≤ℤ side }
+    requires most_side { side ≤ℤ pos 65536 }
+    requires least { 1 ≤ order }
+    requires most { order ≤ 32 }
+    requires room { ledger.old.radius ≤ 2 ^ 92 }
+    ensures added { ledger.new.radius ≡ ledger.old.radius + sum_by (pair_loss weights.now order (unsigned_abs side)) list.now }
+    ensures size { ledger.new.radius ≤ ledger.old.radius + 2 ^ 91 }
+{
+    for c in list {
+        ledger.add_pair(weights[*c as usize], side, order);
+    }
+}
+
+/// Adds what the entries of an X list can lose, for a cell of this side.
+fn add_single_losses(weights: &[i128], list: &[u32], side: i64, order: u32, ledger: &mut Ledger)
+    requires list { All (λ c. c < length weights.now) list.now }
+    requires few { length list.now ≤ 65536 }
+    requires weights { All IsWeight weights.now }
+    requires least_side { pos 1 ≤ℤ side }
+    requires most_side { side ≤ℤ pos 65536 }
+    requires least { 1 ≤ order }
+    requires most { order ≤ 32 }
+    requires room { ledger.old.radius ≤ 2 ^ 92 }
+    ensures added { ledger.new.radius ≡ ledger.old.radius + sum_by (single_loss weights.now order (unsigned_abs side)) list.now }
+    ensures size { ledger.new.radius ≤ ledger.old.radius + 2 ^ 91 }
+{
+    for c in list {
+        ledger.add_single(weights[*c as usize], side, order);
+    }
+}
+
+/// The radius of the local row of cell `n`, in units of 2^-40: that of its parent's row, and what the entries of its V and X lists can lose.
+/// The root's is 0. `weights` has the total weight of the sources of each cell.
+///
+/// Conditions: the lists are those of the tree; each weight is 0 to 2^33, the parent's radius 0 to 2^120, and the order 1 to 32.
+pub fn local_radius(
+    tree: &Tree,
+    lists: &EntryLists,
+    weights: &[i128],
+    n: usize,
+    parent: i128,
+    order: u32,
+) -> i128
+    requires number { n < size tree.now }
+    requires lists { AreLists tree.now lists.now }
+    requires as_many { length weights.now ≡ size tree.now }
+    requires weights { All IsWeight weights.now }
+    requires low { pos 0 ≤ℤ parent }
+    requires high { parent ≤ℤ pos (2 ^ 120) }
+    requires least { 1 ≤ order }
+    requires most { order ≤ 32 }
+    ensures radius { (points : List Point) (cap : ℕ) (field : TreeLists) → AreInGrid 16 points → IsFieldOf tree.now points cap field → AreWeights points cap order tree.now field weights.now → (0 < n → parent ≡ pos (local_radius points cap order field (square_of tree.now (node_of tree.now n).parent))) → result ≡ pos (local_radius points cap order field (square_of tree.now n)) }
+    ensures low { pos 0 ≤ℤ result }
+    ensures high { result ≤ℤ (parent +ℤ pos (2 ^ 92)) }
+{
+    let cells = tree.cells();
+    if n == 0 {
+        return 0;
+    }
+    let side = cells[n].side();
+    let mut ledger = Ledger::new();
+    add_pair_losses(weights, lists.v_list(n), side, order, &mut ledger);
+    add_single_losses(weights, lists.x_list(n), side, order, &mut ledger);
+    parent + ledger.radius()
+}

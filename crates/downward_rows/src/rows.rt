@@ -1,0 +1,127 @@
+//! The local row of a cell.
+ghost use Rattle.std.specs.Prelude.{◌≡◌, ◌≢◌, ℕ, ◌+◌, ◌*◌, ◌^◌, ◌≤◌, ◌<◌, length, All, IsTrue};
+ghost use Rattle.exact_math.specs.Ends.{zero_box};
+ghost use Rattle.exact_math.specs.Orders.{IsOrder};
+ghost use Rattle.quadtree.specs.TreeModel.{size, square_of, node_of};
+ghost use Rattle.cell_lists.specs.Row.{row};
+ghost use Rattle.row_recursions.specs.Rows.{row_of};
+ghost use Rattle.row_recursions.specs.Sizes.{RowWithin};
+ghost use Rattle.tree_field.specs.Lists.{TreeLists};
+ghost use Rattle.downward_rows.specs.Entries.{HasFarEntries, row_from};
+ghost use Rattle.downward_rows.specs.FlatRows.{row_at, AreSameRows};
+ghost use Rattle.downward_rows.specs.LocalRows.{IsTreeWithLists, IsFieldOf, AreMultipoleRows, AreLocalRowsTo, translations_at};
+
+use crate::far::add_far_cells;
+use crate::pairs::{add_pairs, row_of_cell};
+use cell_lists::EntryLists;
+use complex_box::{CBox, Row, Work, clear};
+use kernel_table::Kernel;
+use local_shift::shift_down;
+use particle_text::Point;
+use quadtree::Tree;
+
+/// Fills the row of a cell below the root from its parent's.
+fn fill_below<const P: usize>(
+    tree: &Tree,
+    lists: &EntryLists,
+    points: &[Point],
+    kernel: &Kernel<P>,
+    up: &[CBox],
+    n: usize,
+    parent: Row<P>,
+    into: &mut [CBox],
+    work: &mut Work,
+)
+    requires order { IsOrder P }
+    requires number { n < size tree.now }
+    requires below { 1 ≤ (square_of tree.now n).level }
+    requires entries { HasFarEntries tree.now lists.now points.now n }
+    requires rows { length up.now ≡ size tree.now * P }
+    requires multipoles { (c : ℕ) → c < size tree.now → RowWithin P (2 ^ 80) (row_at P up.now c) }
+    requires parent { RowWithin P (2 ^ 90) (row_of parent.cells.now) }
+    requires len { length into.old ≡ P }
+    requires count { work.old.translations + 28 < 2 ^ 63 }
+    ensures len { length into.new ≡ P }
+    ensures row { AreSameRows P (row_of into.new) (row_from P tree.now lists.now points.now up.now n (row_of parent.entry.cells.now)) }
+    ensures translations { work.new.translations ≡ work.old.translations + (1 + length (row lists.now.v n)) }
+    ensures pairs { work.new.pairs ≡ work.old.pairs }
+{
+    let cells = tree.cells();
+    let cell = cells[n];
+    clear(into);
+    shift_down(parent, cell.quadrant(), into, work);
+    add_pairs(tree, kernel, up, n, lists.v_list(n), into, work);
+    add_far_cells::<P>(tree, cell, points, lists.x_list(n), into);
+}
+
+/// Fills the row of a cell, where the rows of the cells before it stand in `above`.
+fn fill<const P: usize>(
+    tree: &Tree,
+    lists: &EntryLists,
+    points: &[Point],
+    kernel: &Kernel<P>,
+    up: &[CBox],
+    n: usize,
+    above: &[CBox],
+    into: &mut [CBox],
+    work: &mut Work,
+)
+    requires order { IsOrder P }
+    requires number { n < size tree.now }
+    requires tree { IsTreeWithLists tree.now lists.now points.now }
+    requires rows { length up.now ≡ size tree.now * P }
+    requires multipoles { (c : ℕ) → c < size tree.now → RowWithin P (2 ^ 80) (row_at P up.now c) }
+    requires above { length above.now ≡ n * P }
+    requires parent { 0 < n → RowWithin P (2 ^ 90) (row_at P above.now (node_of tree.now n).parent) }
+    requires len { length into.old ≡ P }
+    requires count { work.old.translations + 28 < 2 ^ 63 }
+    ensures len { length into.new ≡ P }
+    ensures row { 0 < n → IsTrue (node_of tree.now n).has_target → AreSameRows P (row_of into.new) (row_from P tree.now lists.now points.now up.now n (row_at P above.now (node_of tree.now n).parent)) }
+    ensures root { n ≡ 0 → AreSameRows P (row_of into.new) (λ k. zero_box) }
+    ensures empty { (IsTrue (node_of tree.now n).has_target → ⊥) → AreSameRows P (row_of into.new) (λ k. zero_box) }
+    ensures translations { work.new.translations ≡ work.old.translations + translations_at tree.now lists.now n }
+    ensures pairs { work.new.pairs ≡ work.old.pairs }
+{
+    if n > 0 {
+        if tree.has_target(n) {
+            let parent = row_of_cell::<P>(above, tree.parent(n));
+            fill_below(tree, lists, points, kernel, up, n, parent, into, work);
+            return;
+        }
+    }
+    clear(into);
+}
+
+/// Fills the local row of cell `n` among the rows of all cells: from its parent's, brought down, the rows of its V list, converted, and the
+/// sources of its X list. The root's row is zero, and so is that of a cell without a target.
+///
+/// Conditions: `P` is one of the orders; the tree is one of the points, with its lists; there is a row of `P` boxes for each cell; the
+/// ends of the multipole rows are at most 2^80 in size and those of the parent's local row 2^90; the count of translations has room for 28.
+pub fn fill_row<const P: usize>(
+    tree: &Tree,
+    lists: &EntryLists,
+    points: &[Point],
+    kernel: &Kernel<P>,
+    up: &[CBox],
+    n: usize,
+    rows: &mut [CBox],
+    work: &mut Work,
+)
+    requires order { IsOrder P }
+    requires number { n < size tree.now }
+    requires tree { IsTreeWithLists tree.now lists.now points.now }
+    requires multipole_rows { length up.now ≡ size tree.now * P }
+    requires multipoles { (c : ℕ) → c < size tree.now → RowWithin P (2 ^ 80) (row_at P up.now c) }
+    requires rows { length rows.old ≡ size tree.now * P }
+    requires parent { 0 < n → RowWithin P (2 ^ 90) (row_at P rows.old (node_of tree.now n).parent) }
+    requires count { work.old.translations + 28 < 2 ^ 63 }
+    ensures local { (cap : ℕ) (field : TreeLists) → IsFieldOf tree.now points.now cap field → AreMultipoleRows points.now cap P tree.now up.now → AreLocalRowsTo points.now cap P tree.now field rows.old n → AreLocalRowsTo points.now cap P tree.now field rows.new (n + 1) }
+    ensures others { (m : ℕ) → m ≢ n → AreSameRows P (row_at P rows.new m) (row_at P rows.old m) }
+    ensures len { length rows.new ≡ length rows.old }
+    ensures translations { work.new.translations ≡ work.old.translations + translations_at tree.now lists.now n }
+    ensures pairs { work.new.pairs ≡ work.old.pairs }
+{
+    let (above, rest) = rows.split_at_mut(n * P);
+    let (into, _) = rest.split_at_mut(P);
+    fill(tree, lists, points, kernel, up, n, above, into, work);
+}

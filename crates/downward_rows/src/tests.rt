@@ -1,0 +1,128 @@
+//! Rows and radii that are known from elsewhere: of a cell of side 4 that sees one far charge, and of one of side 1 beside nine charges.
+ghost use Rattle.std.specs.Prelude.{◌≡◌, ◌≤◌, ◌*◌, IfOk, length};
+ghost use Rattle.complex_box.specs.Rows.{AllZero};
+ghost use Rattle.particle_text.specs.Limits.{WithinLimits};
+ghost use Rattle.downward_rows.specs.LocalRows.{IsTreeWithLists};
+
+use super::{fill_row, local_radius};
+use cell_lists::{EntryLists, lists};
+use complex_box::{CBox, Work};
+use kernel_table::Kernel;
+use particle_text::{Point, Points, parse};
+use quadtree::Tree;
+use std::alloc::Global;
+use std::process::Abort;
+use std::test::Fail;
+
+/// The list of a text.
+fn points_of(alloc: Global, text: &str) -> Result<Points, Fail>
+    ensures { IfOk result (λ p. WithinLimits p.mode p.list) }
+{
+    Ok(parse(alloc, text.as_bytes())?)
+}
+
+/// Rows of zeros.
+fn zeros(alloc: Global, count: usize) -> Result<Vec<CBox>, Fail>
+    requires { count ≤ 65536 }
+    ensures len { IfOk result (λ v. length v.items ≡ count * 4) }
+    ensures zero { IfOk result (λ v. AllZero v.items) }
+{
+    let zero = CBox::zero();
+    Ok(vec![in alloc; zero; count * 4]?)
+}
+
+fn is(rt: &impl Abort, got: CBox, re: (i128, i128), im: (i128, i128)) {
+    assert_eq!(rt; (got.re.lo, got.re.hi), re);
+    assert_eq!(rt; (got.im.lo, got.im.hi), im);
+}
+
+/// The row of cell 15 where all other rows are zero.
+fn row_is(
+    rt: &impl Abort,
+    alloc: Global,
+    tree: &Tree,
+    lists: &EntryLists,
+    points: &[Point],
+    row: [((i128, i128), (i128, i128)); 4],
+) -> Result<(), Fail>
+    requires tree { IsTreeWithLists tree.now lists.now points.now }
+{
+    let count = tree.cells().len();
+    assert!(rt; 15 < count);
+    let up = zeros(alloc, count)?;
+    let mut rows = zeros(alloc, count)?;
+    let kernel = Kernel::<4>::new(alloc).ok().ok_or("no memory")?;
+    let mut work = Work::new();
+    fill_row::<4>(tree, lists, points, &kernel, &up, 15, &mut rows, &mut work);
+    assert_eq!(rt; (work.translations(), work.pairs()), (1, 0));
+    is(rt, rows[60], row[0].0, row[0].1);
+    is(rt, rows[61], row[1].0, row[1].1);
+    is(rt, rows[62], row[2].0, row[2].1);
+    is(rt, rows[63], row[3].0, row[3].1);
+    Ok(())
+}
+
+/// The radius of a cell whose parent's radius is 0, where each cell has this weight.
+fn radius_is(
+    rt: &impl Abort,
+    alloc: Global,
+    tree: &Tree,
+    n: usize,
+    weight: u32,
+    radius: i128,
+) -> Result<(), Fail> {
+    let lists = lists(alloc, tree)?;
+    let count = tree.cells().len();
+    assert!(rt; n < count);
+    let weights = vec![in alloc; i128::from(weight); count]?;
+    assert_eq!(rt; local_radius(tree, &lists, &weights, n, 0, 4), radius);
+    Ok(())
+}
+
+#[test]
+fn far_charge(rt: HostRuntime) -> Result<(), Fail> {
+    let alloc = rt.alloc();
+    let points = points_of(
+        alloc,
+        "fmm 1 field\ncharge 8 0 1\ntarget 0 0\ntarget 0 0\ntarget 0 0\ntarget 0 0\ntarget 0 0\ntarget 0 0\ntarget 0 0\ntarget 0 0\ntarget 0 0\n",
+    )?;
+    let tree = Tree::build(alloc, &points, 8)?;
+    let lists = lists(alloc, &tree)?;
+    row_is(
+        &rt,
+        alloc,
+        &tree,
+        &lists,
+        points.list.points(),
+        [
+            (
+                (-659_706_976_666, -659_706_976_665),
+                (-219_902_325_556, -219_902_325_555),
+            ),
+            (
+                (-351_843_720_889, -351_843_720_887),
+                (-263_882_790_667, -263_882_790_666),
+            ),
+            (
+                (-158_329_674_401, -158_329_674_398),
+                (-228_698_418_578, -228_698_418_577),
+            ),
+            (
+                (-49_258_120_926, -49_258_120_923),
+                (-168_884_986_027, -168_884_986_025),
+            ),
+        ],
+    )?;
+    radius_is(&rt, alloc, &tree, 15, 1, 13_668_646_683)
+}
+
+#[test]
+fn nine_charges(rt: HostRuntime) -> Result<(), Fail> {
+    let alloc = rt.alloc();
+    let points = points_of(
+        alloc,
+        "fmm 1 field\ncharge 0 0 1\ncharge 0 0 1\ncharge 0 0 1\ncharge 0 0 1\ncharge 0 0 1\ncharge 0 0 1\ncharge 0 0 1\ncharge 0 0 1\ncharge 0 0 1\ntarget 2 0\ntarget 2 0\ntarget 2 0\ntarget 2 0\ntarget 2 0\ntarget 2 0\ntarget 2 0\ntarget 2 0\ntarget 2 0\n",
+    )?;
+    let tree = Tree::build(alloc, &points, 8)?;
+    radius_is(&rt, alloc, &tree, 18, 9, 1_789_868_981_808)
+}
