@@ -1,3 +1,5 @@
 -- What the proofs of this crate rest on.
+pub mod FarCells
+pub mod Losses
 pub mod NearSums
 pub mod Numbers

@@ -7,6 +7,7 @@ use Rattle.std.proofs.lemmas.List.{get_or_default, get_or-take, get_or-drop, len
 use Rattle.std.proofs.lemmas.List.Elements.{All-get_or, Contains-get_or}
 use Rattle.std.proofs.lemmas.List.FromFn.{length-range_with_len}
 use Rattle.std.proofs.lemmas.List.Sums.{length-filter, count_by-le-length}
+use Rattle.std.proofs.Math.Nat.{mul-le-mul_right}
 use Rattle.cell_lists.specs.Entries.{IsEntry}
 use Rattle.cell_lists.specs.Lists.{IsListOf, AreLists, lists_of}
 use Rattle.cell_lists.specs.Row.{row}
@@ -94,8 +95,5 @@ row_length P n rows le =
     omega (arith, a, b)
 
 -- a number's row lies in the slice of all rows
-pub row_inside : (P n size len : ℕ) → n < size → len ≡ size * P → (n + 1) * P ≤ len
-row_inside P n size len lt e = omega (arith, below)
-  where
-    below : (n + 1) * P ≤ size * P
-    below = omega arith
+pub row_inside : (P n count len : ℕ) → n < count → len ≡ count * P → (n + 1) * P ≤ len
+row_inside P n count len lt e = let h : (n + 1) * P ≤ count * P = mul-le-mul_right P (omega arith) in omega (arith, h, e)
