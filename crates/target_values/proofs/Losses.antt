@@ -1,5 +1,6 @@
 -- How much an entry can lose at most.
-use Rattle.std.proofs.Common.{ℕ, ◌+◌, ◌-◌, ◌*◌, ◌^◌, ◌≤◌, ℤ, pos, ◌≤ℤ◌, unsigned_abs, arith}
+use Rattle.std.proofs.Common.{ℕ, ◌≡◌, ◌+◌, ◌-◌, ◌*◌, ◌^◌, ◌<◌, ◌≤◌, ℤ, pos, ◌+ℤ◌, ◌≤ℤ◌, unsigned_abs, to_z, of_z, arith}
+use Rattle.std.specs.Int.{w128}
 use Rattle.std.proofs.lemmas.Int.{ints}
 use Rattle.std.proofs.Math.Nat.{div-le_self, mul-le-mul_right}
 use Rattle.truncation.specs.Tails.{ceiling, single_tail}
@@ -17,3 +18,10 @@ loss_at weight order side w least most =
     let a : unsigned_abs weight ≤ 2 ^ 32 = omega (arith, ints, w.least, w.most) in
     let s : unsigned_abs side ≤ 65536 = omega (arith, ints, least, most) in
     loss_small _ _ _ a (single_tail_le order) s
+
+-- the sum of two radii, as it is computed
+pub lost_is : (radius r : ℤ) (n : ℕ) → pos 0 ≤ℤ radius → radius ≤ℤ pos (2 ^ 90) → r ≡ pos n → n < 2 ^ 90 → to_z w128 (of_z w128 (to_z w128 (of_z w128 radius) +ℤ to_z w128 (of_z w128 r))) ≡ radius +ℤ pos n
+lost_is radius r n least most e small =
+    let a : to_z w128 (of_z w128 radius) ≡ radius = omega (arith, ints, least, most) in
+    let b : to_z w128 (of_z w128 r) ≡ pos n = omega (arith, ints, e, small) in
+    omega (arith, ints, a, b, least, most, small)
