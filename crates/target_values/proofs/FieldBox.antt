@@ -9,7 +9,7 @@ use Rattle.std.proofs.lemmas.List.Elements.{All-contains, Contains-get_or}
 use Rattle.std.proofs.lemmas.List.FromFn.{fill_by_all}
 use Rattle.std.proofs.lemmas.Option.{slice_get-get_or}
 use mathlib.Core.Logic.{⊎_elim}
-use Rattle.exact_math.specs.Ends.{BoxEnds, BoxEndsContain, zero_box, add_box, quot_box, gquot_box, widen_box}
+use Rattle.exact_math.specs.Ends.{BoxEnds, BoxEndsContain, add_box, quot_box, gquot_box, widen_box}
 use Rattle.exact_math.specs.Gaussian.{Gaussian}
 use Rattle.exact_math.specs.Orders.{IsOrder}
 use Rattle.cell_name.specs.Order.{IsBefore}
@@ -36,7 +36,7 @@ use Rattle.row_recursions.specs.Rows.{ratio_box, local_round, local_value, multi
 use Rattle.soundness.specs.Computed.{total_box}
 use Rattle.soundness.specs.Squares.{offset}
 use Rattle.truncation.specs.Tails.{ceiling, single_tail}
-use Rattle.tree_field.specs.Field.{sources_in, is_source_in, multipole_row, local_row, weight_in, single_radius, local_radius, local_value_at, multipole_values_at, pairs_at, radius_in, box_in, target_box, targets}
+use Rattle.tree_field.specs.Field.{sources_in, is_source_in, multipole_row, local_row, single_radius, multipole_values_at, pairs_at, radius_in, box_in, target_box, targets}
 use Rattle.tree_field.specs.Lists.{TreeLists, AreTreeLists}
 use Rattle.tree_field.proofs.Ascending.{same_list}
 use Rattle.tree_field.proofs.Leaves.{only_leaf}
@@ -82,8 +82,8 @@ module _ (tree : TreeModel) (lists : EntryLists) (points : List Point) (cap : �
       let here : ℕ → Bool = λ k. holds_position c points k in
       let whole : points ≡ map f r = fill_by_all f points (length points) no_point refl (λ k l. refl) in
       let tests : All (λ k. (here k && is_source (f k).kind) ≡ is_source_in c (f k)) r = All-from_members (λ k. (here k && is_source (f k).kind) ≡ is_source_in c (f k)) r (λ k m.
-          let l = range_below (length points) k m in
-          ap (λ b. b && is_source (f k).kind) (holds_position-at c points k (f k) l (get_or_default points k no_point (f k) l)) ∙ and_turned (holds_test c (f k).x (f k).y) (is_source (f k).kind)) in
+      let l = range_below (length points) k m in
+      ap (λ b. b && is_source (f k).kind) (holds_position-at c points k (f k) l (get_or_default points k no_point (f k) l)) ∙ and_turned (holds_test c (f k).x (f k).y) (is_source (f k).kind)) in
       ap (sources_at points) (h.nodes_are n lt).members_are
       ∙ filter-map (λ p. is_source p.kind) f (filter here r)
       ∙ ap (map f) (filter-filter (λ k. is_source (f k).kind) here r ∙ filter_same (λ k. here k && is_source (f k).kind) (λ k. is_source_in c (f k)) r tests)

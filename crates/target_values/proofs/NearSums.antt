@@ -1,14 +1,12 @@
 -- Sums of boxes and counts over sources, one position after another.
-use Rattle.std.proofs.Common.{◌≡◌, ◌∙◌, ◌+◌, ◌*◌, ◌^◌, ◌<◌, ◌≤◌, sym, ap, subst, refl, arith, unsigned_abs, neg_ℤ, Bool, true, false, cond, not, if◌then◌else◌, ℕ, List, [], ◌∷◌, ◌++◌, length, take, get_or, fold, map, to_z-of_z, to_z, of_z, SFits, w64, ℤ, pos}
-use Rattle.std.specs.Prelude.{count_by, sum_by}
+use Rattle.std.proofs.Common.{◌≡◌, ◌∙◌, ◌+◌, ◌*◌, ◌^◌, ◌<◌, ◌≤◌, sym, ap, refl, arith, unsigned_abs, neg_ℤ, Bool, true, false, cond, not, if◌then◌else◌, ℕ, List, [], ◌∷◌, ◌++◌, length, take, get_or, fold, map, to_z-of_z, to_z, of_z, SFits, w64, ℤ, pos}
 use Rattle.std.proofs.lemmas.Int.{ints}
 use Rattle.std.proofs.lemmas.List.{map_more}
 use Rattle.std.proofs.lemmas.List.Elements.{filter-append}
 use Rattle.std.proofs.lemmas.List.Sums.{fold-append, fold_more, sum_by-append, count_by-le-length}
-use Rattle.exact_math.specs.Ends.{BoxEnds, BoxEndsWithin, add_box, zero_box}
+use Rattle.exact_math.specs.Ends.{BoxEnds, add_box, zero_box}
 use Rattle.exact_math.specs.Gaussian.{Gaussian, gaussian}
 use Rattle.exact_math.specs.Within.{Within}
-use Rattle.complex_box.proofs.Sizes.{box_wider}
 use Rattle.near_field.specs.DirectSum.{is_source}
 use Rattle.near_field.specs.Pair.{is_at, pair_box}
 use Rattle.particle_text.specs.Limits.{InGrid, InRange, HasStrength, most_strength, size_of_gaussian, weight64}
@@ -17,7 +15,7 @@ use Rattle.particle_text.specs.declared.Kind.{Kind}
 use Rattle.particle_text.specs.declared.Kind.TheVariants.{Charge, Dipole, Vortex, Target}
 use Rattle.particle_text.specs.declared.Point.{Point}
 use Rattle.soundness.specs.Computed.{total_box}
-use Rattle.target_values.specs.Points.{no_point, point_at, sources, sources_at, count_apart}
+use Rattle.target_values.specs.Points.{point_at, sources, sources_at, count_apart}
 
 abbrev with_box : Gaussian → BoxEnds → Point → BoxEnds
 with_box t sum p = add_box sum (pair_box t p)

@@ -1,10 +1,10 @@
 -- Lists of numbers of cells, and what stands at a number in a slice.
-use Rattle.std.proofs.Common.{◌≡◌, ◌∙◌, ◌+◌, ◌-◌, ◌*◌, ◌^◌, ◌<◌, ◌≤◌, zero, suc, sym, ap, subst, refl, arith, ℕ, ℤ, List, [], ◌∷◌, length, take, drop, get_or, map}
-use Rattle.std.specs.Prelude.{All, Contains, slice_range, AllPairs}
+use Rattle.std.proofs.Common.{◌≡◌, ◌∙◌, ◌+◌, ◌-◌, ◌*◌, ◌<◌, ◌≤◌, zero, suc, sym, ap, subst, arith, ℕ, List, [], ◌∷◌, length, drop, get_or}
+use Rattle.std.specs.Prelude.{All, slice_range}
 use Rattle.std.specs.List.{range_with_len}
 use Rattle.std.specs.List.Sorted.{IsStrictlyIncreasing}
-use Rattle.std.proofs.lemmas.List.{get_or_default, get_or-take, get_or-drop, length-take, length-drop}
-use Rattle.std.proofs.lemmas.List.Elements.{All-get_or, Contains-get_or}
+use Rattle.std.proofs.lemmas.List.{get_or-take, get_or-drop, length-take, length-drop}
+use Rattle.std.proofs.lemmas.List.Elements.{Contains-get_or}
 use Rattle.std.proofs.lemmas.List.FromFn.{length-range_with_len}
 use Rattle.std.proofs.lemmas.List.Sums.{length-filter, count_by-le-length}
 use Rattle.std.proofs.Math.Nat.{mul-le-mul_right}
@@ -12,9 +12,8 @@ use Rattle.cell_lists.specs.Entries.{IsEntry}
 use Rattle.cell_lists.specs.Lists.{IsListOf, AreLists, lists_of}
 use Rattle.cell_lists.specs.Row.{row}
 use Rattle.cell_lists.specs.declared.entry_lists.EntryLists.{EntryLists}
-use Rattle.cell_name.specs.Square.{IsInGrid}
 use Rattle.cert_text.specs.declared.Letter.{Letter}
-use Rattle.complex_box.specs.Box.{BoxWithin, box_ends}
+use Rattle.complex_box.specs.Box.{BoxWithin}
 use Rattle.complex_box.specs.Rows.{zero_cbox}
 use Rattle.complex_box.specs.declared.CBox.{CBox}
 use Rattle.particle_text.specs.Limits.{InRange, most_points}

@@ -1,4 +1,4 @@
-use Rattle.std.proofs.Common.{◌≡◌, ◌∙◌, ◌+◌, ◌*◌, ◌^◌, ◌<◌, ap, sym, subst, arith, ℕ, List, length, get_or}
+use Rattle.std.proofs.Common.{◌≡◌, ◌∙◌, ◌*◌, ◌<◌, ap, sym, subst, arith, ℕ, List, length, get_or}
 use Rattle.std.proofs.lemmas.List.{take_all}
 use Rattle.exact_math.specs.Ends.{BoxEnds, add_box}
 use Rattle.exact_math.specs.Gaussian.{Gaussian}

@@ -1,5 +1,4 @@
-use Rattle.std.proofs.Common.{◌≡◌, ◌∙◌, ◌+◌, ◌*◌, ◌^◌, ◌<◌, ap, sym, arith, ℕ, List, length, take, get_or}
-use Rattle.std.specs.Prelude.{sum_by}
+use Rattle.std.proofs.Common.{◌≡◌, ◌∙◌, ◌+◌, ◌<◌, ap, arith, ℕ, List, length, get_or}
 use Rattle.std.proofs.lemmas.List.{take_all}
 use Rattle.std.proofs.lemmas.List.Sums.{sum_by_more}
 use Rattle.exact_math.specs.Ends.{BoxEnds, add_box}
@@ -10,7 +9,7 @@ use Rattle.complex_box.specs.Box.{box_ends}
 use Rattle.complex_box.proofs.Sizes.{add_box_within, box_wider}
 use Rattle.near_field.specs.Pair.{pair_box}
 use Rattle.particle_text.specs.Points.{place}
-use Rattle.quadtree.specs.TreeModel.{size, node_of}
+use Rattle.quadtree.specs.TreeModel.{node_of}
 use Rattle.soundness.specs.Computed.{total_box}
 use Rattle.target_values.specs.Points.{sources_at, count_apart}
 use Rattle.target_values.specs.Values.{sources_of}

@@ -1,4 +1,4 @@
-use Rattle.std.proofs.Common.{◌∙◌, ◌≡◌, ◌+◌, ◌*◌, ◌^◌, ap, arith, length, get_or, ℕ}
+use Rattle.std.proofs.Common.{◌∙◌, ◌≡◌, arith, get_or}
 use Rattle.complex_box.proofs.Sizes.{box_wider}
 use Rattle.particle_text.specs.Points.{place}
 use Rattle.target_values.proofs.NearSums.{first_point, ends-step, pairs-step, one_at_most}

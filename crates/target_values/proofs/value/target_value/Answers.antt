@@ -1,8 +1,7 @@
-use Rattle.std.proofs.Common.{◌≡◌, ◌∙◌, ◌+◌, ◌^◌, ap, ap₂, subst, sym, arith, pos, get_or, to_z-of_z}
+use Rattle.std.proofs.Common.{◌∙◌, ◌+◌, ◌^◌, ap₂, subst, sym, arith, pos, get_or, to_z-of_z}
 use Rattle.std.proofs.lemmas.List.{get_or_default}
 use Rattle.exact_math.specs.Ends.{BoxEndsContain}
 use Rattle.cell_name.specs.Square.{Holds}
-use Rattle.complex_box.specs.Box.{box_ends}
 use Rattle.near_field.specs.DirectSum.{direct_sum}
 use Rattle.particle_text.specs.Points.{place}
 use Rattle.particle_text.specs.declared.Point.{Point}

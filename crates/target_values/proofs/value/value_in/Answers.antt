@@ -1,4 +1,4 @@
-use Rattle.std.proofs.Common.{◌≡◌, ◌∙◌, ◌+◌, ◌^◌, ap, ap₂, subst, sym, arith, pos, ◌+ℤ◌}
+use Rattle.std.proofs.Common.{◌∙◌, ◌+◌, ◌^◌, ap, ap₂, subst, sym, arith, pos, ◌+ℤ◌}
 use Rattle.std.proofs.lemmas.Int.{ints}
 use Rattle.exact_math.specs.Ends.{BoxEndsWithin, add_box, widen_box}
 use Rattle.exact_math.specs.Within.{Within}
