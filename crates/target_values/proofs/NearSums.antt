@@ -1,0 +1,91 @@
+-- Sums of boxes and counts over sources, one position after another.
+use Rattle.std.proofs.Common.{◌≡◌, ◌∙◌, ◌+◌, ◌*◌, ◌^◌, ◌<◌, ◌≤◌, sym, ap, refl, arith, unsigned_abs, neg_ℤ, Bool, true, false, cond, not, if◌then◌else◌, ℕ, List, [], ◌∷◌, ◌++◌, length, take, get_or, fold, map, to_z-of_z, to_z, of_z, SFits, w64, ℤ, pos}
+use Rattle.std.proofs.lemmas.Int.{ints}
+use Rattle.std.proofs.lemmas.List.{map_more}
+use Rattle.std.proofs.lemmas.List.Elements.{filter-append}
+use Rattle.std.proofs.lemmas.List.Sums.{fold-append, fold_more, sum_by-append, count_by-le-length}
+use Rattle.exact_math.specs.Ends.{BoxEnds, add_box, zero_box}
+use Rattle.exact_math.specs.Gaussian.{Gaussian, gaussian}
+use Rattle.exact_math.specs.Within.{Within}
+use Rattle.near_field.specs.DirectSum.{is_source}
+use Rattle.near_field.specs.Pair.{is_at, pair_box}
+use Rattle.particle_text.specs.Limits.{InGrid, InRange, HasStrength, most_strength, size_of_gaussian, weight64}
+use Rattle.particle_text.specs.Points.{pole, dipole}
+use Rattle.particle_text.specs.declared.Kind.{Kind}
+use Rattle.particle_text.specs.declared.Kind.TheVariants.{Charge, Dipole, Vortex, Target}
+use Rattle.particle_text.specs.declared.Point.{Point}
+use Rattle.soundness.specs.Computed.{total_box}
+use Rattle.target_values.specs.Points.{point_at, sources, sources_at, count_apart}
+
+abbrev with_box : Gaussian → BoxEnds → Point → BoxEnds
+with_box t sum p = add_box sum (pair_box t p)
+
+-- ---- one pair, as the calls have it
+pub ends_at : (x y : ℤ) (p : Point) {e : BoxEnds} → InGrid x y → e ≡ pair_box (gaussian (to_z w64 (of_z w64 x)) (to_z w64 (of_z w64 y))) p → e ≡ pair_box (gaussian x y) p
+ends_at x y p grid h =
+    let f : SFits w64 x = omega (arith, ints) in
+    let g : SFits w64 y = omega (arith, ints) in
+    rw (to_z-of_z f, to_z-of_z g) at h
+
+pub pairs_at : (x y : ℤ) (p : Point) {m : ℕ} (n : ℕ) → InGrid x y → m ≡ n + (if is_at (gaussian (to_z w64 (of_z w64 x)) (to_z w64 (of_z w64 y))) p then 0 else 1) → m ≡ n + (if is_at (gaussian x y) p then 0 else 1)
+pairs_at x y p n grid h =
+    let f : SFits w64 x = omega (arith, ints) in
+    let g : SFits w64 y = omega (arith, ints) in
+    rw (to_z-of_z f, to_z-of_z g) at h
+
+pub sum_of_one : (t : Gaussian) (p : Point) (s : BoxEnds) → is_source p.kind ≡ true → add_box s (pair_box t p) ≡ fold (with_box t) s (sources (p ∷ []))
+sum_of_one t p s source = ap (λ b. fold (with_box t) s (cond b (p ∷ []) [])) (sym source)
+
+pub pairs_of_one : (t : Gaussian) (p : Point) (m n : ℕ) → is_source p.kind ≡ true → m ≡ n + (if is_at t p then 0 else 1) → m ≡ n + count_apart t (sources (p ∷ []))
+pairs_of_one t p m n source h = h ∙ ap (λ k. n + k) (one (is_at t p) ∙ ap (λ b. count_apart t (cond b (p ∷ []) [])) (sym source))
+  where
+    one : (b : Bool) → (if b then 0 else 1) ≡ 0 + cond {A = ℕ} (not b) 1 0
+    one true = refl
+    one false = refl
+
+-- a point in range brings little
+pub weight-most : (p : Point) → InRange p → 2 ^ 40 * weight64 p ≤ 2 ^ 67
+weight-most p range = bounded p.kind range.strength
+  where
+    small : (q : ℤ) → Within most_strength q → unsigned_abs q ≤ most_strength
+    small q w = omega (arith, ints)
+
+    bounded : (k : Kind) → HasStrength k → 2 ^ 40 * (size_of_gaussian (pole k) + 64 * size_of_gaussian (dipole k)) ≤ 2 ^ 67
+    bounded (Charge q) w = let a = small q w in omega arith
+    bounded (Vortex g) w = let a = small (neg_ℤ g) (record { above = omega (arith, ints); below = omega (arith, ints) }) in omega arith
+    bounded (Dipole re im) w = let a = small re w.0 in let b = small im w.1 in omega arith
+    bounded Target w = omega arith
+
+-- what a slice reads past its end
+abbrev pub first_point : Point
+first_point = record { x = pos 0; y = pos 0; kind = Charge (pos 0) }
+
+-- ---- one position more
+pub sources_at-more : (points : List Point) (ms : List ℕ) (i : ℕ) (p : Point) → i < length ms → p ≡ point_at points (get_or ms i 0) → sources_at points (take (i + 1) ms) ≡ sources_at points (take i ms) ++ sources (p ∷ [])
+sources_at-more points ms i p lt e =
+    ap sources (map_more (point_at points) ms i 0 lt)
+    ∙ filter-append (λ p. is_source p.kind) (map (point_at points) (take i ms)) (point_at points (get_or ms i 0) ∷ [])
+    ∙ ap (λ q. sources_at points (take i ms) ++ sources (q ∷ [])) (sym e)
+
+module _ (t : Gaussian) (points : List Point) (ms : List ℕ) (i : ℕ) (p : Point) (lt : i < length ms) (is : p ≡ point_at points (get_or ms i 0)) where
+  pub ends-step : {s e : BoxEnds} → s ≡ total_box (pair_box t) (sources_at points (take i ms)) → e ≡ fold (with_box t) s (sources (p ∷ [])) → e ≡ total_box (pair_box t) (sources_at points (take (i + 1) ms))
+  ends-step a b =
+      b ∙ ap (λ s. fold (with_box t) s (sources (p ∷ []))) a
+      ∙ sym (ap (total_box (pair_box t)) (sources_at-more points ms i p lt is) ∙ fold-append (with_box t) zero_box (sources_at points (take i ms)) (sources (p ∷ [])))
+
+  pub pairs-step : (k : ℕ) {m n : ℕ} → m ≡ k + count_apart t (sources_at points (take i ms)) → n ≡ m + count_apart t (sources (p ∷ [])) → n ≡ k + count_apart t (sources_at points (take (i + 1) ms))
+  pairs-step k a b =
+      let e : count_apart t (sources_at points (take (i + 1) ms)) ≡ count_apart t (sources_at points (take i ms)) + count_apart t (sources (p ∷ [])) =
+      ap (count_apart t) (sources_at-more points ms i p lt is) ∙ sum_by-append (λ q. cond (not (is_at t q)) 1 0) (sources_at points (take i ms)) (sources (p ∷ [])) in
+      omega arith
+
+pub one_at_most : (t : Gaussian) (p : Point) → count_apart t (sources (p ∷ [])) ≤ 1
+one_at_most t p = by (is_source p.kind)
+  where
+    by : (b : Bool) → count_apart t (cond b (p ∷ []) []) ≤ 1
+    by true = count_by-le-length (λ q. not (is_at t q)) (p ∷ [])
+    by false = omega arith
+
+-- ---- one member of a list more
+pub total-step : {A : Type 0} (f : A → BoxEnds) (xs : List A) (i : ℕ) (d : A) → i < length xs → {s e : BoxEnds} → s ≡ total_box f (take i xs) → e ≡ add_box s (f (get_or xs i d)) → e ≡ total_box f (take (i + 1) xs)
+total-step f xs i d lt a b = b ∙ ap (λ s. add_box s (f (get_or xs i d))) a ∙ sym (fold_more (λ s y. add_box s (f y)) zero_box xs i d lt)

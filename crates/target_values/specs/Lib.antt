@@ -1,0 +1,4 @@
+-- What contracts cite: the points at positions, the value of a target from rows in slices, and the rows of the field.
+pub mod Field
+pub mod Points
+pub mod Values

@@ -1,0 +1,56 @@
+-- The value of a target from rows in flat slices, by the numbers of the tree's cells. The row of the cell n is the n-th of P boxes each.
+use Rattle.std.specs.Prelude.{ℕ, ◌+◌, ◌*◌, ◌^◌, ℤ, pos, ◌+ℤ◌, ◌≤ℤ◌, List, slice_range, slice_index_or, sum_by, unsigned_abs}
+use Rattle.exact_math.specs.Ends.{BoxEnds, add_box, widen_box}
+use Rattle.exact_math.specs.Gaussian.{Gaussian}
+use Rattle.cell_name.specs.Square.{side}
+use Rattle.cell_lists.specs.Row.{row}
+use Rattle.cell_lists.specs.declared.entry_lists.EntryLists.{EntryLists}
+use Rattle.complex_box.specs.declared.CBox.{CBox}
+use Rattle.near_field.specs.Pair.{pair_box}
+use Rattle.particle_text.specs.declared.Point.{Point}
+use Rattle.quadtree.specs.TreeModel.{TreeModel, square_of, node_of}
+use Rattle.row_recursions.specs.Rows.{row_of, local_value, multipole_value}
+use Rattle.soundness.specs.Computed.{total_box}
+use Rattle.soundness.specs.Squares.{offset}
+use Rattle.truncation.specs.Tails.{ceiling, single_tail}
+use Rattle.target_values.specs.Points.{sources_at, count_apart}
+
+-- the row of a number
+abbrev pub row_at : ℕ → List CBox → ℕ → ℕ → BoxEnds
+row_at P rows n = row_of (slice_range rows (n * P) ((n + 1) * P))
+
+-- the weight of a number
+abbrev pub weight_at : List ℤ → ℕ → ℕ
+weight_at weights n = unsigned_abs (slice_index_or weights n (pos 0))
+
+-- 0 to 2^32
+pub record IsWeight (w : ℤ) : Type 0 where
+  pub least : pos 0 ≤ℤ w
+  pub most : w ≤ℤ pos (2 ^ 32)
+
+module _ (tree : TreeModel) (lists : EntryLists) where
+  module _ (points : List Point) where
+    abbrev pub sources_of : ℕ → List Point
+    sources_of n = sources_at points (node_of tree n).members
+
+    -- the pairs with the sources of the U entries
+    abbrev pub near_pairs : ℕ → Gaussian → BoxEnds
+    near_pairs b z = total_box (λ c. total_box (pair_box z) (sources_of c)) (row lists.u b)
+
+    abbrev pub near_count : ℕ → Gaussian → ℕ
+    near_count b z = sum_by (λ c. count_apart z (sources_of c)) (row lists.u b)
+
+module _ (P : ℕ) (tree : TreeModel) (lists : EntryLists) where
+  -- the values of the rows of the W entries
+  abbrev pub far_values : List CBox → ℕ → Gaussian → BoxEnds
+  far_values up b z = total_box (λ c. multipole_value P (row_at P up c) (side (square_of tree c)) (offset (square_of tree c) z)) (row lists.w b)
+
+  -- what the W entries can lose
+  abbrev pub far_radius : List ℤ → ℕ → ℕ
+  far_radius weights b = sum_by (λ c. ceiling (weight_at weights c * single_tail P) (side (square_of tree c))) (row lists.w b)
+
+  abbrev pub value_at : List Point → List CBox → List CBox → List ℤ → ℤ → ℕ → Gaussian → BoxEnds
+  value_at points up local weights radius b z =
+      widen_box
+      (add_box (local_value P (row_at P local b) (side (square_of tree b)) (offset (square_of tree b) z)) (add_box (far_values up b z) (near_pairs tree lists points b z)))
+      (radius +ℤ pos (far_radius weights b))
