@@ -6,6 +6,8 @@
 
 mod far;
 mod near;
+#[cfg(test)]
+mod tests;
 mod value;
 
 pub use value::target_value;

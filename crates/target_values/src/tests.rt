@@ -1,0 +1,119 @@
+//! Values of targets that are known from elsewhere: a far cell of nine charges, and a charge near by.
+ghost use Rattle.std.specs.Prelude.{◌≡◌, ◌^◌, ◌<◌, length, All, IfOk};
+ghost use Rattle.complex_box.specs.Box.{BoxWithin};
+ghost use Rattle.particle_text.specs.Limits.{WithinLimits};
+ghost use Rattle.target_values.specs.Values.{IsWeight};
+
+use crate::target_value;
+use cell_lists::lists;
+use complex_box::{CBox, Work};
+use particle_text::{Points, parse};
+use quadtree::Tree;
+use std::alloc::Global;
+use std::process::Abort;
+use std::test::Fail;
+
+/// The list of a field text with some lines, each so many times.
+fn points_of(alloc: Global, lines: &[(u32, &str)]) -> Result<Points, Fail>
+    ensures { IfOk result (λ p. WithinLimits p.mode p.list) }
+{
+    let mut text = String::from_str(alloc, "fmm 1 field\n")?;
+    for (count, line) in lines {
+        for _ in 0..*count {
+            text.push_str(line)?;
+        }
+    }
+    Ok(parse(alloc, text.as_bytes())?)
+}
+
+/// Writes a box of a row.
+fn put(rows: &mut [CBox], k: usize, re: i64, im: i64)
+    requires number { k < length rows.old }
+    requires size { All (BoxWithin (2 ^ 80)) rows.old }
+    ensures len { length rows.new ≡ length rows.old }
+    ensures size { All (BoxWithin (2 ^ 80)) rows.new }
+{
+    rows[k] = CBox::point(i128::from(re), i128::from(im));
+}
+
+/// The value of the k-th point at order 4 and capacity 8, with no local rows, and how many pairs it took.
+fn value_is(
+    rt: &impl Abort,
+    alloc: Global,
+    points: &Points,
+    up: &[CBox],
+    local: &[CBox],
+    weights: &[i128],
+    k: usize,
+    parts: ((i128, i128), (i128, i128)),
+    pairs: u64,
+) -> Result<(), Fail>
+    requires list { WithinLimits points.now.mode points.now.list }
+    requires size { All (BoxWithin (2 ^ 80)) up.now }
+    requires local { All (BoxWithin (2 ^ 90)) local.now }
+    requires weights { All IsWeight weights.now }
+{
+    let tree = Tree::build(alloc, points, 8)?;
+    let found = lists(alloc, &tree)?;
+    let count = tree.cells().len();
+    let list = points.list.points();
+    assert!(rt;
+        up.len() == count * 4
+            && local.len() == count * 4
+            && weights.len() == count
+            && k < list.len()
+    );
+    let mut work = Work::new();
+    let value = target_value::<4>(&tree, &found, list, up, local, weights, 0, k, &mut work);
+    assert_eq!(rt; (value.re.lo, value.re.hi), parts.0);
+    assert_eq!(rt; (value.im.lo, value.im.hi), parts.1);
+    assert_eq!(rt; (work.translations(), work.pairs()), (0, pairs));
+    Ok(())
+}
+
+#[test]
+fn far_cell(rt: HostRuntime) -> Result<(), Fail> {
+    let alloc = rt.alloc();
+    let points = points_of(alloc, &[(9, "charge 0 0 1\n"), (1, "target 8 0\n")])?;
+    let mut up = [CBox::zero(); 72];
+    put(&mut up, 60, 9_895_604_649_984, 0);
+    put(&mut up, 61, -4_947_802_324_992, -4_947_802_324_992);
+    put(&mut up, 62, 0, 4_947_802_324_992);
+    put(&mut up, 63, 2_473_901_162_496, -2_473_901_162_496);
+    let mut weights = [0i128; 18];
+    weights[15] = 9;
+    value_is(
+        &rt,
+        alloc,
+        &points,
+        &up,
+        &[CBox::zero(); 72],
+        &weights,
+        9,
+        (
+            (1_127_786_607_614, 1_373_822_247_902),
+            (-75_518_917_824, 170_516_722_464),
+        ),
+        0,
+    )
+}
+
+#[test]
+fn near_charge(rt: HostRuntime) -> Result<(), Fail> {
+    let alloc = rt.alloc();
+    let points = points_of(alloc, &[(1, "charge 0 0 1\n"), (2, "target 3 4\n")])?;
+    value_is(
+        &rt,
+        alloc,
+        &points,
+        &[CBox::zero(); 4],
+        &[CBox::zero(); 4],
+        &[0i128; 1],
+        1,
+        (
+            (131_941_395_333, 131_941_395_334),
+            (-175_921_860_445, -175_921_860_444),
+        ),
+        1,
+    )
+}
