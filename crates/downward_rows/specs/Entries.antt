@@ -1,12 +1,12 @@
 -- What the entries of a cell of the tree add to its local row, from the rows of all cells and from the points.
-use Rattle.std.specs.Prelude.{ℕ, ◌^◌, ◌<◌, ◌≤◌, ◌≡◌, List, length, Option, Some, None, slice_get, All}
+use Rattle.std.specs.Prelude.{ℕ, ◌^◌, ◌<◌, ◌≤◌, ◌≡◌, List, length, Option, Some, None, slice_get, All, sum_by}
 use Rattle.exact_math.specs.Ends.{BoxEnds, zero_box, add_box}
 use Rattle.cell_name.specs.Square.{Square}
 use Rattle.cell_lists.specs.Row.{row}
 use Rattle.cell_lists.specs.declared.entry_lists.EntryLists.{EntryLists}
 use Rattle.complex_box.specs.declared.CBox.{CBox}
 use Rattle.kernel_table.specs.Kernel.{IsKernelDistance, kernel_entry}
-use Rattle.particle_text.specs.Limits.{InRange}
+use Rattle.particle_text.specs.Limits.{InRange, weight64}
 use Rattle.particle_text.specs.Points.{place}
 use Rattle.particle_text.specs.declared.Point.{Point}
 use Rattle.quadtree.specs.TreeModel.{TreeModel, size, square_of, node_of}
@@ -37,6 +37,17 @@ far_row_at points b k = far_of b (slice_get points k)
 -- what the points of cell c add
 abbrev pub far_row_of : TreeModel → List Point → Square → ℕ → ℕ → BoxEnds
 far_row_of tree points b c = total_row (far_row_at points b) (node_of tree c).members
+
+-- how heavy the point at a position is, and the points of the cells of a list together
+abbrev pub weight_of : Option Point → ℕ
+weight_of (Some p) = weight64 p
+weight_of None = 0
+
+abbrev pub weight_at : List Point → ℕ → ℕ
+weight_at points k = weight_of (slice_get points k)
+
+abbrev pub far_weight : TreeModel → List Point → ℕ → ℕ
+far_weight tree points c = sum_by (weight_at points) (node_of tree c).members
 
 -- the point at a position is in range and far from the cell b
 pub record IsFarPosition (points : List Point) (b : Square) (k : ℕ) : Type 0 where

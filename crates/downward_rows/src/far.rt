@@ -1,12 +1,12 @@
 //! The X entries of a cell: the sources of cells that are far from it.
-ghost use Rattle.std.specs.Prelude.{◌≡◌, ℕ, ◌+◌, ◌*◌, ◌^◌, ◌≤◌, ◌<◌, length, All};
+ghost use Rattle.std.specs.Prelude.{◌≡◌, ℕ, ◌+◌, ◌*◌, ◌^◌, ◌≤◌, ◌<◌, length, sum_by, All};
 ghost use Rattle.exact_math.specs.Orders.{IsOrder};
 ghost use Rattle.cell_name.specs.Cell.{square};
 ghost use Rattle.quadtree.specs.TreeModel.{size, square_of, node_of};
 ghost use Rattle.row_recursions.specs.Rows.{row_of, RowsAdd};
 ghost use Rattle.row_recursions.specs.Sizes.{RowWithin};
 ghost use Rattle.soundness.specs.Computed.{total_row};
-ghost use Rattle.downward_rows.specs.Entries.{IsFarPosition, IsFarCell, far_row_at, far_row_of};
+ghost use Rattle.downward_rows.specs.Entries.{IsFarPosition, IsFarCell, far_row_at, far_row_of, far_weight, weight_at};
 
 use cell_name::Cell;
 use complex_box::CBox;
@@ -22,7 +22,8 @@ fn add_position<const P: usize>(cell: Cell, points: &[Point], k: u32, into: &mut
     requires sum { RowWithin P (2 ^ 110) (row_of into.old) }
     ensures len { length into.new ≡ P }
     ensures adds { RowsAdd P (row_of into.old) (far_row_at points.now (square cell) k) (row_of into.new) }
-    ensures size { (n : ℕ) → RowWithin P n (row_of into.old) → RowWithin P (n + 2 ^ 67) (row_of into.new) }
+    ensures size { (n : ℕ) → RowWithin P n (row_of into.old) → RowWithin P (n + 2 ^ 40 * weight_at points.now k) (row_of into.new) }
+    ensures light { weight_at points.now k ≤ 2 ^ 27 }
 {
     add_far_source::<P>(into, cell, &points[k as usize]);
 }
@@ -36,7 +37,8 @@ fn add_positions<const P: usize>(cell: Cell, points: &[Point], list: &[u32], int
     requires sum { RowWithin P (2 ^ 109) (row_of into.old) }
     ensures len { length into.new ≡ P }
     ensures adds { RowsAdd P (row_of into.old) (total_row (far_row_at points.now (square cell)) list.now) (row_of into.new) }
-    ensures size { (n : ℕ) → RowWithin P n (row_of into.old) → RowWithin P (n + 2 ^ 83) (row_of into.new) }
+    ensures size { (n : ℕ) → RowWithin P n (row_of into.old) → RowWithin P (n + 2 ^ 40 * sum_by (weight_at points.now) list.now) (row_of into.new) }
+    ensures light { sum_by (weight_at points.now) list.now ≤ 2 ^ 43 }
 {
     for k in list {
         add_position::<P>(cell, points, *k, into);
@@ -58,7 +60,7 @@ pub(crate) fn add_far_cells<const P: usize>(
     requires sum { RowWithin P (2 ^ 91) (row_of into.old) }
     ensures len { length into.new ≡ P }
     ensures adds { RowsAdd P (row_of into.old) (total_row (far_row_of tree.now points.now (square cell)) list.now) (row_of into.new) }
-    ensures size { RowWithin P (2 ^ 100) (row_of into.new) }
+    ensures size { (n : ℕ) → RowWithin P n (row_of into.old) → RowWithin P (n + 2 ^ 40 * sum_by (far_weight tree.now points.now) list.now) (row_of into.new) }
 {
     for c in list {
         add_positions::<P>(cell, points, tree.members(*c as usize), into);

@@ -1,5 +1,5 @@
 //! The local row of a cell.
-ghost use Rattle.std.specs.Prelude.{◌≡◌, ◌≢◌, ℕ, ◌+◌, ◌*◌, ◌^◌, ◌≤◌, ◌<◌, length, All, IsTrue};
+ghost use Rattle.std.specs.Prelude.{◌≡◌, ◌≢◌, ℕ, ◌+◌, ◌*◌, ◌^◌, ◌≤◌, ◌<◌, length, sum_by, All, IsTrue};
 ghost use Rattle.exact_math.specs.Ends.{zero_box};
 ghost use Rattle.exact_math.specs.Orders.{IsOrder};
 ghost use Rattle.quadtree.specs.TreeModel.{size, square_of, node_of};
@@ -7,7 +7,7 @@ ghost use Rattle.cell_lists.specs.Row.{row};
 ghost use Rattle.row_recursions.specs.Rows.{row_of};
 ghost use Rattle.row_recursions.specs.Sizes.{RowWithin};
 ghost use Rattle.tree_field.specs.Lists.{TreeLists};
-ghost use Rattle.downward_rows.specs.Entries.{HasFarEntries, row_from};
+ghost use Rattle.downward_rows.specs.Entries.{HasFarEntries, row_from, far_weight};
 ghost use Rattle.downward_rows.specs.FlatRows.{row_at, AreSameRows};
 ghost use Rattle.downward_rows.specs.LocalRows.{IsTreeWithLists, IsFieldOf, AreMultipoleRows, AreLocalRowsTo, translations_at};
 
@@ -43,6 +43,7 @@ fn fill_below<const P: usize>(
     requires count { work.old.translations + 28 < 2 ^ 63 }
     ensures len { length into.new ≡ P }
     ensures row { AreSameRows P (row_of into.new) (row_from P tree.now lists.now points.now up.now n (row_of parent.entry.cells.now)) }
+    ensures size { (p q : ℕ) → RowWithin P p (row_of parent.entry.cells.now) → ((c : ℕ) → c < size tree.now → RowWithin P (2 * q) (row_at P up.now c)) → RowWithin P (p + 81 * q + 2 ^ 40 * sum_by (far_weight tree.now points.now) (row lists.now.x n)) (row_of into.new) }
     ensures translations { work.new.translations ≡ work.old.translations + (1 + length (row lists.now.v n)) }
     ensures pairs { work.new.pairs ≡ work.old.pairs }
 {
@@ -79,6 +80,7 @@ fn fill<const P: usize>(
     ensures row { 0 < n → IsTrue (node_of tree.now n).has_target → AreSameRows P (row_of into.new) (row_from P tree.now lists.now points.now up.now n (row_at P above.now (node_of tree.now n).parent)) }
     ensures root { n ≡ 0 → AreSameRows P (row_of into.new) (λ k. zero_box) }
     ensures empty { (IsTrue (node_of tree.now n).has_target → ⊥) → AreSameRows P (row_of into.new) (λ k. zero_box) }
+    ensures size { (p q : ℕ) → (0 < n → RowWithin P p (row_at P above.now (node_of tree.now n).parent)) → ((c : ℕ) → c < size tree.now → RowWithin P (2 * q) (row_at P up.now c)) → RowWithin P (p + 81 * q + 2 ^ 40 * sum_by (far_weight tree.now points.now) (row lists.now.x n)) (row_of into.new) }
     ensures translations { work.new.translations ≡ work.old.translations + translations_at tree.now lists.now n }
     ensures pairs { work.new.pairs ≡ work.old.pairs }
 {
@@ -118,6 +120,7 @@ pub fn fill_row<const P: usize>(
     ensures local { (cap : ℕ) (field : TreeLists) → IsFieldOf tree.now points.now cap field → AreMultipoleRows points.now cap P tree.now up.now → AreLocalRowsTo points.now cap P tree.now field rows.old n → AreLocalRowsTo points.now cap P tree.now field rows.new (n + 1) }
     ensures others { (m : ℕ) → m ≢ n → AreSameRows P (row_at P rows.new m) (row_at P rows.old m) }
     ensures len { length rows.new ≡ length rows.old }
+    ensures size { (p q : ℕ) → (0 < n → RowWithin P p (row_at P rows.old (node_of tree.now n).parent)) → ((c : ℕ) → c < size tree.now → RowWithin P (2 * q) (row_at P up.now c)) → RowWithin P (p + 81 * q + 2 ^ 40 * sum_by (far_weight tree.now points.now) (row lists.now.x n)) (row_at P rows.new n) }
     ensures translations { work.new.translations ≡ work.old.translations + translations_at tree.now lists.now n }
     ensures pairs { work.new.pairs ≡ work.old.pairs }
 {

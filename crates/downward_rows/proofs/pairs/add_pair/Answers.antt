@@ -1,4 +1,4 @@
-use Rattle.std.proofs.Common.{◌≡◌, ◌+◌, ◌*◌, ◌^◌, ap, ◌∙◌, subst, sym, arith, lit<}
+use Rattle.std.proofs.Common.{◌≡◌, ◌*◌, ◌^◌, ap, ◌∙◌, subst, sym, lit<}
 use Rattle.exact_math.specs.Ends.{add_box}
 use Rattle.complex_box.specs.Box.{number}
 use Rattle.kernel_table.specs.Kernel.{IsKernelDistance}
@@ -8,7 +8,6 @@ use Rattle.row_recursions.specs.Rows.{row_of}
 use Rattle.downward_rows.specs.FlatRows.{row_at}
 use Rattle.downward_rows.proofs.PairRows.{distance_read, pair_read}
 use Rattle.downward_rows.proofs.SameRows.{within_same}
-use Rattle.downward_rows.proofs.Totals.{row_wider}
 use Rattle.downward_rows.proofs.pairs.add_pair.Goals as goal
 
 pub convert-requires : goal.convert-requires
@@ -24,5 +23,5 @@ returns-clause-adds g c = λ k h.
     c.convert.ensures.adds k h ∙ ap (add_box (row_of c.args.into.now k)) (pair_read g.row.P c.args.tree.now c.args.up.now c.args.b c.args.c (number c.sides_between-e.result) (row_of c.row_of_cell.result.cells.now) e c.row_of_cell.ensures k)
 
 pub returns-clause-size : goal.returns-clause-size
-returns-clause-size g c = λ n h. row_wider g.row.P (n + 3 * 2 ^ 79) (n + 2 ^ 81) (row_of c.convert.new.into) (omega arith)
-    (c.convert.ensures.size (2 ^ 79) n (within_same g.row.P (2 ^ 80) (row_of c.row_of_cell.result.cells.now) (row_at g.row.P c.args.up.now c.args.c) c.row_of_cell.ensures c.requires.row) h)
+returns-clause-size g c = λ m n r h.
+    c.convert.ensures.size m n (within_same g.row.P (2 * m) (row_of c.row_of_cell.result.cells.now) (row_at g.row.P c.args.up.now c.args.c) c.row_of_cell.ensures r) h

@@ -1,4 +1,5 @@
-use Rattle.std.proofs.Common.{◌^◌, ap, ◌∙◌, arith, lit<}
+use Rattle.std.proofs.Common.{◌*◌, ◌+◌, ◌^◌, ap, ◌∙◌, arith, lit<}
+use Rattle.std.specs.Prelude.{sum_by}
 use Rattle.exact_math.specs.Ends.{add_box}
 use Rattle.cell_lists.proofs.CellNumbers.{level_positive, parent_before}
 use Rattle.cell_lists.specs.Row.{row}
@@ -7,12 +8,13 @@ use Rattle.row_recursions.proofs.RowSizes.{order_small}
 use Rattle.row_recursions.specs.Rows.{row_of}
 use Rattle.soundness.specs.Computed.{total_row}
 use Rattle.soundness.specs.Squares.{quadrant}
-use Rattle.downward_rows.specs.Entries.{pair_row, far_row_of}
+use Rattle.downward_rows.specs.Entries.{pair_row, far_row_of, far_weight}
 use Rattle.downward_rows.specs.FlatRows.{row_at}
 use Rattle.downward_rows.proofs.EntryPlaces.{far_entries}
-use Rattle.downward_rows.proofs.FilledRows.{some_tree}
+use Rattle.downward_rows.proofs.FilledRows.{some_tree, zero_row_within}
 use Rattle.downward_rows.proofs.FlatPlaces.{room}
 use Rattle.downward_rows.proofs.SameRows.{within_same, shifted_down_same}
+use Rattle.downward_rows.proofs.Totals.{row_wider}
 use Rattle.downward_rows.proofs.rows.fill.Goals as goal
 
 pub row_of_cell-parent-requires : goal.row_of_cell-parent-requires
@@ -63,3 +65,14 @@ returns-then-has_target-clause-row g c = λ lo t k h.
     ∙ ap (λ b. add_box b (add_box (total_row (pair_row g.row.P c.args.tree.now c.args.up.now c.args.n) (row c.args.lists.now.v c.args.n) k) (total_row (far_row_of c.args.tree.now c.args.points.now (square_of c.args.tree.now c.args.n)) (row c.args.lists.now.x c.args.n) k)))
     (shifted_down_same g.row.P (row_of c.row_of_cell-parent.result.cells.now) (row_at g.row.P c.args.above.now (node_of c.args.tree.now c.args.n).parent) (quadrant (square_of c.args.tree.now c.args.n))
     (λ j l. c.row_of_cell-parent.ensures j l ∙ ap (λ p. row_at g.row.P c.args.above.now p j) c.parent.ensures) k)
+
+pub returns-then-has_target-clause-size : goal.returns-then-has_target-clause-size
+returns-then-has_target-clause-size g c = λ p q h r.
+    c.fill_below.ensures.size p q
+    (within_same g.row.P p (row_of c.row_of_cell-parent.result.cells.now) (row_at g.row.P c.args.above.now (node_of c.args.tree.now c.args.n).parent)
+    (λ j l. c.row_of_cell-parent.ensures j l ∙ ap (λ m. row_at g.row.P c.args.above.now m j) c.parent.ensures) (h c.if-n-gt0.true)) r
+
+pub returns-clause-size : goal.returns-clause-size
+returns-clause-size g c = λ p q h r.
+    row_wider g.row.P 0 (p + 81 * q + 2 ^ 40 * sum_by (far_weight c.args.tree.now c.args.points.now) (row c.args.lists.now.x c.args.n)) (row_of c.clear.new.cells) (omega arith)
+    (zero_row_within g.row.P c.clear.new.cells (c.clear.auto.cells ∙ c.requires.len) c.clear.ensures)

@@ -1,5 +1,5 @@
-use Rattle.std.proofs.Common.{ℕ, ◌≡◌, ◌+◌, ◌^◌, List, length, ap, ap₂, ◌∙◌, subst, sym, arith, lit<}
-use Rattle.std.specs.Prelude.{All}
+use Rattle.std.proofs.Common.{ℕ, ◌≡◌, ◌+◌, ◌*◌, ◌^◌, List, length, ap, ap₂, ◌∙◌, subst, sym, arith, lit<}
+use Rattle.std.specs.Prelude.{All, sum_by}
 use Rattle.exact_math.specs.Ends.{add_box}
 use Rattle.cell_name.specs.Cell.{square}
 use Rattle.cell_lists.proofs.TreeNumbers.{read_at}
@@ -10,7 +10,7 @@ use Rattle.row_recursions.specs.Cells.{quadrant_of}
 use Rattle.row_recursions.specs.Rows.{row_of, shifted_down}
 use Rattle.soundness.specs.Computed.{total_row}
 use Rattle.soundness.specs.Squares.{quadrant}
-use Rattle.downward_rows.specs.Entries.{IsPairAt, pair_row, far_row_of}
+use Rattle.downward_rows.specs.Entries.{IsPairAt, pair_row, far_row_of, far_weight}
 use Rattle.downward_rows.proofs.FilledRows.{zero_row_within, three_added, quadrant_read}
 use Rattle.downward_rows.proofs.Totals.{row_wider}
 use Rattle.downward_rows.proofs.rows.fill_below.Goals as goal
@@ -32,7 +32,7 @@ add_pairs-requires g c =
               (
                 c.requires.rows,
                 (
-                  λ k d h. c.requires.multipoles _ (pairs k d h).in_range,
+                  c.requires.multipoles,
                   (
                     c.shift_down.ensures.len,
                     (
@@ -61,3 +61,14 @@ returns-clause-row g c = λ k h.
     (ap (λ q. shifted_down g.row.P (row_of c.args.parent.cells.now) q k) (quadrant_read c.quadrant.result (square c.index-cells-n.result) c.quadrant.ensures.right c.quadrant.ensures.top ∙ ap quadrant e))
     (ap₂ add_box (ap (λ l. total_row (pair_row g.row.P c.args.tree.now c.args.up.now c.args.n) l k) c.v_list.ensures)
     (ap₂ (λ b l. total_row (far_row_of c.args.tree.now c.args.points.now b) l k) e c.x_list.ensures))
+
+pub add_far_cells-requires-clause-sum : goal.add_far_cells-requires-clause-sum
+add_far_cells-requires-clause-sum g c =
+    row_wider g.row.P (2 ^ 90 + 0 + 81 * 2 ^ 79) (2 ^ 91) (row_of c.add_pairs.new.into) (omega arith)
+    (c.add_pairs.ensures.size (2 ^ 79) (2 ^ 90 + 0) c.requires.multipoles (c.shift_down.ensures.size (2 ^ 90) 0 c.requires.parent (zero_row_within g.row.P c.clear.new.cells (c.clear.auto.cells ∙ c.requires.len) c.clear.ensures)))
+
+pub returns-clause-size : goal.returns-clause-size
+returns-clause-size g c = λ p q h r.
+    let e : sum_by (far_weight c.args.tree.now c.args.points.now) c.x_list.result.now ≡ sum_by (far_weight c.args.tree.now c.args.points.now) (row c.args.lists.now.x c.args.n) = ap (sum_by (far_weight c.args.tree.now c.args.points.now)) c.x_list.ensures in
+    row_wider g.row.P (p + 0 + 81 * q + 2 ^ 40 * sum_by (far_weight c.args.tree.now c.args.points.now) c.x_list.result.now) (p + 81 * q + 2 ^ 40 * sum_by (far_weight c.args.tree.now c.args.points.now) (row c.args.lists.now.x c.args.n)) (row_of c.add_far_cells.new.into) (omega (arith, e))
+    (c.add_far_cells.ensures.size (p + 0 + 81 * q) (c.add_pairs.ensures.size q (p + 0) r (c.shift_down.ensures.size p 0 h (zero_row_within g.row.P c.clear.new.cells (c.clear.auto.cells ∙ c.requires.len) c.clear.ensures))))

@@ -1,6 +1,11 @@
-use Rattle.std.proofs.Common.{◌^◌, ◌++◌, ap, ◌∙◌, lit<}
+use Rattle.std.proofs.Common.{◌+◌, ◌*◌, ◌^◌, ◌++◌, ap, ◌∙◌, lit<}
+use Rattle.std.specs.Prelude.{sum_by}
 use Rattle.cell_lists.proofs.CellNumbers.{parent_before}
 use Rattle.quadtree.specs.TreeModel.{node_of}
+use Rattle.cell_lists.specs.Row.{row}
+use Rattle.row_recursions.specs.Rows.{row_of}
+use Rattle.downward_rows.proofs.FlatPlaces.{row_here}
+use Rattle.downward_rows.specs.Entries.{far_weight}
 use Rattle.downward_rows.specs.FlatRows.{row_at}
 use Rattle.downward_rows.proofs.FilledRows.{some_tree, others_stay, above_stays, rows_filled}
 use Rattle.downward_rows.proofs.SameRows.{within_same}
@@ -47,3 +52,14 @@ pub returns-clause-others : goal.returns-clause-others
 returns-clause-others g c =
     let whole = c.split_at_mut-above.ensures.value ∙ ap (λ l. c.split_at_mut-above.result.0.now ++ l) c.split_at_mut-into.ensures.value in
     others_stay g.row.P c.args.tree.now c.args.lists.now c.args.points.now c.args.up.now c.args.n c.requires.tree c.requires.number c.split_at_mut-above.result.0.now c.split_at_mut-into.result.0.now c.fill.new.into c.split_at_mut-into.result.1.now c.args.rows.now whole c.split_at_mut-above.ensures.front_len c.split_at_mut-into.ensures.front_len c.fill.ensures.len
+
+pub returns-clause-size : goal.returns-clause-size
+returns-clause-size g c = λ p q h r.
+    let whole = c.split_at_mut-above.ensures.value ∙ ap (λ l. c.split_at_mut-above.result.0.now ++ l) c.split_at_mut-into.ensures.value in
+    let some = some_tree c.args.tree.now c.args.lists.now c.args.points.now c.requires.tree in
+    within_same g.row.P (p + 81 * q + 2 ^ 40 * sum_by (far_weight c.args.tree.now c.args.points.now) (row c.args.lists.now.x c.args.n)) (row_at g.row.P (c.split_at_mut-above.result.0.now ++ (c.fill.new.into ++ c.split_at_mut-into.result.1.now)) c.args.n) (row_of c.fill.new.into)
+    (row_here g.row.P c.args.n c.split_at_mut-above.result.0.now c.split_at_mut-above.ensures.front_len c.fill.new.into c.split_at_mut-into.result.1.now c.fill.ensures.len)
+    (c.fill.ensures.size p q
+    (λ lo. within_same g.row.P p (row_at g.row.P c.split_at_mut-above.result.0.now (node_of c.args.tree.now c.args.n).parent) (row_at g.row.P c.args.rows.now (node_of c.args.tree.now c.args.n).parent)
+    (above_stays g.row.P c.args.tree.now c.args.lists.now c.args.points.now c.args.up.now c.args.n c.requires.tree c.requires.number c.split_at_mut-above.result.0.now c.split_at_mut-into.result.0.now c.split_at_mut-into.result.0.now c.split_at_mut-into.result.1.now c.args.rows.now whole c.split_at_mut-above.ensures.front_len c.split_at_mut-into.ensures.front_len c.split_at_mut-into.ensures.front_len
+    (node_of c.args.tree.now c.args.n).parent (parent_before c.args.tree.now some c.args.n lo c.requires.number).before) (h lo)) r)
