@@ -36,19 +36,19 @@ module _ (tree : TreeModel) (lists : EntryLists) (is : IsTree tree) (are : AreLi
   few_entries = let le = length-le_from_below (size tree) (row (lists_of lists letter) n) (sorted_from_strictly_increasing (row (lists_of lists letter) n) the_list.ascending) the_list.numbers in omega (arith, le, is.is_tree.few)
 
 module _ (P : ℕ) (tree : TreeModel) (lists : EntryLists) (points : List Point) (cap : ℕ) (field : TreeLists) (weights : List ℤ) (n : ℕ) (inside : AreInGrid 16 points) (some : IsTree tree) (are : AreLists tree lists) (is : IsFieldOf tree points cap field) (lt : n < size tree) (given : AreWeights points cap P tree field weights) where
-  pairs_lose : (s : ℕ) → sum_by (pair_loss weights P s) (row lists.v n) ≡ sum_by (pair_radius points cap P field s) (field.entries V (square_of tree n))
+  pairs_lose : (s : ℕ) → sum_by (pair_loss weights P s) (row lists.v n) ≡ sum_by (pair_radius points P s) (field.entries V (square_of tree n))
   pairs_lose s =
-      sum_by-same (pair_loss weights P s) (λ c. pair_radius points cap P field s (square_of tree c)) (row lists.v n)
+      sum_by-same (pair_loss weights P s) (λ c. pair_radius points P s (square_of tree c)) (row lists.v n)
       (λ i d h. ap (λ w. ceiling (unsigned_abs w * pair_tail P) s) (given.each (get_or (row lists.v n) i d) (numbers tree lists some are V n lt i d h)))
-      ∙ sym (sum_by-map (pair_radius points cap P field s) (square_of tree) (row lists.v n))
-      ∙ ap (λ l. sum_by (pair_radius points cap P field s) l) (sym (entries_by_number tree lists points cap field inside are is V n lt))
+      ∙ sym (sum_by-map (pair_radius points P s) (square_of tree) (row lists.v n))
+      ∙ ap (λ l. sum_by (pair_radius points P s) l) (sym (entries_by_number tree lists points cap field inside are is V n lt))
 
-  singles_lose : (s : ℕ) → sum_by (single_loss weights P s) (row lists.x n) ≡ sum_by (single_radius points cap P field s) (field.entries X (square_of tree n))
+  singles_lose : (s : ℕ) → sum_by (single_loss weights P s) (row lists.x n) ≡ sum_by (single_radius points P s) (field.entries X (square_of tree n))
   singles_lose s =
-      sum_by-same (single_loss weights P s) (λ c. single_radius points cap P field s (square_of tree c)) (row lists.x n)
+      sum_by-same (single_loss weights P s) (λ c. single_radius points P s (square_of tree c)) (row lists.x n)
       (λ i d h. ap (λ w. ceiling (unsigned_abs w * single_tail P) s) (given.each (get_or (row lists.x n) i d) (numbers tree lists some are X n lt i d h)))
-      ∙ sym (sum_by-map (single_radius points cap P field s) (square_of tree) (row lists.x n))
-      ∙ ap (λ l. sum_by (single_radius points cap P field s) l) (sym (entries_by_number tree lists points cap field inside are is X n lt))
+      ∙ sym (sum_by-map (single_radius points P s) (square_of tree) (row lists.x n))
+      ∙ ap (λ l. sum_by (single_radius points P s) l) (sym (entries_by_number tree lists points cap field inside are is X n lt))
 
   pub radius_is : 0 < (square_of tree n).level
       → local_radius points cap P field (parent (square_of tree n)) + (sum_by (pair_loss weights P (side (square_of tree n))) (row lists.v n) + sum_by (single_loss weights P (side (square_of tree n))) (row lists.x n)) ≡ local_radius points cap P field (square_of tree n)

@@ -24,4 +24,4 @@ pub record IsWeight (w : ℤ) : Type 0 where
 
 -- the weights are those of all cells
 pub record AreWeights (points : List Point) (cap P : ℕ) (tree : TreeModel) (field : TreeLists) (weights : List ℤ) : Type 0 where
-  pub each : (c : ℕ) → c < size tree → slice_index_or weights c (pos 0) ≡ pos (weight_in points cap P field (square_of tree c))
+  pub each : (c : ℕ) → c < size tree → slice_index_or weights c (pos 0) ≡ pos (weight_in points P (square_of tree c))

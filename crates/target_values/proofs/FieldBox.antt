@@ -144,9 +144,9 @@ module _ (points : List Point) (cap P : ℕ) (entries : TreeLists) (tree : TreeM
         (λ i d l. let n : ℕ = get_or (row lists.w b) i d in multipole_value-same P (row_at P up n) (multipole_row points cap (square_of tree n)) (side (square_of tree n)) (offset (square_of tree n) z) (field.multipole_rows n (numbers_of W b lt i d l)))
         ∙ sym (ap (total_box f) (entries_same W b lt) ∙ total_box-map f (square_of tree) (row lists.w b))
 
-    lost_same : far_radius P tree lists weights b ≡ sum_by (λ c. single_radius points cap P entries (side c) c) (entries.entries W (square_of tree b))
+    lost_same : far_radius P tree lists weights b ≡ sum_by (λ c. single_radius points P (side c) c) (entries.entries W (square_of tree b))
     lost_same =
-        let f : Square → ℕ = λ c. single_radius points cap P entries (side c) c in
+        let f : Square → ℕ = λ c. single_radius points P (side c) c in
         sum_by-same (λ n. ceiling (weight_at weights n * single_tail P) (side (square_of tree n))) (λ n. f (square_of tree n)) (row lists.w b)
         (λ i d l. let n : ℕ = get_or (row lists.w b) i d in ap (λ w. ceiling (w * single_tail P) (side (square_of tree n))) (field.weights_are n (numbers_of W b lt i d l)))
         ∙ sym (ap (sum_by f) (entries_same W b lt) ∙ sum_by-map f (square_of tree) (row lists.w b))

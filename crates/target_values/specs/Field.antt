@@ -12,6 +12,6 @@ pub record IsField (P : ℕ) (points : List Point) (cap : ℕ) (entries : TreeLi
   pub is_tree : IsTreeOf 16 tree points cap
   pub entries_are : AreTreeLists 16 points cap entries
   pub multipole_rows : (n : ℕ) → n < size tree → (k : ℕ) → k < P → row_at P up n k ≡ multipole_row points cap (square_of tree n) k
-  pub weights_are : (n : ℕ) → n < size tree → weight_at weights n ≡ weight_in points cap P entries (square_of tree n)
+  pub weights_are : (n : ℕ) → n < size tree → weight_at weights n ≡ weight_in points P (square_of tree n)
   pub local_row_is : (k : ℕ) → k < P → row_at P local b k ≡ local_row points cap P entries (square_of tree b) k
   pub radius_is : radius ≡ pos (local_radius points cap P entries (square_of tree b))
