@@ -35,7 +35,7 @@ module _ (tree : TreeModel) (lists : EntryLists) (is : IsTree tree) (are : AreLi
   pub few_entries : length (row (lists_of lists letter) n) ≤ 65536
   few_entries = let le = length-le_from_below (size tree) (row (lists_of lists letter) n) (sorted_from_strictly_increasing (row (lists_of lists letter) n) the_list.ascending) the_list.numbers in omega (arith, le, is.is_tree.few)
 
-module _ (P : ℕ) (tree : TreeModel) (lists : EntryLists) (points : List Point) (cap : ℕ) (field : TreeLists) (weights : List ℤ) (n : ℕ) (inside : AreInGrid 16 points) (some : IsTree tree) (are : AreLists tree lists) (is : IsFieldOf tree points cap field) (lt : n < size tree) (given : AreWeights points cap P tree field weights) where
+module _ (P : ℕ) (tree : TreeModel) (lists : EntryLists) (points : List Point) (cap : ℕ) (field : TreeLists) (weights : List ℤ) (n : ℕ) (inside : AreInGrid 16 points) (some : IsTree tree) (are : AreLists tree lists) (is : IsFieldOf tree points cap field) (lt : n < size tree) (given : AreWeights points P tree weights) where
   pairs_lose : (s : ℕ) → sum_by (pair_loss weights P s) (row lists.v n) ≡ sum_by (pair_radius points P s) (field.entries V (square_of tree n))
   pairs_lose s =
       sum_by-same (pair_loss weights P s) (λ c. pair_radius points P s (square_of tree c)) (row lists.v n)

@@ -3,7 +3,6 @@ use Rattle.std.specs.Prelude.{ℕ, ◌*◌, ◌^◌, ◌<◌, ◌≡◌, ℤ, po
 use Rattle.particle_text.specs.declared.Point.{Point}
 use Rattle.quadtree.specs.TreeModel.{TreeModel, size, square_of}
 use Rattle.tree_field.specs.Field.{weight_in}
-use Rattle.tree_field.specs.Lists.{TreeLists}
 use Rattle.truncation.specs.Tails.{ceiling, pair_tail, single_tail}
 
 -- the weight of cell c
@@ -23,5 +22,5 @@ pub record IsWeight (w : ℤ) : Type 0 where
   pub high : w ≤ℤ pos (2 ^ 33)
 
 -- the weights are those of all cells
-pub record AreWeights (points : List Point) (cap P : ℕ) (tree : TreeModel) (field : TreeLists) (weights : List ℤ) : Type 0 where
+pub record AreWeights (points : List Point) (P : ℕ) (tree : TreeModel) (weights : List ℤ) : Type 0 where
   pub each : (c : ℕ) → c < size tree → slice_index_or weights c (pos 0) ≡ pos (weight_in points P (square_of tree c))

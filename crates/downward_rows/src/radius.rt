@@ -69,7 +69,7 @@ pub fn local_radius(
     requires high { parent ≤ℤ pos (2 ^ 120) }
     requires least { 1 ≤ order }
     requires most { order ≤ 32 }
-    ensures radius { (points : List Point) (cap : ℕ) (field : TreeLists) → AreInGrid 16 points → IsFieldOf tree.now points cap field → AreWeights points cap order tree.now field weights.now → (0 < n → parent ≡ pos (local_radius points cap order field (square_of tree.now (node_of tree.now n).parent))) → result ≡ pos (local_radius points cap order field (square_of tree.now n)) }
+    ensures radius { (points : List Point) (cap : ℕ) (field : TreeLists) → AreInGrid 16 points → IsFieldOf tree.now points cap field → AreWeights points order tree.now weights.now → (0 < n → parent ≡ pos (local_radius points cap order field (square_of tree.now (node_of tree.now n).parent))) → result ≡ pos (local_radius points cap order field (square_of tree.now n)) }
     ensures low { pos 0 ≤ℤ result }
     ensures high { result ≤ℤ (parent +ℤ pos (2 ^ 92)) }
 {
