@@ -1,59 +1,9 @@
 // The loops of crates/arithmetic_bench in plain Rust with i128 and the plain formulas, for comparison.
 // rustc -O bench/plain_arithmetic.rs -o plain_arithmetic && ./plain_arithmetic
+mod plain_box;
+
+use plain_box::{CBox, Interval};
 use std::time::Instant;
-
-#[derive(Clone, Copy)]
-struct Interval {
-    lo: i128,
-    hi: i128,
-}
-
-#[derive(Clone, Copy)]
-struct CBox {
-    re: Interval,
-    im: Interval,
-}
-
-impl Interval {
-    fn add(self, o: Interval) -> Interval {
-        Interval { lo: self.lo + o.lo, hi: self.hi + o.hi }
-    }
-
-    fn sub(self, o: Interval) -> Interval {
-        Interval { lo: self.lo - o.hi, hi: self.hi - o.lo }
-    }
-
-    fn times(self, o: Interval) -> Interval {
-        let (a, b, c, d) = (self.lo * o.lo, self.lo * o.hi, self.hi * o.lo, self.hi * o.hi);
-        Interval { lo: a.min(b).min(c.min(d)), hi: a.max(b).max(c.max(d)) }
-    }
-
-    fn scale(self, k: i128) -> Interval {
-        let (a, b) = (self.lo * k, self.hi * k);
-        Interval { lo: a.min(b), hi: a.max(b) }
-    }
-
-    fn quot(self, n: i128) -> Interval {
-        Interval { lo: self.lo.div_euclid(n), hi: -(-self.hi).div_euclid(n) }
-    }
-
-    fn quot_shift(self, k: u32) -> Interval {
-        Interval { lo: self.lo >> k, hi: -(-self.hi >> k) }
-    }
-}
-
-impl CBox {
-    fn add(self, o: CBox) -> CBox {
-        CBox { re: self.re.add(o.re), im: self.im.add(o.im) }
-    }
-
-    fn times(self, o: CBox) -> CBox {
-        CBox {
-            re: self.re.times(o.re).sub(self.im.times(o.im)),
-            im: self.re.times(o.im).add(self.im.times(o.re)),
-        }
-    }
-}
 
 fn mixed(k: u64) -> u64 {
     k.wrapping_mul(6_364_136_223_846_793_005).wrapping_add(1_442_695_040_888_963_407)
@@ -105,9 +55,9 @@ fn main() {
     measure("samples", count, |k| folded(interval(k)) ^ folded(interval(k + 1)));
     measure("times", count, |k| folded(interval(k).times(interval(k + 1))));
     measure("scale", count, |k| folded(interval(k).scale(number(k + 1))));
-    measure("quot", count, |k| folded(interval(k).quot(1_000_000_007 + i128::from(k % 1024))));
-    measure("wide_quot", count, |k| folded(wide_interval(k).quot(1_000_000_007 + i128::from(k % 1024))));
-    measure("quot_shift", count, |k| folded(interval(k).quot_shift((k % 32) as u32 + 1)));
+    measure("quot", count, |k| folded(interval(k).quotient(1_000_000_007 + i128::from(k % 1024))));
+    measure("wide_quot", count, |k| folded(wide_interval(k).quotient(1_000_000_007 + i128::from(k % 1024))));
+    measure("quot_shift", count, |k| folded(interval(k).shifted((k % 32) as u32 + 1)));
     measure("box_samples", count, |k| {
         let (one, other) = (boxed(k), boxed(k + 1));
         folded(one.re) ^ folded(one.im) ^ folded(other.re) ^ folded(other.im)
@@ -118,5 +68,5 @@ fn main() {
     for k in 0..count {
         sum = sum.add(boxed(k).times(boxed(k + 1)));
     }
-    report("add_product", folded(sum.re.quot(1 << 40)) ^ folded(sum.im.quot(1 << 40)), start);
+    report("add_product", folded(sum.re.quotient(1 << 40)) ^ folded(sum.im.quotient(1 << 40)), start);
 }

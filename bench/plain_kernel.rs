@@ -1,42 +1,10 @@
 // The kernel's table of order 24 in plain Rust, for comparison: the same rounded powers and entries in i128, no proof.
+mod plain_box;
+
+use plain_box::{CBox, Interval};
 use std::time::Instant;
 
 const ORDER: usize = 24;
-
-#[derive(Clone, Copy)]
-struct Interval {
-    lo: i128,
-    hi: i128,
-}
-
-#[derive(Clone, Copy)]
-struct CBox {
-    re: Interval,
-    im: Interval,
-}
-
-fn ceiling(n: i128, d: i128) -> i128 {
-    -(-n).div_euclid(d)
-}
-
-impl Interval {
-    fn scale(self, s: i128) -> Interval {
-        let (a, b) = (s * self.lo, s * self.hi);
-        Interval { lo: a.min(b), hi: a.max(b) }
-    }
-    fn add(self, other: Interval) -> Interval {
-        Interval { lo: self.lo + other.lo, hi: self.hi + other.hi }
-    }
-    fn quotient(self, d: i128) -> Interval {
-        Interval { lo: self.lo.div_euclid(d), hi: ceiling(self.hi, d) }
-    }
-    fn shifted(self, bits: u32) -> Interval {
-        Interval { lo: self.lo >> bits, hi: -((-self.hi) >> bits) }
-    }
-    fn signed(self, odd: bool) -> Interval {
-        if odd { Interval { lo: -self.hi, hi: -self.lo } } else { self }
-    }
-}
 
 fn next_power(p: CBox, re: i128, im: i128, norm: i128) -> CBox {
     CBox {
@@ -66,7 +34,7 @@ fn table() -> Vec<CBox> {
     }
     for (re, im) in distances {
         let norm = re * re + im * im;
-        let point = |n: i128| Interval { lo: n.div_euclid(norm), hi: ceiling(n, norm) };
+        let point = |n: i128| Interval { lo: n, hi: n }.quotient(norm);
         let mut power = CBox { re: point(re << 60), im: point(-(im << 60)) };
         let mut powers = Vec::with_capacity(2 * ORDER - 1);
         for _ in 0..2 * ORDER - 1 {

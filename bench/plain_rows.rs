@@ -1,55 +1,20 @@
 // The calls on rows of order 16 in plain Rust, for comparison: `i128` with no proof, in the loops of `row_bench`. First by the formulas, with the four
 // products of a product of intervals and a division for each end of a quotient, whose divisors the compiler doesn't know; then some of them in the steps
 // of the proved calls: sums of the parts and shifts, and two products where the sign is definite.
+mod plain_box;
+
+use plain_box::{CBox, Interval};
 use std::hint::black_box;
 use std::time::Instant;
 
 const ORDER: usize = 16;
 const SIDE: i128 = 1024;
 
-#[derive(Clone, Copy)]
-struct Interval {
-    lo: i128,
-    hi: i128,
-}
-
-#[derive(Clone, Copy)]
-struct CBox {
-    re: Interval,
-    im: Interval,
-}
-
 type Row = [CBox; ORDER];
 
 const ZERO: CBox = CBox { re: Interval { lo: 0, hi: 0 }, im: Interval { lo: 0, hi: 0 } };
 
 impl Interval {
-    fn scale(self, s: i128) -> Interval {
-        let (a, b) = (s * self.lo, s * self.hi);
-        Interval { lo: a.min(b), hi: a.max(b) }
-    }
-    fn add(self, other: Interval) -> Interval {
-        Interval { lo: self.lo + other.lo, hi: self.hi + other.hi }
-    }
-    fn sub(self, other: Interval) -> Interval {
-        Interval { lo: self.lo - other.hi, hi: self.hi - other.lo }
-    }
-    fn neg(self) -> Interval {
-        Interval { lo: -self.hi, hi: -self.lo }
-    }
-    fn quotient(self, d: i128) -> Interval {
-        Interval { lo: self.lo.div_euclid(d), hi: -(-self.hi).div_euclid(d) }
-    }
-    fn shifted(self, bits: u32) -> Interval {
-        Interval { lo: self.lo >> bits, hi: -((-self.hi) >> bits) }
-    }
-    fn signed(self, odd: bool) -> Interval {
-        if odd { self.neg() } else { self }
-    }
-    fn product(self, other: Interval) -> Interval {
-        let ends = [self.lo * other.lo, self.lo * other.hi, self.hi * other.lo, self.hi * other.hi];
-        Interval { lo: ends[0].min(ends[1]).min(ends[2].min(ends[3])), hi: ends[0].max(ends[1]).max(ends[2].max(ends[3])) }
-    }
     fn product_by_sign(self, other: Interval) -> Interval {
         let low = |lo: i128, hi: i128, factor: i128| if factor < 0 { hi * factor } else { lo * factor };
         let high = |lo: i128, hi: i128, factor: i128| if factor < 0 { lo * factor } else { hi * factor };
@@ -58,7 +23,7 @@ impl Interval {
         } else if self.hi <= 0 {
             Interval { lo: low(self.lo, self.hi, other.hi), hi: high(self.lo, self.hi, other.lo) }
         } else {
-            self.product(other)
+            self.times(other)
         }
     }
 }
@@ -67,23 +32,14 @@ impl CBox {
     fn point(re: i128, im: i128) -> CBox {
         CBox { re: Interval { lo: re, hi: re }, im: Interval { lo: im, hi: im } }
     }
-    fn add(self, other: CBox) -> CBox {
-        CBox { re: self.re.add(other.re), im: self.im.add(other.im) }
-    }
     fn neg(self) -> CBox {
         CBox { re: self.re.neg(), im: self.im.neg() }
     }
     fn scale(self, s: i128) -> CBox {
         CBox { re: self.re.scale(s), im: self.im.scale(s) }
     }
-    fn times(self, re: i128, im: i128) -> CBox {
+    fn times_gaussian(self, re: i128, im: i128) -> CBox {
         CBox { re: self.re.scale(re).sub(self.im.scale(im)), im: self.re.scale(im).add(self.im.scale(re)) }
-    }
-    fn product(self, other: CBox) -> CBox {
-        CBox {
-            re: self.re.product(other.re).sub(self.im.product(other.im)),
-            im: self.re.product(other.im).add(self.im.product(other.re)),
-        }
     }
     fn product_by_sign(self, other: CBox) -> CBox {
         CBox {
@@ -128,7 +84,7 @@ fn table() -> Vec<CBox> {
         let mut powers = Vec::with_capacity(2 * ORDER - 1);
         for _ in 0..2 * ORDER - 1 {
             powers.push(power);
-            power = power.times(2 * re, -2 * im).quotient(norm);
+            power = power.times_gaussian(2 * re, -2 * im).quotient(norm);
         }
         for i in 0..ORDER * ORDER {
             let (k, l) = (i % ORDER, i / ORDER);
@@ -154,7 +110,7 @@ fn shift_up(child: &Row, (right, top): (bool, bool), into: &mut Row, four: i128)
     for r in 0..ORDER {
         into[r] = into[r].add(row[0]);
         for i in 0..ORDER - 1 - r {
-            row[i] = row[i + 1].scale(2).add(row[i].times(re, im)).quotient(four);
+            row[i] = row[i + 1].scale(2).add(row[i].times_gaussian(re, im)).quotient(four);
         }
     }
 }
@@ -165,7 +121,7 @@ fn convert(kernel: &[CBox], row: &Row, (re, im): (i64, i64), into: &mut Row, uni
     for l in 0..ORDER {
         let mut sum = ZERO;
         for k in 0..ORDER {
-            sum = sum.add(kernel[start + l * ORDER + k].product(row[k]));
+            sum = sum.add(kernel[start + l * ORDER + k].times(row[k]));
         }
         into[l] = into[l].add(sum.quotient(unit));
     }
@@ -177,9 +133,9 @@ fn shift_down(parent: &Row, (right, top): (bool, bool), into: &mut Row, four: i1
     let mut moved = [ZERO; ORDER];
     for n in 0..ORDER {
         for k in (1..ORDER).rev() {
-            moved[k] = moved[k].times(re, im).add(moved[k - 1].scale(2)).quotient(four);
+            moved[k] = moved[k].times_gaussian(re, im).add(moved[k - 1].scale(2)).quotient(four);
         }
-        moved[0] = parent[ORDER - 1 - n].add(moved[0].times(re, im).quotient(four));
+        moved[0] = parent[ORDER - 1 - n].add(moved[0].times_gaussian(re, im).quotient(four));
     }
     for k in 0..ORDER {
         into[k] = into[k].add(moved[k].quotient(four / 2));
@@ -205,14 +161,14 @@ fn add_source(into: &mut Row, (x, y): (i64, i64), source: Source, side: i128) {
             let mut power = CBox::point(q << 40, 0);
             for k in 0..ORDER {
                 into[k] = into[k].add(power);
-                power = power.times(re, im).quotient(2 * side);
+                power = power.times_gaussian(re, im).quotient(2 * side);
             }
         }
         Source::Dipole(a, b) => {
             let mut power = CBox::point(a << 40, b << 40).quotient(side);
             for k in 1..ORDER {
                 into[k] = into[k].add(power.scale(k as i128));
-                power = power.times(re, im).quotient(2 * side);
+                power = power.times_gaussian(re, im).quotient(2 * side);
             }
         }
     }
@@ -222,7 +178,7 @@ fn add_source(into: &mut Row, (x, y): (i64, i64), source: Source, side: i128) {
 fn add_far_source(into: &mut Row, (x, y): (i64, i64), source: Source, side: i128) {
     let (re, im) = offset(x, y);
     let norm = re * re + im * im;
-    let next = |power: CBox| power.times(2 * side * re, -2 * side * im).quotient(norm);
+    let next = |power: CBox| power.times_gaussian(2 * side * re, -2 * side * im).quotient(norm);
     match source {
         Source::Charge(q) => {
             let mut power = CBox::point(q << 40, 0);
@@ -246,7 +202,7 @@ fn at_local(row: &Row, (x, y): (i64, i64), side: i128) -> CBox {
     let (re, im) = offset(x, y);
     let mut value = ZERO;
     for n in 0..ORDER {
-        value = value.times(re, im).quotient(2 * side).add(row[ORDER - 1 - n]);
+        value = value.times_gaussian(re, im).quotient(2 * side).add(row[ORDER - 1 - n]);
     }
     value.quotient(side)
 }
@@ -257,7 +213,7 @@ fn at_multipole(row: &Row, (x, y): (i64, i64), side: i128) -> CBox {
     let norm = re * re + im * im;
     let mut value = ZERO;
     for n in 0..ORDER {
-        value = value.add(row[ORDER - 1 - n]).times(2 * side * re, -2 * side * im).quotient(norm);
+        value = value.add(row[ORDER - 1 - n]).times_gaussian(2 * side * re, -2 * side * im).quotient(norm);
     }
     value.quotient(side)
 }
