@@ -50,7 +50,8 @@ fn ceil_quot(z: i128, n: i128) -> i128
 }
 
 /// The least whole number that is at least `z / n`, where `floor` is the quotient of a number `below`, at most `z`,
-/// that was rounded down. No division is needed where `z` is at most one multiple of `n` above it.
+/// that was rounded down. No division is needed where `z` is at most one multiple of `n` above it, and one of 64 bits
+/// where it is at most `2^62` above: `ceil(z / n) = floor + ceil((z - floor n) / n)`.
 #[inline(always)]
 pub fn ceil_near(z: i128, n: i128, below: i128, floor: i128) -> i128
     requires divisor { pos 1 ≤ℤ n }
@@ -68,6 +69,9 @@ pub fn ceil_near(z: i128, n: i128, below: i128, floor: i128) -> i128
         }
         if z - n <= reached {
             return floor + 1;
+        }
+        if z <= reached + NARROW {
+            return floor + ceil_quot(z - reached, n);
         }
     }
     ceil_quot(z, n)
