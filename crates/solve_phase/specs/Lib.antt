@@ -1,0 +1,3 @@
+-- What the contracts cite: the parts of a field, and the field of a list of points.
+pub mod Field
+pub mod Parts

@@ -1,0 +1,28 @@
+//! The weights of all cells.
+ghost use Rattle.std.specs.Prelude.{◌≡◌, ◌≤◌, length, All};
+ghost use Rattle.quadtree.specs.TreeModel.{size};
+ghost use Rattle.tree_rows.specs.FieldRows.{AreWeights};
+ghost use Rattle.tree_rows.specs.FlatRows.{IsWeight};
+ghost use Rattle.tree_rows.specs.Trees.{IsTreeOfPoints};
+
+use error_ledger::weight;
+use particle_text::Point;
+use quadtree::Tree;
+
+/// Writes the weight of each cell, the sum of `abs(a) + 2 order abs(b)` over the sources in it.
+///
+/// Conditions: the tree is that of the points, which are within the limits; `order` is 1 to 32; there is a weight for each cell.
+pub fn weigh_cells(tree: &Tree, points: &[Point], order: u32, weights: &mut [i128])
+    requires tree { IsTreeOfPoints points.now tree.now }
+    requires least { 1 ≤ order }
+    requires most { order ≤ 32 }
+    requires len { length weights.old ≡ size tree.now }
+    ensures len { length weights.new ≡ size tree.now }
+    ensures weights { AreWeights points.now order tree.now weights.new }
+    ensures size { All IsWeight weights.new }
+{
+    for n in 0..tree.cells().len() {
+        let members = tree.members(n).iter();
+        weights[n] = members.map(|k| weight(&points[*k as usize], order)).sum();
+    }
+}
