@@ -1,2 +1,10 @@
 -- What the proofs of this crate rest on.
+pub mod BoxSizes
+pub mod CellSources
+pub mod CellWeights
 pub mod Disjoint
+pub mod EntrySums
+pub mod LocalSizes
+pub mod MultipoleSizes
+pub mod Radii
+pub mod RowTotals

@@ -1,23 +1,21 @@
 -- The points of a cell by their positions.
-use Rattle.std.proofs.Common.{ℕ, zero, suc, ◌≡◌, ◌+◌, ◌<◌, ◌≤◌, List, [], ◌∷◌, ◌++◌, length, get_or, take, drop, map, filter, Bool, true, false, not, cond, ◌&&◌, refl, sym, ap, ap₂, ◌∙◌, subst, arith, append_assoc, append-nil, length-append}
+use Rattle.std.proofs.Common.{ℕ, zero, suc, ◌≡◌, ◌+◌, ◌<◌, ◌≤◌, List, [], ◌∷◌, ◌++◌, length, get_or, take, drop, map, filter, Bool, true, false, cond, ◌&&◌, refl, sym, ap, ap₂, ◌∙◌, subst, arith, append_assoc, append-nil, length-append}
 use Rattle.std.specs.Prelude.{Some, Contains, All, pos, sum_by}
 use Rattle.std.specs.List.{range_with_len}
 use Rattle.std.proofs.lemmas.List.{map-append, take_more, take-append-drop, get_or-map, length-map}
 use Rattle.std.proofs.lemmas.List.Elements.{filter-append, All-filter, All-take, Contains-get_or}
-use Rattle.std.proofs.lemmas.List.Filters.{sum_by-filter_both}
 use Rattle.std.proofs.lemmas.List.Sums.{sum_by-append}
 use Rattle.std.proofs.lemmas.Option.{slice_get-get_or, slice_get_within, get_or_from_slice_get}
-use Rattle.cell_name.specs.Square.{Square, Holds, holds_test}
+use Rattle.cell_name.specs.Square.{Square, holds_test}
 use Rattle.near_field.specs.DirectSum.{is_source}
 use Rattle.particle_text.specs.declared.Kind.TheVariants.{Charge}
 use Rattle.particle_text.specs.declared.Point.{Point}
 use Rattle.particle_text.specs.Limits.{weight64, total_weight}
 use Rattle.quadtree.specs.Members.{holds_point, holds_position, members_of}
-use Rattle.cell_name.proofs.HoldsTest.{Holds-from_test}
-use Rattle.quadtree.proofs.Distinct.{Contains-filter}
 use Rattle.quadtree.proofs.PointKinds.{member_point}
 use Rattle.tree_field.specs.Field.{is_source_in, sources_in}
 use Rattle.tree_field.proofs.Members.{filter-filter, filter_same}
+use Rattle.field_sizes.proofs.CellSources.{IsHeld, sum_by-filter}
 
 -- what stands for the point past the last
 abbrev pub no_point : Point
@@ -76,9 +74,6 @@ pub sources_at-members : (points : List Point) (c : Square) → sources_at point
 sources_at-members points c = ap (filter source_test) (points_at-members points c) ∙ sources_among points c
 
 -- ---- weights
-pub sum_by-filter : {X : Type 0} (f : X → ℕ) (p : X → Bool) (xs : List X) → sum_by f (filter p xs) ≤ sum_by f xs
-sum_by-filter f p xs = omega (arith, sum_by-filter_both p (λ x. not (p x)) (λ x. refl) f xs)
-
 pub sum_by-take : (f : Point → ℕ) (points : List Point) (order : List ℕ) (i : ℕ) → sum_by f (points_at points (take i order)) ≤ sum_by f (points_at points order)
 sum_by-take f points order i =
     let at : ℕ → Point = λ k. get_or points k no_point in
@@ -109,9 +104,6 @@ pub more_no : (points : List Point) (order : List ℕ) (i : ℕ) (p : Point) →
 more_no points order i p lt e t = sources_more points order i p lt e ∙ ap (λ b. sources_at points (take i order) ++ cond b (p ∷ []) []) t ∙ append-nil (sources_at points (take i order))
 
 -- ---- a member is the position of a point that the cell holds
-abbrev pub IsHeld : Square → Point → Type 0
-IsHeld c p = Holds c p.x p.y
-
 pub record IsMemberAt (points : List Point) (c : Square) (k : ℕ) : Type 0 where
   pub inside : k < length points
   pub held : IsHeld c (get_or points k no_point)
@@ -138,8 +130,3 @@ held_so_far points c order i e =
     cut order zero = refl
     cut [] (suc i) = refl
     cut (k ∷ order) (suc i) = ap (λ l. get_or points k no_point ∷ l) (cut order i)
-
-pub all_held : (points : List Point) (c : Square) → All (IsHeld c) (points_in points c)
-all_held points c i d lt =
-    let kept = Contains-filter (λ p. holds_test c p.x p.y) points (get_or (points_in points c) i d) (Contains-get_or (points_in points c) i d lt) in
-    Holds-from_test c _ _ kept.1

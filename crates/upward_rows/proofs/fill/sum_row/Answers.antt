@@ -16,7 +16,8 @@ use Rattle.cell_lists.proofs.TreeNumbers.{read_at}
 use Rattle.complex_box.proofs.Sizes.{box_wider}
 use Rattle.tree_field.specs.Field.{leaf_row}
 use Rattle.tree_field.proofs.MultipoleRows.{multipole_row-split}
-use Rattle.upward_rows.proofs.Sizes.{multipole_row-light, shifted_sum_within}
+use Rattle.field_sizes.proofs.MultipoleSizes.{multipole_row-light}
+use Rattle.upward_rows.proofs.Sizes.{shifted_sum_within}
 use Rattle.upward_rows.proofs.Slices.{row_fits, row_behind}
 use Rattle.upward_rows.proofs.Totals.{total_row-more, shifted_same}
 use Rattle.upward_rows.proofs.Trees.{inner_is, quarter_behind, row_of_leaf, quarter_read, quarter_is_one, source_from_node, no_quarter, quadrant_is, kept_more, kept_same}

@@ -11,7 +11,7 @@ use Rattle.row_recursions.specs.Rows.{row_of}
 use Rattle.row_recursions.proofs.RowSizes.{order_small}
 use Rattle.soundness.specs.Computed.{total_row, moments_in}
 use Rattle.upward_rows.proofs.Points.{no_point, sources_at, sources_at-members, weight_so_far, more_yes, more_no, member_at, held_so_far}
-use Rattle.upward_rows.proofs.Sizes.{sources_within}
+use Rattle.field_sizes.proofs.MultipoleSizes.{sources_within}
 use Rattle.upward_rows.proofs.Totals.{total_row-more}
 use Rattle.upward_rows.proofs.sources.sum_sources.Goals as goal
 use Rattle.upward_rows.proofs.sources.sum_sources.Goals.{then-is_source, else-is_source}

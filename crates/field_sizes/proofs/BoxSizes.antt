@@ -1,0 +1,100 @@
+-- How large the boxes of the targets are.
+use Rattle.std.proofs.Common.{ℕ, ◌+◌, ◌-◌, ◌*◌, ◌^◌, ◌≤◌, List, get_or, ◌∙◌, sym, subst, arith, pos}
+use Rattle.std.specs.Prelude.{sum_by}
+use Rattle.std.proofs.Math.Nat.{mul-le-mul_right}
+use Rattle.std.proofs.lemmas.Int.{ints}
+use Rattle.exact_math.specs.Ends.{BoxEndsWithin, add_box}
+use Rattle.exact_math.specs.Gaussian.{Gaussian}
+use Rattle.exact_math.specs.Within.{Within}
+use Rattle.complex_box.proofs.Sizes.{box_wider, add_box_within, widen_box_within}
+use Rattle.cell_name.specs.Square.{Square, side}
+use Rattle.cell_name.proofs.Cells.{Touches-sym}
+use Rattle.cell_lists.specs.Entries.{IsWPair}
+use Rattle.cert_text.specs.declared.Letter.TheVariants.{U, W}
+use Rattle.near_field.specs.Pair.{pair_box}
+use Rattle.near_field.proofs.PairSizes.{pair_box-within}
+use Rattle.particle_text.specs.declared.Point.{Point}
+use Rattle.particle_text.specs.Limits.{weight64, total_weight}
+use Rattle.particle_text.specs.Points.{place}
+use Rattle.quadtree.specs.Tree.{IsLeaf}
+use Rattle.quadtree.proofs.Distinct.{Contains-filter}
+use Rattle.row_recursions.specs.Rows.{multipole_value}
+use Rattle.row_recursions.proofs.Geometry.{held_places, far_places}
+use Rattle.row_recursions.proofs.RowSizes.{local_value_within, multipole_value_within, order_small, power_positive}
+use Rattle.soundness.specs.Computed.{total_box}
+use Rattle.soundness.specs.Squares.{offset}
+use Rattle.tree_field.specs.Field.{sources_in, targets, multipole_row, leaf_at, local_row, single_radius, local_value_at, multipole_values_at, pairs_at, radius_in, box_in, target_box}
+use Rattle.tree_field.specs.Lists.{TreeLists}
+use Rattle.tree_field.proofs.Leaves.{leaf_is, leaf_holds}
+use Rattle.tree_field.proofs.Members.{All-from_members}
+use Rattle.field_sizes.proofs.CellSources.{IsHeld}
+use Rattle.field_sizes.proofs.CellWeights.{weight64_in}
+use Rattle.field_sizes.proofs.EntrySums.{total_box-entries, sum_by-entries}
+use Rattle.field_sizes.proofs.LocalSizes.{local_row-light}
+use Rattle.field_sizes.proofs.MultipoleSizes.{multipole_row-within}
+use Rattle.field_sizes.proofs.Radii.{single_radius-within, local_radius-light}
+use Rattle.field_sizes.proofs.RowTotals.{total_box-within, sum_by-times}
+use Rattle.field_sizes.specs.Sizes.{EntriesShareNoSource, IsLimited, BoxSizes}
+
+-- the pairs of a place and some sources
+pairs_within : (z : Gaussian) (xs : List Point) → BoxEndsWithin (2 ^ 40 * sum_by weight64 xs) (total_box (pair_box z) xs)
+pairs_within z xs = subst (λ n. BoxEndsWithin n (total_box (pair_box z) xs)) (sum_by-times (2 ^ 40) weight64 xs) (total_box-within (pair_box z) (λ p. 2 ^ 40 * weight64 p) xs (λ i d lt. pair_box-within z (get_or xs i d)))
+
+values_of : (P w : ℕ) → P * (2 ^ 40 * w) ≤ P * 2 ^ 40 * w
+values_of P w = omega arith
+
+-- all parts of a box together
+all_parts : (P w : ℕ) → P ≤ 24 → w ≤ 2 ^ 32 → P * 2 ^ 78 + (P * 2 ^ 40 * w + 2 ^ 40 * w) + (2 ^ 78 + 2 ^ 40 * w) ≤ 2 ^ 84
+all_parts P w h light =
+    let a = mul-le-mul_right (2 ^ 40 * w) h in
+    omega (arith, a, h, light)
+
+number_within : (m n : ℕ) → m ≤ n → Within n (pos m)
+number_within m n h = record { above = omega (arith, ints); below = omega (arith, ints) }
+
+module _ (apart : EntriesShareNoSource) (points : List Point) (cap P : ℕ) (lists : TreeLists) (few : P ≤ 32) (limited : IsLimited points cap lists) where
+  -- at a place in a leaf
+  module _ (b : Square) (t : Point) (leaf : IsLeaf 16 points cap b) (held : IsHeld b t) where
+    abbrev z : Gaussian
+    z = place t
+
+    local_value-light : BoxEndsWithin (P * 2 ^ 78) (local_value_at points cap P lists b z)
+    local_value-light = local_value_within P (2 ^ 78) (side b) (offset b z) (local_row points cap P lists b) (power_positive (b.grid - b.level)) (held_places b t.x t.y held) (local_row-light apart points cap P lists few limited b leaf.in_tree)
+
+    multipole_values-within : BoxEndsWithin (P * 2 ^ 40 * total_weight points) (multipole_values_at points cap P lists b z)
+    multipole_values-within = total_box-entries apart points cap lists limited W b leaf.in_tree (P * 2 ^ 40) (λ c. multipole_value P (multipole_row points cap c) (side c) (offset c z)) (λ c e. one c e.pair)
+      where
+        one : (c : Square) → IsWPair 16 points cap b c → BoxEndsWithin (P * 2 ^ 40 * weight64_in points c) (multipole_value P (multipole_row points cap c) (side c) (offset c z))
+        one c pair =
+            let other = pair.second_in_tree in
+            let low : c.level ≤ c.grid = omega (arith, other.level_in_grid, other.of_grid) in
+            box_wider (P * (2 ^ 40 * weight64_in points c)) (P * 2 ^ 40 * weight64_in points c) _ (values_of P (weight64_in points c))
+            (multipole_value_within P (2 ^ 40 * weight64_in points c) (side c) (offset c z) (multipole_row points cap c) (power_positive (c.grid - c.level))
+            (far_places b c t.x t.y (leaf.in_tree.of_grid ∙ sym other.of_grid) (omega (arith, pair.comes_apart.deeper)) low (λ w. pair.comes_apart.apart (Touches-sym b c w)) held)
+            (multipole_row-within P points cap c (omega arith) low))
+
+    pairs-within : BoxEndsWithin (2 ^ 40 * total_weight points) (pairs_at points cap P lists b z)
+    pairs-within = total_box-entries apart points cap lists limited U b leaf.in_tree (2 ^ 40) (λ c. total_box (pair_box z) (sources_in points c)) (λ c e. pairs_within z (sources_in points c))
+
+    radius-within : radius_in points cap P lists b ≤ 2 ^ 78 + 2 ^ 40 * total_weight points
+    radius-within =
+        let a = local_radius-light apart points cap P lists few limited b leaf.in_tree in
+        let s = sum_by-entries apart points cap lists limited W b leaf.in_tree P (2 ^ 40) (λ c. single_radius points P (side c) c) few (λ c. single_radius-within points P c c) in
+        omega (arith, a, s)
+
+    pub box_in-light : P ≤ 24 → BoxEndsWithin (2 ^ 84) (box_in points cap P lists b z)
+    box_in-light order = box_wider (P * 2 ^ 78 + (P * 2 ^ 40 * total_weight points + 2 ^ 40 * total_weight points) + (2 ^ 78 + 2 ^ 40 * total_weight points)) (2 ^ 84) _ (all_parts P (total_weight points) order limited.light)
+        (widen_box_within (P * 2 ^ 78 + (P * 2 ^ 40 * total_weight points + 2 ^ 40 * total_weight points)) (2 ^ 78 + 2 ^ 40 * total_weight points)
+        (add_box (local_value_at points cap P lists b z) (add_box (multipole_values_at points cap P lists b z) (pairs_at points cap P lists b z))) (pos (radius_in points cap P lists b))
+        (add_box_within (P * 2 ^ 78) (P * 2 ^ 40 * total_weight points + 2 ^ 40 * total_weight points) (local_value_at points cap P lists b z) (add_box (multipole_values_at points cap P lists b z) (pairs_at points cap P lists b z)) local_value-light
+        (add_box_within (P * 2 ^ 40 * total_weight points) (2 ^ 40 * total_weight points) (multipole_values_at points cap P lists b z) (pairs_at points cap P lists b z) multipole_values-within pairs-within))
+        (number_within (radius_in points cap P lists b) (2 ^ 78 + 2 ^ 40 * total_weight points) radius-within))
+
+pub box_sizes : EntriesShareNoSource → BoxSizes
+box_sizes apart points cap P lists order limited =
+    let few = order_small P order in
+    All-from_members (λ t. BoxEndsWithin (2 ^ 84) (target_box points cap P lists 16 (place t))) (targets points) (λ t h.
+    let listed = (Contains-filter _ points t h).0 in
+    let are = limited.lists_are.cells_are in
+    box_in-light apart points cap P lists (omega arith) limited (leaf_at points cap 16 (place t)) t
+    (leaf_is 16 points cap lists.cells (omega arith) limited.in_grid are t listed) (leaf_holds 16 points cap lists.cells (omega arith) limited.in_grid are t listed) few)

@@ -1,0 +1,73 @@
+-- How large the radii of the field are: a level adds at most a multiple of the weight of all points.
+use Rattle.std.proofs.Common.{ℕ, ◌≡◌, ◌+◌, ◌-◌, ◌*◌, ◌^◌, ◌<◌, ◌≤◌, zero, suc, List, refl, arith}
+use Rattle.std.specs.Prelude.{sum_by}
+use Rattle.std.proofs.Math.Nat.{mul-le-mul_left, mul-le-mul_right, div-lt_iff_lt-mul}
+use Rattle.cell_name.specs.Square.{Square, side, parent}
+use Rattle.cert_text.specs.declared.Letter.TheVariants.{V, X}
+use Rattle.particle_text.specs.declared.Point.{Point}
+use Rattle.particle_text.specs.Limits.{total_weight}
+use Rattle.quadtree.specs.Tree.{IsTreeCell}
+use Rattle.quadtree.proofs.Parents.{IsTreeCell-parent}
+use Rattle.row_recursions.proofs.RowSizes.{order_small, power_positive}
+use Rattle.truncation.specs.Tails.{ceiling, pair_tail, single_tail}
+use Rattle.truncation.proofs.Tails.{pair_tail_le, single_tail_le}
+use Rattle.tree_field.specs.Field.{weight_in, pair_radius, single_radius, local_radius}
+use Rattle.tree_field.specs.Lists.{TreeLists}
+use Rattle.tree_field.proofs.LocalRows.{local_radius-root, local_radius-below}
+use Rattle.field_sizes.proofs.EntrySums.{sum_by-entries}
+use Rattle.field_sizes.specs.Sizes.{EntriesShareNoSource, IsLimited, RadiusSizes}
+
+ceiling_le : (a s : ℕ) → 1 ≤ s → ceiling a s ≤ a
+ceiling_le a s h =
+    let m : a * 1 ≤ a * s = mul-le-mul_left a h in
+    let l : ceiling a s < a + 1 = (div-lt_iff_lt-mul {k = s} {x = a + (s - 1)} {y = a + 1} h).1 (omega (arith, m)) in
+    omega (arith, l)
+
+loses : (w t m s : ℕ) → 1 ≤ s → t ≤ m → ceiling (w * t) s ≤ m * w
+loses w t m s h le =
+    let a = ceiling_le (w * t) s h in
+    let b = mul-le-mul_left w le in
+    omega (arith, a, b)
+
+pub pair_radius-within : (points : List Point) (P : ℕ) (b c : Square) → pair_radius points P (side b) c ≤ 2 ^ 41 * weight_in points P c
+pair_radius-within points P b c = loses (weight_in points P c) (pair_tail P) (2 ^ 41) (side b) (power_positive (b.grid - b.level)) (pair_tail_le P)
+
+pub single_radius-within : (points : List Point) (P : ℕ) (b c : Square) → single_radius points P (side b) c ≤ 2 ^ 40 * weight_in points P c
+single_radius-within points P b c = loses (weight_in points P c) (single_tail P) (2 ^ 40) (side b) (power_positive (b.grid - b.level)) (single_tail_le P)
+
+-- ---- levels
+one_level_more : (r n v x p q : ℕ) → r ≤ n * (v + x) → p ≤ v → q ≤ x → r + (p + q) ≤ suc n * (v + x)
+one_level_more r n v x p q a b d = omega arith
+
+all_levels : (r n w : ℕ) → n ≤ 16 → w ≤ 2 ^ 32 → r ≤ n * (2 ^ 41 * w + 2 ^ 40 * w) → r ≤ 2 ^ 78
+all_levels r n w h light le = let m = mul-le-mul_right (2 ^ 41 * w + 2 ^ 40 * w) h in omega (arith, m, light, le)
+
+module _ (apart : EntriesShareNoSource) (points : List Point) (cap P : ℕ) (lists : TreeLists) (few : P ≤ 32) (limited : IsLimited points cap lists) where
+  abbrev from_pairs : ℕ
+  from_pairs = 2 ^ 41 * total_weight points
+
+  abbrev from_far : ℕ
+  from_far = 2 ^ 40 * total_weight points
+
+  pub pairs_lose : (b : Square) → IsTreeCell 16 points cap b → sum_by (pair_radius points P (side b)) (lists.entries V b) ≤ from_pairs
+  pairs_lose b in_tree = sum_by-entries apart points cap lists limited V b in_tree P (2 ^ 41) (pair_radius points P (side b)) few (pair_radius-within points P b)
+
+  pub far_lose : (b : Square) → IsTreeCell 16 points cap b → sum_by (single_radius points P (side b)) (lists.entries X b) ≤ from_far
+  far_lose b in_tree = sum_by-entries apart points cap lists limited X b in_tree P (2 ^ 40) (single_radius points P (side b)) few (single_radius-within points P b)
+
+  level_within : (n : ℕ) (b : Square) → b.level ≡ n → IsTreeCell 16 points cap b → local_radius points cap P lists b ≤ n * (from_pairs + from_far)
+  level_within zero b e in_tree = let r = local_radius-root points cap P lists b e in omega (arith, r)
+  level_within (suc n) b e in_tree =
+      let up = level_within n (parent b) (omega arith) (IsTreeCell-parent 16 points cap b (omega arith) limited.in_grid in_tree (omega arith)) in
+      let r = local_radius-below points cap P lists b (omega arith) in
+      let m = one_level_more (local_radius points cap P lists (parent b)) n from_pairs from_far _ _ up (pairs_lose b in_tree) (far_lose b in_tree) in
+      omega (arith, r, m)
+
+  pub local_radius-light : (b : Square) → IsTreeCell 16 points cap b → local_radius points cap P lists b ≤ 2 ^ 78
+  local_radius-light b in_tree = all_levels (local_radius points cap P lists b) b.level (total_weight points) in_tree.level_in_grid limited.light (level_within b.level b refl in_tree)
+
+pub radius_sizes : EntriesShareNoSource → RadiusSizes
+radius_sizes apart points cap P lists order limited c in_tree =
+    let few = order_small P order in
+    let h = local_radius-light apart points cap P lists (omega arith) limited c in_tree in
+    omega (arith, h)
