@@ -48,6 +48,10 @@ halved c = All-from_recursion (IsHalved c) (quarters c) (by 0 0, (by 0 1, (by 1 
     by : (right top : ℕ) → IsHalved c (child c right top)
     by right top = record { right = right; top = top; is = refl }
 
+-- the point is a source in one of two cells at most
+abbrev NotInBoth : Point → Square → Square → Type 0
+NotInBoth p a b = is_source_in a p ≡ true → is_source_in b p ≡ true → ⊥
+
 module _ (c : Square) (lt : c.level < c.grid) where
   -- a quarter holds no more than its cell
   source_above : (q : Square) → IsQuarter c q → (p : Point) → is_source_in q p ≡ true → is_source_in c p ≡ true
@@ -75,8 +79,8 @@ module _ (c : Square) (lt : c.level < c.grid) where
       let v = one.no_other k.right k.top (subst (λ d. Holds d p.x p.y) k.is (held b tb)) in
       h.is ∙ ap₂ (child c) (u.0 ∙ sym v.0) (u.1 ∙ sym v.1) ∙ sym k.is
 
-  quarters_apart : (p : Point) → is_source_in c p ≡ true → AllPairs (λ a b. is_source_in a p ≡ true → is_source_in b p ≡ true → ⊥) (quarters c)
-  quarters_apart p t = AllPairs-both (IsHalved c) (λ a b. a ≢ b) (λ a b. is_source_in a p ≡ true → is_source_in b p ≡ true → ⊥) (quarters c) (halved c) (quarters_differ c)
+  quarters_apart : (p : Point) → is_source_in c p ≡ true → AllPairs (NotInBoth p) (quarters c)
+  quarters_apart p t = AllPairs-both (IsHalved c) (λ a b. a ≢ b) (NotInBoth p) (quarters c) (halved c) (quarters_differ c)
       (λ a b h k differ ta tb. differ (same_quarter p t a b h k ta tb))
 
   pub quarters_weight : (points : List Point) → sum_by (weight64_in points) (quarters c) ≤ weight64_in points c
@@ -85,7 +89,7 @@ module _ (c : Square) (lt : c.level < c.grid) where
       let e = sum_by-same (λ q. sum_by weight64 (filter (is_source_in q) inside)) (weight64_in points) (quarters c)
       (All-weaker (IsQuarter c) (λ q. sum_by weight64 (filter (is_source_in q) inside) ≡ weight64_in points q) (λ q is. ap (sum_by weight64) (sources_of_quarter points q is)) (quarters c) (quarters_are c)) in
       let h = sum_by-disjoint is_source_in weight64 (quarters c) inside
-      (All-from_members (λ p. AllPairs (λ a b. is_source_in a p ≡ true → is_source_in b p ≡ true → ⊥) (quarters c)) inside (λ p m. quarters_apart p (Contains-filter (is_source_in c) points p m).1)) in
+      (All-from_members (λ p. AllPairs (NotInBoth p) (quarters c)) inside (λ p m. quarters_apart p (Contains-filter (is_source_in c) points p m).1)) in
       omega (arith, e, h)
 
 -- ---- the weights at an order

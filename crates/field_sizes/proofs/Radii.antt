@@ -49,10 +49,10 @@ module _ (apart : EntriesShareNoSource) (points : List Point) (cap P : ℕ) (lis
   abbrev from_far : ℕ
   from_far = 2 ^ 40 * total_weight points
 
-  pub pairs_lose : (b : Square) → IsTreeCell 16 points cap b → sum_by (pair_radius points P (side b)) (lists.entries V b) ≤ from_pairs
+  pairs_lose : (b : Square) → IsTreeCell 16 points cap b → sum_by (pair_radius points P (side b)) (lists.entries V b) ≤ from_pairs
   pairs_lose b in_tree = sum_by-entries apart points cap lists limited V b in_tree P (2 ^ 41) (pair_radius points P (side b)) few (pair_radius-within points P b)
 
-  pub far_lose : (b : Square) → IsTreeCell 16 points cap b → sum_by (single_radius points P (side b)) (lists.entries X b) ≤ from_far
+  far_lose : (b : Square) → IsTreeCell 16 points cap b → sum_by (single_radius points P (side b)) (lists.entries X b) ≤ from_far
   far_lose b in_tree = sum_by-entries apart points cap lists limited X b in_tree P (2 ^ 40) (single_radius points P (side b)) few (single_radius-within points P b)
 
   level_within : (n : ℕ) (b : Square) → b.level ≡ n → IsTreeCell 16 points cap b → local_radius points cap P lists b ≤ n * (from_pairs + from_far)
