@@ -1,1 +1,2 @@
--- What the proofs of this crate rest on.
+-- Lemmas on the weights of cells.
+pub mod CellWeights

@@ -1,6 +1,7 @@
 //! The weights of all cells.
-ghost use Rattle.std.specs.Prelude.{◌≡◌, ◌≤◌, length, All};
-ghost use Rattle.quadtree.specs.TreeModel.{size};
+ghost use Rattle.std.specs.Prelude.{◌≡◌, ◌≤◌, ◌<◌, length, pos, All};
+ghost use Rattle.quadtree.specs.TreeModel.{size, square_of};
+ghost use Rattle.tree_field.specs.Field.{weight_in};
 ghost use Rattle.tree_rows.specs.FieldRows.{AreWeights};
 ghost use Rattle.tree_rows.specs.FlatRows.{IsWeight};
 ghost use Rattle.tree_rows.specs.Trees.{IsTreeOfPoints};
@@ -8,6 +9,22 @@ ghost use Rattle.tree_rows.specs.Trees.{IsTreeOfPoints};
 use error_ledger::weight;
 use particle_text::Point;
 use quadtree::Tree;
+
+/// The weight of one cell.
+fn cell_weight(tree: &Tree, points: &[Point], n: usize, order: u32) -> i128
+    requires tree { IsTreeOfPoints points.now tree.now }
+    requires least { 1 ≤ order }
+    requires most { order ≤ 32 }
+    requires cell { n < size tree.now }
+    ensures weight { result ≡ pos (weight_in points.now order (square_of tree.now n)) }
+    ensures size { IsWeight result }
+{
+    let mut total = 0;
+    for k in tree.members(n) {
+        total += weight(&points[*k as usize], order);
+    }
+    total
+}
 
 /// Writes the weight of each cell, the sum of `abs(a) + 2 order abs(b)` over the sources in it.
 ///
@@ -22,7 +39,6 @@ pub fn weigh_cells(tree: &Tree, points: &[Point], order: u32, weights: &mut [i12
     ensures size { All IsWeight weights.new }
 {
     for n in 0..tree.cells().len() {
-        let members = tree.members(n).iter();
-        weights[n] = members.map(|k| weight(&points[*k as usize], order)).sum();
+        weights[n] = cell_weight(tree, points, n, order);
     }
 }
