@@ -28,7 +28,7 @@ sum_by-filter {A} p f (x ∷ xs) = step (p x) (filter p xs) (sum_by-filter p f x
   where
     step : (b : Bool) (kept : List A) {n : ℕ} → sum_by f kept ≡ n → sum_by f (cond b (x ∷ kept) kept) ≡ cond b (f x) 0 + n
     step true kept e = sum_by-cons f x kept ∙ ap (λ m. f x + m) e
-    step false kept e = e
+    step false kept e = omega (arith, e)
 
 -- the list has x once, and no other member counts
 pub sum_by-one : {A : Type 0} (f : A → ℕ) (xs : List A) (x : A) → AllPairs (λ a b. a ≢ b) xs → Contains xs x → ((y : A) → Contains xs y → y ≢ x → f y ≡ 0) → sum_by f xs ≡ f x
