@@ -2,5 +2,11 @@
 pub mod FarCells
 pub mod FieldBox
 pub mod Losses
+pub mod NearBounds
 pub mod NearSums
 pub mod Numbers
+pub mod Pairs
+pub mod PassBoxes
+pub mod Positions
+pub mod SameValues
+pub mod Sums

@@ -5,7 +5,7 @@ use Rattle.std.proofs.lemmas.Int.{ints}
 use Rattle.std.proofs.Math.Nat.{div-le_self, mul-le-mul_right}
 use Rattle.truncation.specs.Tails.{ceiling, single_tail}
 use Rattle.truncation.proofs.Tails.{single_tail_le}
-use Rattle.target_values.specs.Values.{IsWeight}
+use Rattle.tree_rows.specs.FlatRows.{IsWeight}
 
 loss_small : (w t s : ℕ) → w ≤ 2 ^ 32 → t ≤ 2 ^ 40 → s ≤ 65536 → ceiling (w * t) s ≤ 2 ^ 73
 loss_small w t s hw ht hs =

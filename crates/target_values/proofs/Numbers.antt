@@ -3,17 +3,18 @@ use Rattle.std.proofs.Common.{◌≡◌, ◌∙◌, ◌+◌, ◌-◌, ◌*◌, �
 use Rattle.std.specs.Prelude.{All, slice_range}
 use Rattle.std.specs.List.{range_with_len}
 use Rattle.std.specs.List.Sorted.{IsStrictlyIncreasing}
-use Rattle.std.proofs.lemmas.List.{get_or-take, get_or-drop, length-take, length-drop}
+use Rattle.std.proofs.lemmas.List.{get_or-take, get_or-drop}
 use Rattle.std.proofs.lemmas.List.Elements.{Contains-get_or}
 use Rattle.std.proofs.lemmas.List.FromFn.{length-range_with_len}
 use Rattle.std.proofs.lemmas.List.Sums.{length-filter, count_by-le-length}
 use Rattle.std.proofs.Math.Nat.{mul-le-mul_right}
+use Rattle.exact_math.specs.Ends.{BoxEndsWithin}
 use Rattle.cell_lists.specs.Entries.{IsEntry}
 use Rattle.cell_lists.specs.Lists.{IsListOf, AreLists, lists_of}
 use Rattle.cell_lists.specs.Row.{row}
 use Rattle.cell_lists.specs.declared.entry_lists.EntryLists.{EntryLists}
 use Rattle.cert_text.specs.declared.Letter.{Letter}
-use Rattle.complex_box.specs.Box.{BoxWithin}
+use Rattle.complex_box.specs.Box.{box_ends, BoxWithin}
 use Rattle.complex_box.specs.Rows.{zero_cbox}
 use Rattle.complex_box.specs.declared.CBox.{CBox}
 use Rattle.particle_text.specs.Limits.{InRange, most_points}
@@ -23,9 +24,10 @@ use Rattle.quadtree.specs.Tree.{AreInGrid}
 use Rattle.quadtree.specs.TreeModel.{TreeModel, IsTreeOf, size, square_of, node_of}
 use Rattle.quadtree.proofs.Distinct.{Contains-filter}
 use Rattle.row_recursions.proofs.Points.{grid_of}
+use Rattle.row_recursions.specs.Rows.{row_of}
 use Rattle.row_recursions.specs.Sizes.{RowWithin}
-use Rattle.target_values.specs.Values.{row_at}
 use Rattle.tree_field.proofs.Members.{All-from_members, range_below}
+use Rattle.tree_rows.specs.FlatRows.{row_at, AreSameRows}
 
 -- ascending numbers below n are no more than n
 pub few_below : (n : ℕ) (xs : List ℕ) → All (λ x. x < n) xs → IsStrictlyIncreasing xs → length xs ≤ n
@@ -81,17 +83,11 @@ module _ (tree : TreeModel) (points : List Point) (cap : ℕ) (h : IsTreeOf 16 t
       omega (arith, e, f, g, l, le)
 
 -- ---- a row in a slice
-pub row_within : (P m n : ℕ) (rows : List CBox) → All (BoxWithin m) rows → (n + 1) * P ≤ length rows → RowWithin P m (row_at P rows n)
-row_within P m n rows h le k lt =
-    let at : get_or (slice_range rows (n * P) ((n + 1) * P)) k zero_cbox ≡ get_or rows (n * P + k) zero_cbox =
-    get_or-take ((n + 1) * P - n * P) (drop (n * P) rows) k zero_cbox (omega arith) ∙ get_or-drop (n * P) rows k zero_cbox in
-    subst (BoxWithin m) (sym at) (h (n * P + k) zero_cbox (omega arith))
+pub row_in_slice : (P n : ℕ) (rows : List CBox) → AreSameRows P (row_of (slice_range rows (n * P) ((n + 1) * P))) (row_at P rows n)
+row_in_slice P n rows k lt = ap box_ends (get_or-take ((n + 1) * P - n * P) (drop (n * P) rows) k zero_cbox (omega arith) ∙ get_or-drop (n * P) rows k zero_cbox)
 
-pub row_length : (P n : ℕ) (rows : List CBox) → (n + 1) * P ≤ length rows → length (slice_range rows (n * P) ((n + 1) * P)) ≡ P
-row_length P n rows le =
-    let a = length-take ((n + 1) * P - n * P) (drop (n * P) rows) in
-    let b = length-drop (n * P) rows in
-    omega (arith, a, b)
+pub row_within : (P m n : ℕ) (rows : List CBox) → All (BoxWithin m) rows → (n + 1) * P ≤ length rows → RowWithin P m (row_of (slice_range rows (n * P) ((n + 1) * P)))
+row_within P m n rows h le k lt = subst (BoxEndsWithin m) (sym (row_in_slice P n rows k lt)) (h (n * P + k) zero_cbox (omega arith))
 
 -- a number's row lies in the slice of all rows
 pub row_inside : (P n count len : ℕ) → n < count → len ≡ count * P → (n + 1) * P ≤ len

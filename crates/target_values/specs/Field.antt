@@ -1,17 +1,19 @@
--- Rows in flat slices that are those of the field.
-use Rattle.std.specs.Prelude.{ℕ, ◌≡◌, ◌<◌, ℤ, pos, List}
+-- The rows of the field from which the box of a target is made.
+use Rattle.std.specs.Prelude.{ℕ, ◌≡◌, ℤ, pos, List}
+use Rattle.cell_lists.specs.Row.{row}
+use Rattle.cell_lists.specs.declared.entry_lists.EntryLists.{EntryLists}
 use Rattle.complex_box.specs.declared.CBox.{CBox}
 use Rattle.particle_text.specs.declared.Point.{Point}
-use Rattle.quadtree.specs.TreeModel.{TreeModel, IsTreeOf, size, square_of}
-use Rattle.tree_field.specs.Field.{multipole_row, local_row, local_radius, weight_in}
-use Rattle.tree_field.specs.Lists.{TreeLists, AreTreeLists}
-use Rattle.target_values.specs.Values.{row_at, weight_at}
+use Rattle.quadtree.specs.TreeModel.{TreeModel, square_of}
+use Rattle.tree_field.specs.Field.{local_row, local_radius}
+use Rattle.tree_field.specs.Lists.{TreeLists}
+use Rattle.tree_rows.specs.FieldRows.{IsFieldOf, AreMultipoleRowsOf, AreWeights}
+use Rattle.tree_rows.specs.FlatRows.{row_at, AreSameRows}
 
--- the multipole row and the weight of each cell of the tree, and the local row and the radius of the cell b
-pub record IsField (P : ℕ) (points : List Point) (cap : ℕ) (entries : TreeLists) (tree : TreeModel) (up local : List CBox) (weights : List ℤ) (radius : ℤ) (b : ℕ) : Type 0 where
-  pub is_tree : IsTreeOf 16 tree points cap
-  pub entries_are : AreTreeLists 16 points cap entries
-  pub multipole_rows : (n : ℕ) → n < size tree → (k : ℕ) → k < P → row_at P up n k ≡ multipole_row points cap (square_of tree n) k
-  pub weights_are : (n : ℕ) → n < size tree → weight_at weights n ≡ weight_in points P (square_of tree n)
-  pub local_row_is : (k : ℕ) → k < P → row_at P local b k ≡ local_row points cap P entries (square_of tree b) k
-  pub radius_is : radius ≡ pos (local_radius points cap P entries (square_of tree b))
+-- for the targets of the leaf b: the multipole rows of its W cells, its local row and the radius of that, and the weights of all cells
+pub record AreRowsOfLeaf (points : List Point) (cap P : ℕ) (tree : TreeModel) (lists : EntryLists) (field : TreeLists) (up local : List CBox) (weights : List ℤ) (radius : ℤ) (b : ℕ) : Type 0 where
+  pub field_is : IsFieldOf points cap tree field
+  pub up_are : AreMultipoleRowsOf points cap P tree up (row lists.w b)
+  pub weights_are : AreWeights points P tree weights
+  pub local_is : AreSameRows P (row_at P local b) (local_row points cap P field (square_of tree b))
+  pub radius_is : radius ≡ pos (local_radius points cap P field (square_of tree b))

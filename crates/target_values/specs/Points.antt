@@ -1,13 +1,11 @@
--- The points of a tree by their positions.
-use Rattle.std.specs.Prelude.{ℕ, ◌≤◌, pos, not, List, length, map, filter, slice_index_or, All}
+-- Points by their positions.
+use Rattle.std.specs.Prelude.{ℕ, pos, not, List, map, filter, slice_index_or}
 use Rattle.std.specs.List.{count_by}
 use Rattle.exact_math.specs.Gaussian.{Gaussian}
 use Rattle.near_field.specs.DirectSum.{is_source}
 use Rattle.near_field.specs.Pair.{is_at}
-use Rattle.particle_text.specs.Limits.{InRange, most_points}
 use Rattle.particle_text.specs.declared.Kind.TheVariants.{Target}
 use Rattle.particle_text.specs.declared.Point.{Point}
-use Rattle.quadtree.specs.TreeModel.{TreeModel, IsTreeOf}
 
 -- what stands past the last point
 abbrev pub no_point : Point
@@ -27,10 +25,3 @@ sources_at points positions = sources (map (point_at points) positions)
 -- how many of some points are at another place
 abbrev pub count_apart : Gaussian → List Point → ℕ
 count_apart z some = count_by (λ p. not (is_at z p)) some
-
--- the tree is that of these points with some capacity of the leaves, and they are within the limits
-pub record IsTreeOfPoints (tree : TreeModel) (points : List Point) : Type 0 where
-  pub cap : ℕ
-  pub is_tree : IsTreeOf 16 tree points cap
-  pub range : All InRange points
-  pub few : length points ≤ most_points

@@ -1,5 +1,5 @@
--- The value of a target from rows in flat slices, by the numbers of the tree's cells. The row of the cell n is the n-th of P boxes each.
-use Rattle.std.specs.Prelude.{ℕ, ◌+◌, ◌*◌, ◌^◌, ℤ, pos, ◌+ℤ◌, ◌≤ℤ◌, List, slice_range, slice_index_or, sum_by, unsigned_abs}
+-- The value of a target from rows in flat slices, by the numbers of the tree's cells.
+use Rattle.std.specs.Prelude.{ℕ, ◌*◌, ℤ, pos, ◌+ℤ◌, List, sum_by}
 use Rattle.exact_math.specs.Ends.{BoxEnds, add_box, widen_box}
 use Rattle.exact_math.specs.Gaussian.{Gaussian}
 use Rattle.cell_name.specs.Square.{side}
@@ -9,24 +9,12 @@ use Rattle.complex_box.specs.declared.CBox.{CBox}
 use Rattle.near_field.specs.Pair.{pair_box}
 use Rattle.particle_text.specs.declared.Point.{Point}
 use Rattle.quadtree.specs.TreeModel.{TreeModel, square_of, node_of}
-use Rattle.row_recursions.specs.Rows.{row_of, local_value, multipole_value}
+use Rattle.row_recursions.specs.Rows.{local_value, multipole_value}
 use Rattle.soundness.specs.Computed.{total_box}
 use Rattle.soundness.specs.Squares.{offset}
+use Rattle.tree_rows.specs.FlatRows.{row_at, weight_at}
 use Rattle.truncation.specs.Tails.{ceiling, single_tail}
 use Rattle.target_values.specs.Points.{sources_at, count_apart}
-
--- the row of a number
-abbrev pub row_at : ℕ → List CBox → ℕ → ℕ → BoxEnds
-row_at P rows n = row_of (slice_range rows (n * P) ((n + 1) * P))
-
--- the weight of a number
-abbrev pub weight_at : List ℤ → ℕ → ℕ
-weight_at weights n = unsigned_abs (slice_index_or weights n (pos 0))
-
--- 0 to 2^32
-pub record IsWeight (w : ℤ) : Type 0 where
-  pub least : pos 0 ≤ℤ w
-  pub most : w ≤ℤ pos (2 ^ 32)
 
 module _ (tree : TreeModel) (lists : EntryLists) where
   module _ (points : List Point) where

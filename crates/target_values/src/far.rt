@@ -13,7 +13,8 @@ ghost use Rattle.row_recursions.specs.Cells.{side_of, offset_from};
 ghost use Rattle.row_recursions.specs.Rows.{multipole_value};
 ghost use Rattle.truncation.specs.Places.{GaussianBeyond};
 ghost use Rattle.truncation.specs.Tails.{ceiling, single_tail};
-ghost use Rattle.target_values.specs.Values.{IsWeight, row_at, far_values, far_radius};
+ghost use Rattle.tree_rows.specs.FlatRows.{IsWeight, row_at};
+ghost use Rattle.target_values.specs.Values.{far_values, far_radius};
 
 use cell_lists::EntryLists;
 use cell_name::Cell;

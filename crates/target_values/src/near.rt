@@ -10,7 +10,8 @@ ghost use Rattle.particle_text.specs.Limits.{InGrid, InRange};
 ghost use Rattle.particle_text.specs.Points.{place};
 ghost use Rattle.quadtree.specs.TreeModel.{size, node_of};
 ghost use Rattle.soundness.specs.Computed.{total_box};
-ghost use Rattle.target_values.specs.Points.{IsTreeOfPoints, sources, sources_at, count_apart};
+ghost use Rattle.tree_rows.specs.Trees.{IsTreeOfPoints};
+ghost use Rattle.target_values.specs.Points.{sources, sources_at, count_apart};
 ghost use Rattle.target_values.specs.Values.{near_pairs, near_count};
 
 use cell_lists::EntryLists;
@@ -20,7 +21,7 @@ use particle_text::{Kind, Point};
 use quadtree::Tree;
 
 /// Whether a point is a charge, a dipole or a vortex.
-fn is_source(p: &Point) -> bool
+pub(crate) fn is_source(p: &Point) -> bool
     ensures { result ≡ is_source p.now.kind }
 {
     match p.kind {
@@ -75,7 +76,7 @@ pub(crate) fn near_pairs(
     target: &Point,
     work: &mut Work,
 ) -> CBox
-    requires tree { IsTreeOfPoints tree.now points.now }
+    requires tree { IsTreeOfPoints points.now tree.now }
     requires lists { AreLists tree.now lists.now }
     requires number { b < size tree.now }
     requires grid { InGrid target.now.x target.now.y }
@@ -83,6 +84,7 @@ pub(crate) fn near_pairs(
     ensures ends { box_ends result ≡ near_pairs tree.now lists.now points.now b (place target.now) }
     ensures size { BoxEndsWithin (2 ^ 99) (box_ends result) }
     ensures pairs { work.new.pairs ≡ work.old.pairs + near_count tree.now lists.now points.now b (place target.now) }
+    ensures few { work.new.pairs ≤ work.old.pairs + length points.now }
     ensures translations { work.new.translations ≡ work.old.translations }
 {
     let mut sum = CBox::zero();

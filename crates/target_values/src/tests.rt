@@ -2,7 +2,7 @@
 ghost use Rattle.std.specs.Prelude.{◌≡◌, ◌^◌, ◌<◌, length, All, IfOk};
 ghost use Rattle.complex_box.specs.Box.{BoxWithin};
 ghost use Rattle.particle_text.specs.Limits.{WithinLimits};
-ghost use Rattle.target_values.specs.Values.{IsWeight};
+ghost use Rattle.tree_rows.specs.FlatRows.{IsWeight};
 
 use crate::target_value;
 use cell_lists::lists;

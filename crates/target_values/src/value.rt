@@ -12,11 +12,13 @@ ghost use Rattle.quadtree.specs.TreeModel.{size, square_of, leaf_of};
 ghost use Rattle.row_recursions.specs.Cells.{side_of, offset_from};
 ghost use Rattle.row_recursions.specs.Rows.{local_value};
 ghost use Rattle.cell_name.specs.Cell.{square};
-ghost use Rattle.target_values.specs.Field.{IsField};
-ghost use Rattle.target_values.specs.Points.{IsTreeOfPoints, point_at};
-ghost use Rattle.target_values.specs.Values.{IsWeight, row_at, value_at, near_count};
+ghost use Rattle.target_values.specs.Field.{AreRowsOfLeaf};
+ghost use Rattle.target_values.specs.Points.{point_at};
+ghost use Rattle.target_values.specs.Values.{value_at, near_count};
 ghost use Rattle.tree_field.specs.Field.{target_box, targets};
 ghost use Rattle.tree_field.specs.Lists.{TreeLists};
+ghost use Rattle.tree_rows.specs.FlatRows.{IsWeight, row_at};
+ghost use Rattle.tree_rows.specs.Trees.{IsTreeOfPoints};
 
 use crate::far::{far_radius, far_values};
 use crate::near::near_pairs;
@@ -56,7 +58,7 @@ fn value_in<const P: usize>(
     work: &mut Work,
 ) -> CBox
     requires order { IsOrder P }
-    requires tree { IsTreeOfPoints tree.now points.now }
+    requires tree { IsTreeOfPoints points.now tree.now }
     requires lists { AreLists tree.now lists.now }
     requires up { length up.now ≡ size tree.now * P }
     requires up_size { All (BoxWithin (2 ^ 80)) up.now }
@@ -73,6 +75,7 @@ fn value_in<const P: usize>(
     ensures ends { box_ends result ≡ value_at P tree.now lists.now points.now up.now local.now weights.now radius b (place target.now) }
     ensures size { BoxEndsWithin (2 ^ 103) (box_ends result) }
     ensures pairs { work.new.pairs ≡ work.old.pairs + near_count tree.now lists.now points.now b (place target.now) }
+    ensures few { work.new.pairs ≤ work.old.pairs + length points.now }
     ensures translations { work.new.translations ≡ work.old.translations }
 {
     let value = near_value::<P>(local, b, tree.cells()[b], target);
@@ -85,10 +88,11 @@ fn value_in<const P: usize>(
 /// The box of the k-th point, a target, from the multipole rows `up`, the local rows `local`, the total weight of the sources of each cell
 /// and the radius of the local row of the point's leaf.
 ///
-/// Where these are those of the field, the box is that of the field, and contains the exact sum at each target. The pairs of `work` are
-/// raised by one for each source at another place in the U entries of the leaf. Conditions: the tree and its lists are those of the points,
-/// of which there are at most 65,536 in range; both slices have `P` boxes for each cell, all ends of multipole rows are at most 2^80 in size
-/// and those of local rows 2^90; each weight is 0 to 2^32 and the radius 0 to 2^90; and the count of pairs is below 2^62.
+/// Where the multipole rows of the leaf's W entries, the leaf's local row, its radius and the weights are those of the field, the box is that
+/// of the field, and contains the exact sum at the target. The pairs of `work` are raised by one for each source at another place in the U
+/// entries of the leaf, which is at most one for each point. Conditions: the tree and its lists are those of the points, which are within
+/// their limits; both slices have `P` boxes for each cell, all ends of multipole rows are at most 2^80 in size and those of local rows 2^90;
+/// each weight is 0 to 2^32 and the radius 0 to 2^90; and the count of pairs is below 2^62.
 pub fn target_value<const P: usize>(
     tree: &Tree,
     lists: &EntryLists,
@@ -101,7 +105,7 @@ pub fn target_value<const P: usize>(
     work: &mut Work,
 ) -> CBox
     requires order { IsOrder P }
-    requires tree { IsTreeOfPoints tree.now points.now }
+    requires tree { IsTreeOfPoints points.now tree.now }
     requires lists { AreLists tree.now lists.now }
     requires up { length up.now ≡ size tree.now * P }
     requires up_size { All (BoxWithin (2 ^ 80)) up.now }
@@ -114,10 +118,11 @@ pub fn target_value<const P: usize>(
     requires number { k < length points.now }
     requires room { work.old.pairs < 2 ^ 62 }
     ensures ends { box_ends result ≡ value_at P tree.now lists.now points.now up.now local.now weights.now radius (leaf_of tree.now k) (place (point_at points.now k)) }
-    ensures field { (cap : ℕ) (entries : TreeLists) → IsField P points.now cap entries tree.now up.now local.now weights.now radius (leaf_of tree.now k) → box_ends result ≡ target_box points.now cap P entries 16 (place (point_at points.now k)) }
-    ensures contains { (cap : ℕ) (entries : TreeLists) → IsField P points.now cap entries tree.now up.now local.now weights.now radius (leaf_of tree.now k) → Contains (targets points.now) (point_at points.now k) → BoxEndsContain (pos (2 ^ 40)) (box_ends result) (direct_sum (place (point_at points.now k)) points.now) }
+    ensures field { (cap : ℕ) (field : TreeLists) → AreRowsOfLeaf points.now cap P tree.now lists.now field up.now local.now weights.now radius (leaf_of tree.now k) → box_ends result ≡ target_box points.now cap P field 16 (place (point_at points.now k)) }
+    ensures contains { (cap : ℕ) (field : TreeLists) → AreRowsOfLeaf points.now cap P tree.now lists.now field up.now local.now weights.now radius (leaf_of tree.now k) → Contains (targets points.now) (point_at points.now k) → BoxEndsContain (pos (2 ^ 40)) (box_ends result) (direct_sum (place (point_at points.now k)) points.now) }
     ensures size { BoxEndsWithin (2 ^ 103) (box_ends result) }
     ensures pairs { work.new.pairs ≡ work.old.pairs + near_count tree.now lists.now points.now (leaf_of tree.now k) (place (point_at points.now k)) }
+    ensures few { work.new.pairs ≤ work.old.pairs + length points.now }
     ensures translations { work.new.translations ≡ work.old.translations }
 {
     let b = tree.leaf_of(k);

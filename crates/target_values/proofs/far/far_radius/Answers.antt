@@ -12,7 +12,7 @@ use Rattle.cert_text.specs.declared.Letter.TheVariants.{W}
 use Rattle.quadtree.specs.TreeModel.{square_of}
 use Rattle.row_recursions.proofs.RowSizes.{order_small}
 use Rattle.truncation.specs.Tails.{ceiling, single_tail}
-use Rattle.target_values.specs.Values.{IsWeight, weight_at}
+use Rattle.tree_rows.specs.FlatRows.{IsWeight, weight_at}
 use Rattle.target_values.proofs.FarCells.{far_below, few_far}
 use Rattle.target_values.proofs.far.far_radius.Goals as goal
 

@@ -4,7 +4,7 @@ use Rattle.cell_lists.specs.Row.{row}
 use Rattle.cell_name.specs.Square.{side}
 use Rattle.quadtree.specs.TreeModel.{square_of}
 use Rattle.truncation.specs.Tails.{ceiling, single_tail}
-use Rattle.target_values.specs.Values.{weight_at}
+use Rattle.tree_rows.specs.FlatRows.{weight_at}
 use Rattle.target_values.proofs.far.far_radius.Given as goal
 
 abbrev pub invariant-loop-c : goal.invariant-loop-c

@@ -1,10 +1,16 @@
-use Rattle.std.proofs.Common.{◌*◌, ◌^◌, arith, subst, sym, rules, to_z-of_z}
+use Rattle.std.proofs.Common.{ℕ, ◌+◌, ◌*◌, ◌^◌, ◌∙◌, ap, arith, subst, sym, rules, to_z-of_z}
+use Rattle.std.specs.Prelude.{slice_range}
+use Rattle.exact_math.specs.Gaussian.{Gaussian}
 use Rattle.complex_box.proofs.Sizes.{box_wider}
-use Rattle.row_recursions.specs.Rows.{row_of}
+use Rattle.particle_text.specs.Points.{place}
+use Rattle.row_recursions.specs.Cells.{side_of, offset_from}
+use Rattle.row_recursions.specs.Rows.{row_of, multipole_value}
 use Rattle.row_recursions.specs.Sizes.{RowWithin}
 use Rattle.row_recursions.proofs.Points.{grid_fits}
 use Rattle.row_recursions.proofs.RowSizes.{order_small}
-use Rattle.target_values.proofs.Numbers.{row_within}
+use Rattle.tree_rows.specs.FlatRows.{row_at}
+use Rattle.target_values.proofs.Numbers.{row_in_slice, row_within}
+use Rattle.target_values.proofs.SameValues.{multipole_value-same}
 use Rattle.target_values.proofs.far.far_value.Goals as goal
 
 pub at_multipole-requires : goal.at_multipole-requires
@@ -20,3 +26,14 @@ returns-clause-size g c =
     let small = order_small g.row.P c.requires.order in
     box_wider (g.row.P * 2 ^ 80) (2 ^ 85) _ (omega (arith, small))
     (c.at_multipole.ensures.size (2 ^ 80) (subst (λ cells. RowWithin g.row.P (2 ^ 80) (row_of cells)) (sym c.new-row.ensures) (row_within g.row.P (2 ^ 80) c.args.n c.args.up.now c.requires.size c.requires.number)))
+
+pub returns-clause-ends : goal.returns-clause-ends
+returns-clause-ends g c =
+    let f = grid_fits c.args.target.now.x c.args.target.now.y c.requires.grid in
+    let x = f.0 in
+    let y = f.1 in
+    let e = simp to_z-of_z at c.at_multipole.ensures.ends in
+    let s : ℕ = side_of c.args.cell in
+    let z : Gaussian = offset_from c.args.cell (place c.args.target.now) in
+    e ∙ ap (λ cells. multipole_value g.row.P (row_of cells) s z) c.new-row.ensures
+    ∙ multipole_value-same g.row.P (row_of (slice_range c.args.up.now (c.args.n * g.row.P) ((c.args.n + 1) * g.row.P))) (row_at g.row.P c.args.up.now c.args.n) s z (row_in_slice g.row.P c.args.n c.args.up.now)

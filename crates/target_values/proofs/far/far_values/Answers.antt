@@ -15,7 +15,7 @@ use Rattle.row_recursions.specs.Rows.{multipole_value}
 use Rattle.soundness.specs.Computed.{total_box}
 use Rattle.soundness.specs.Squares.{offset}
 use Rattle.truncation.specs.Places.{GaussianBeyond}
-use Rattle.target_values.specs.Values.{row_at}
+use Rattle.tree_rows.specs.FlatRows.{row_at}
 use Rattle.target_values.proofs.FarCells.{far_below, few_far, far_from}
 use Rattle.target_values.proofs.NearSums.{total-step}
 use Rattle.target_values.proofs.Numbers.{row_inside}

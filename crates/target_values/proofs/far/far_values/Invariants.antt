@@ -8,7 +8,7 @@ use Rattle.quadtree.specs.TreeModel.{square_of}
 use Rattle.row_recursions.specs.Rows.{multipole_value}
 use Rattle.soundness.specs.Computed.{total_box}
 use Rattle.soundness.specs.Squares.{offset}
-use Rattle.target_values.specs.Values.{row_at}
+use Rattle.tree_rows.specs.FlatRows.{row_at}
 use Rattle.target_values.proofs.far.far_values.Given as goal
 
 abbrev pub invariant-loop-c : goal.invariant-loop-c

@@ -1,3 +1,4 @@
+use Rattle.std.specs.Prelude.{sum_by}
 use Rattle.std.proofs.Common.{◌≡◌, ◌∙◌, ◌+◌, ◌<◌, ap, arith, ℕ, List, length, get_or}
 use Rattle.std.proofs.lemmas.List.{take_all}
 use Rattle.std.proofs.lemmas.List.Sums.{sum_by_more}
@@ -13,6 +14,7 @@ use Rattle.quadtree.specs.TreeModel.{node_of}
 use Rattle.soundness.specs.Computed.{total_box}
 use Rattle.target_values.specs.Points.{sources_at, count_apart}
 use Rattle.target_values.specs.Values.{sources_of}
+use Rattle.target_values.proofs.NearBounds.{near_count-le}
 use Rattle.target_values.proofs.NearSums.{total-step}
 use Rattle.target_values.proofs.Numbers.{in_grid, number_below, few_items, members_below, few_members}
 use Rattle.target_values.proofs.near.near_pairs.Goals as goal
@@ -87,3 +89,16 @@ returns-clause-size c =
     let t = c.requires.tree in
     let n = few_items c.args.tree.now c.args.lists.now c.args.points.now t.cap (in_grid _ t.range) t.is_tree c.requires.lists U c.args.b c.requires.number c.u_list-c-items.result.now c.u_list-c-items.ensures in
     box_wider _ _ _ (omega (arith, n)) c.loop-c.invariant.size
+
+pub returns-clause-pairs : goal.returns-clause-pairs
+returns-clause-pairs c =
+    let xs : List ℕ = row c.args.lists.now.u c.args.b in
+    let long : length c.u_list-c-items.result.now ≡ length xs = ap length c.u_list-c-items.ensures in
+    c.loop-c.invariant.pairs ∙ ap (λ l. c.args.work.now.pairs + sum_by (λ n. count_apart (place c.args.target.now) (sources_of c.args.tree.now c.args.lists.now c.args.points.now n)) l) (take_all c.loop-c.c-index xs (omega (arith, long)))
+
+pub returns-clause-few : goal.returns-clause-few
+returns-clause-few c =
+    let t = c.requires.tree in
+    let all = returns-clause-pairs c in
+    let most = near_count-le c.args.tree.now c.args.lists.now c.args.points.now t.cap (in_grid _ t.range) t.is_tree c.requires.lists c.args.b c.requires.number (place c.args.target.now) in
+    omega (arith, all, most)

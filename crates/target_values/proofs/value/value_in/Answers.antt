@@ -9,7 +9,8 @@ use Rattle.complex_box.proofs.Sizes.{add_box_within, box_wider, widen_box_within
 use Rattle.particle_text.specs.Points.{place}
 use Rattle.row_recursions.specs.Rows.{local_value}
 use Rattle.soundness.specs.Squares.{offset}
-use Rattle.target_values.specs.Values.{row_at, far_radius}
+use Rattle.tree_rows.specs.FlatRows.{row_at}
+use Rattle.target_values.specs.Values.{far_radius}
 use Rattle.target_values.proofs.Losses.{lost_is}
 use Rattle.target_values.proofs.value.value_in.Goals as goal
 

@@ -1,0 +1,112 @@
+-- The targets of a list, by their positions, and the rows of the field at the leaf of each.
+use Rattle.std.proofs.Common.{ℕ, ◌≡◌, ◌∙◌, ◌+◌, ◌<◌, ◌≤◌, ℤ, pos, Bool, not, true, false, cond, List, [], ◌∷◌, ◌++◌, length, map, get_or, filter, refl, sym, ap, subst, arith, append-nil}
+use Rattle.std.specs.Prelude.{All, Contains}
+use Rattle.std.specs.List.{range_with_len}
+use Rattle.std.proofs.lemmas.Bool.{not-true}
+use Rattle.std.proofs.lemmas.List.{get_or_default}
+use Rattle.std.proofs.lemmas.List.Elements.{All-contains, Contains-get_or}
+use Rattle.std.proofs.lemmas.List.Folds.{map_fixed}
+use Rattle.std.proofs.lemmas.List.FromFn.{fill_by_all, filter_of_map_range_with_len_more, length-range_with_len}
+use Rattle.std.proofs.lemmas.List.Sums.{length-filter, count_by-le-length}
+use Rattle.cell_lists.specs.Lists.{AreLists}
+use Rattle.cell_lists.specs.Row.{row}
+use Rattle.cell_lists.specs.declared.entry_lists.EntryLists.{EntryLists}
+use Rattle.cert_text.specs.declared.Letter.TheVariants.{W}
+use Rattle.complex_box.specs.declared.CBox.{CBox}
+use Rattle.near_field.specs.DirectSum.{is_source}
+use Rattle.particle_text.specs.declared.Point.{Point}
+use Rattle.quadtree.specs.Tree.{AreInGrid, HasTarget}
+use Rattle.quadtree.specs.TreeModel.{TreeModel, IsTreeOf, size, square_of, leaf_of}
+use Rattle.quadtree.proofs.Distinct.{Contains-filter}
+use Rattle.tree_field.specs.Field.{targets}
+use Rattle.tree_field.specs.Lists.{TreeLists}
+use Rattle.tree_field.proofs.Members.{All-from_members, filter-map, range_below}
+use Rattle.tree_field.proofs.Occupants.{is_target_from}
+use Rattle.tree_rows.specs.FieldRows.{AreFieldRows, AreWeights}
+use Rattle.target_values.specs.Field.{AreRowsOfLeaf}
+use Rattle.target_values.specs.Points.{no_point, point_at}
+use Rattle.target_values.specs.Targets.{target_positions}
+use Rattle.target_values.proofs.FieldBox.{leaf_at_position}
+use Rattle.target_values.proofs.NearSums.{first_point}
+
+pub points_at : (points : List Point) → points ≡ map (point_at points) (range_with_len 0 (length points))
+points_at points = fill_by_all (point_at points) points (length points) no_point refl (λ k lt. refl)
+
+pub targets_at : (points : List Point) → map (point_at points) (target_positions points) ≡ targets points
+targets_at points = sym (filter-map (λ p. not (is_source p.kind)) (point_at points) (range_with_len 0 (length points))) ∙ sym (ap (filter (λ p. not (is_source p.kind))) (points_at points))
+
+pub positions_more : (p : ℕ → Bool) (n : ℕ) → filter p (range_with_len 0 (n + 1)) ≡ filter p (range_with_len 0 n) ++ cond (p n) (n ∷ []) []
+positions_more p n =
+    ap (filter p) (sym (map_fixed (λ k. k) (range_with_len 0 (n + 1)) (λ k d lt. refl)))
+    ∙ filter_of_map_range_with_len_more p (λ k. k) 0 n n (omega arith)
+    ∙ ap (λ l. filter p l ++ cond (p n) (n ∷ []) []) (map_fixed (λ k. k) (range_with_len 0 n) (λ k d lt. refl))
+
+-- the point at one position more
+module _ (points : List Point) (k : ℕ) (lt : k < length points) where
+  abbrev found : ℕ → List ℕ
+  found n = filter (λ k. not (is_source (point_at points k).kind)) (range_with_len 0 n)
+
+  kind_at : {b : Bool} → is_source (get_or points k first_point).kind ≡ b → is_source (point_at points k).kind ≡ b
+  kind_at e = ap (λ p. is_source p.kind) (sym (get_or_default points k first_point no_point lt)) ∙ e
+
+  pub target_added : {was now : List ℕ} → is_source (get_or points k first_point).kind ≡ false → was ≡ found k → now ≡ was ++ k ∷ [] → now ≡ found (k + 1)
+  target_added e old new =
+      new ∙ ap (λ l. l ++ k ∷ []) old
+      ∙ sym (positions_more (λ k. not (is_source (point_at points k).kind)) k ∙ ap (λ (b : Bool). found k ++ cond (not b) (k ∷ []) []) (kind_at e))
+
+  pub source_left : {was now : List ℕ} → is_source (get_or points k first_point).kind ≡ true → was ≡ found k → now ≡ was → now ≡ found (k + 1)
+  source_left e old new =
+      new ∙ old
+      ∙ sym (positions_more (λ k. not (is_source (point_at points k).kind)) k ∙ ap (λ (b : Bool). found k ++ cond (not b) (k ∷ []) []) (kind_at e) ∙ append-nil (found k))
+
+-- the position of a target
+pub record IsTargetPosition (points : List Point) (k : ℕ) : Type 0 where
+  pub inside : k < length points
+  pub is_target : is_source (point_at points k).kind ≡ false
+
+pub position_is : (points : List Point) (k : ℕ) → Contains (target_positions points) k → IsTargetPosition points k
+position_is points k h =
+    let kept = Contains-filter (λ k. not (is_source (point_at points k).kind)) (range_with_len 0 (length points)) k h in
+    record { inside = range_below (length points) k kept.0; is_target = not-true (is_source (point_at points k).kind) kept.1 }
+
+pub positions_are : (points : List Point) → All (IsTargetPosition points) (target_positions points)
+positions_are points = All-from_members (IsTargetPosition points) (target_positions points) (position_is points)
+
+pub position_at : (points : List Point) (positions : List ℕ) → positions ≡ target_positions points → (i : ℕ) → i < length positions → IsTargetPosition points (get_or positions i 0)
+position_at points positions e i lt = subst (All (IsTargetPosition points)) (sym e) (positions_are points) i 0 lt
+
+pub few_positions : (points : List Point) → length (target_positions points) ≤ length points
+few_positions points =
+    let p = λ (k : ℕ). not (is_source (point_at points k).kind) in
+    omega (arith, length-filter p (range_with_len 0 (length points)), count_by-le-length p (range_with_len 0 (length points)), length-range_with_len 0 (length points))
+
+-- ---- the leaf of a target
+module _ (points : List Point) (cap : ℕ) (tree : TreeModel) (h : IsTreeOf 16 tree points cap) (k : ℕ) (is : IsTargetPosition points k) where
+  pub has_target : HasTarget points (square_of tree (leaf_of tree k))
+  has_target = record {
+    target = point_at points k;
+    here = record { listed = Contains-get_or points k no_point is.inside; held = (leaf_at_position tree points cap h k no_point is.inside).held };
+    is_target = is_target_from (point_at points k).kind is.is_target;
+  }
+
+pub leaf_in_tree : (points : List Point) (cap : ℕ) (tree : TreeModel) → IsTreeOf 16 tree points cap → (positions : List ℕ) → positions ≡ target_positions points → (i : ℕ) → i < length positions → (b : ℕ) → b ≡ leaf_of tree (get_or positions i 0) → b < size tree
+leaf_in_tree points cap tree h positions e i lt b is =
+    let l = leaf_at_position tree points cap h (get_or positions i 0) no_point (position_at points positions e i lt).inside in
+    omega (arith, is, l.in_range)
+
+-- its rows are among those of all cells
+pub rows_of_leaf : (points : List Point) (cap P : ℕ) (tree : TreeModel) (lists : EntryLists) (field : TreeLists) → AreInGrid 16 points → AreLists tree lists → (up local : List CBox) (weights radii : List ℤ)
+    → AreFieldRows points cap P tree field up local radii → AreWeights points P tree weights → (k : ℕ) → IsTargetPosition points k
+    → AreRowsOfLeaf points cap P tree lists field up local weights (get_or radii (leaf_of tree k) (pos 0)) (leaf_of tree k)
+rows_of_leaf points cap P tree lists field inside are up local weights radii rows weigh k is =
+    let h = rows.field_is.is_tree in
+    let b : ℕ = leaf_of tree k in
+    let lt = (leaf_at_position tree points cap h k no_point is.inside).in_range in
+    let target = has_target points cap tree h k is in
+    record {
+      field_is = rows.field_is;
+      up_are = record { each = λ n m. rows.up_are.each n (All-contains (λ n. n < size tree) (row lists.w b) n (are.each points cap inside h W b lt).numbers m) };
+      weights_are = weigh;
+      local_is = (rows.local_are.each b lt).row_is target;
+      radius_is = (rows.radii_are.each b lt).radius_is target;
+    }

@@ -1,0 +1,21 @@
+//! The positions of the targets of a list.
+ghost use Rattle.std.specs.Prelude.{◌≡◌, ◌≤◌, length, IfOk};
+ghost use Rattle.target_values.specs.Targets.{target_positions};
+
+use crate::near::is_source;
+use particle_text::Point;
+use std::alloc::{AllocError, Global};
+
+/// The positions of the targets in the list, ascending. Condition: there are at most 65,536 points.
+pub fn target_positions(alloc: Global, points: &[Point]) -> Result<Vec<u32>, AllocError>
+    requires few { length points.now ≤ 65536 }
+    ensures { IfOk result (λ v. v.items ≡ target_positions points.now) }
+{
+    let mut positions = Vec::new(alloc);
+    for (k, p) in points.iter().enumerate() {
+        if !is_source(p) {
+            positions.push(k as u32)?;
+        }
+    }
+    Ok(positions)
+}
