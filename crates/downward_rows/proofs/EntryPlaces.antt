@@ -26,36 +26,36 @@ use Rattle.quadtree.specs.TreeModel.{TreeModel, size, square_of, node_of}
 use Rattle.row_recursions.proofs.Geometry.{pairs_of_cells, far_places}
 use Rattle.tree_field.proofs.Members.{range_below}
 use Rattle.downward_rows.specs.Entries.{IsPairAt, IsFarPosition, IsFarCell, HasFarEntries}
-use Rattle.downward_rows.specs.LocalRows.{IsTreeWithLists}
+use Rattle.tree_rows.specs.Trees.{IsTreeWithLists}
 
 other_way : (b c : Square) → Touches b c → Touches c b
 other_way b c h = record { west = h.east; east = h.west; south = h.north; north = h.south }
 
-module _ (tree : TreeModel) (lists : EntryLists) (points : List Point) (has : IsTreeWithLists tree lists points) (n : ℕ) (lt : n < size tree) where
-  the_list : (letter : Letter) → IsListOf tree points has.cap letter n (row (lists_of lists letter) n)
-  the_list letter = has.lists_are.each points has.cap (in_grid points has.range) has.is_tree letter n lt
+module _ (tree : TreeModel) (lists : EntryLists) (points : List Point) (has : IsTreeWithLists points tree lists) (n : ℕ) (lt : n < size tree) where
+  the_list : (letter : Letter) → IsListOf tree points has.tree_is.cap letter n (row (lists_of lists letter) n)
+  the_list letter = has.lists_are.each points has.tree_is.cap (in_grid points has.tree_is.range) has.tree_is.is_tree letter n lt
 
   grid_is : (c : ℕ) → c < size tree → (square_of tree c).grid ≡ 16
-  grid_is c h = (tree_cell_at tree points has.cap c has.is_tree h).of_grid
+  grid_is c h = (tree_cell_at tree points has.tree_is.cap c has.tree_is.is_tree h).of_grid
 
   level_is : (c : ℕ) → c < size tree → (square_of tree c).level ≤ 16
-  level_is c h = (tree_cell_at tree points has.cap c has.is_tree h).level_in_grid
+  level_is c h = (tree_cell_at tree points has.tree_is.cap c has.tree_is.is_tree h).level_in_grid
 
-  entry_at : (letter : Letter) (k d : ℕ) → k < length (row (lists_of lists letter) n) → IsEntry 16 points has.cap letter (square_of tree n) (square_of tree (get_or (row (lists_of lists letter) n) k d))
+  entry_at : (letter : Letter) (k d : ℕ) → k < length (row (lists_of lists letter) n) → IsEntry 16 points has.tree_is.cap letter (square_of tree n) (square_of tree (get_or (row (lists_of lists letter) n) k d))
   entry_at letter k d h =
       let is = the_list letter in
       (is.exact (get_or (row (lists_of lists letter) n) k d) (is.numbers k d h)).0 (Contains-get_or (row (lists_of lists letter) n) k d h)
 
-  pair_at : (c : ℕ) → c < size tree → IsVPair 16 points has.cap (square_of tree n) (square_of tree c) → IsPairAt tree n c
+  pair_at : (c : ℕ) → c < size tree → IsVPair 16 points has.tree_is.cap (square_of tree n) (square_of tree c) → IsPairAt tree n c
   pair_at c h e = record {
     in_range = h;
     distance = (pairs_of_cells (square_of tree n) (square_of tree c) (grid_is n lt ∙ sym (grid_is c h)) e.come_apart.same_level e.come_apart.apart e.come_apart.parents_touch).kernel;
   }
 
-  far_position : (c k : ℕ) → c < size tree → IsWPair 16 points has.cap (square_of tree c) (square_of tree n) → Contains (members_of points (square_of tree c)) k → IsFarPosition points (square_of tree n) k
+  far_position : (c k : ℕ) → c < size tree → IsWPair 16 points has.tree_is.cap (square_of tree c) (square_of tree n) → Contains (members_of points (square_of tree c)) k → IsFarPosition points (square_of tree n) k
   far_position c k h e m = record {
     inside = inside;
-    range = λ p is. subst InRange (get_or_from_slice_get points k p p is) (has.range k p inside);
+    range = λ p is. subst InRange (get_or_from_slice_get points k p p is) (has.tree_is.range k p inside);
     far = λ p is. far_places (square_of tree c) (square_of tree n) p.x p.y (grid_is c h ∙ sym (grid_is n lt)) (omega (arith, e.comes_apart.deeper)) (omega (arith, grid_is n lt, level_is n lt))
         (λ t. e.comes_apart.apart (other_way (square_of tree c) (square_of tree n) t))
         (Holds-from_test (square_of tree c) p.x p.y (sym (ap (holds_point (square_of tree c)) is) ∙ held));
@@ -69,16 +69,16 @@ module _ (tree : TreeModel) (lists : EntryLists) (points : List Point) (has : Is
 
   few_members : (c : ℕ) → c < size tree → length (node_of tree c).members ≤ 2 ^ 16
   few_members c h =
-      let e : length (node_of tree c).members ≡ length (members_of points (square_of tree c)) = ap (λ l. length l) (has.is_tree.nodes_are c h).members_are in
+      let e : length (node_of tree c).members ≡ length (members_of points (square_of tree c)) = ap (λ l. length l) (has.tree_is.is_tree.nodes_are c h).members_are in
       let le = length-filter_both (λ j. holds_position (square_of tree c) points j) (λ j. not (holds_position (square_of tree c) points j)) (λ j. refl) (range_with_len 0 (length points)) in
-      omega (arith, e, le, length-range_with_len 0 (length points), has.count)
+      omega (arith, e, le, length-range_with_len 0 (length points), has.tree_is.few)
 
-  far_cell : (c : ℕ) → c < size tree → IsWPair 16 points has.cap (square_of tree c) (square_of tree n) → IsFarCell tree points (square_of tree n) c
+  far_cell : (c : ℕ) → c < size tree → IsWPair 16 points has.tree_is.cap (square_of tree c) (square_of tree n) → IsFarCell tree points (square_of tree n) c
   far_cell c h e = record {
     in_range = h;
     few = few_members c h;
     each = let P : List ℕ → Type 0 = λ l. All (IsFarPosition points (square_of tree n)) l in
-        subst P (sym (has.is_tree.nodes_are c h).members_are) (λ k d inside. far_position c (get_or (members_of points (square_of tree c)) k d) h e (Contains-get_or (members_of points (square_of tree c)) k d inside));
+        subst P (sym (has.tree_is.is_tree.nodes_are c h).members_are) (λ k d inside. far_position c (get_or (members_of points (square_of tree c)) k d) h e (Contains-get_or (members_of points (square_of tree c)) k d inside));
   }
 
   pub far_entries : HasFarEntries tree lists points n
@@ -88,5 +88,5 @@ module _ (tree : TreeModel) (lists : EntryLists) (points : List Point) (has : Is
     short = has.short n [] (omega (arith, lt, has.lists_are.as_many V));
     has_far = omega (arith, lt, has.lists_are.as_many X);
     far = λ k d h. far_cell (get_or (row lists.x n) k d) ((the_list X).numbers k d h) (entry_at X k d h).pair;
-    few = let le = length-le_from_below (size tree) (row lists.x n) (sorted_from_strictly_increasing (row lists.x n) (the_list X).ascending) (the_list X).numbers in omega (arith, le, has.is_tree.few);
+    few = let le = length-le_from_below (size tree) (row lists.x n) (sorted_from_strictly_increasing (row lists.x n) (the_list X).ascending) (the_list X).numbers in omega (arith, le, has.tree_is.is_tree.few);
   }

@@ -19,7 +19,7 @@ use Rattle.quadtree.specs.TreeModel.{TreeModel, size, square_of}
 use Rattle.tree_field.proofs.Ascending.{same_list}
 use Rattle.tree_field.proofs.Members.{Contains-into_map, image_of, AllPairs-map, AllPairs-both}
 use Rattle.tree_field.specs.Lists.{TreeLists, AreEntriesOf}
-use Rattle.downward_rows.specs.LocalRows.{IsFieldOf}
+use Rattle.tree_rows.specs.FieldRows.{IsFieldOf}
 
 second_in_tree : (grid : ℕ) (points : List Point) (cap : ℕ) (letter : Letter) (b c : Square) → IsPair grid points cap letter b c → IsTreeCell grid points cap c
 second_in_tree grid points cap U b c e = e.second_leaf.in_tree
@@ -27,7 +27,7 @@ second_in_tree grid points cap V b c e = e.second_in_tree
 second_in_tree grid points cap W b c e = e.second_in_tree
 second_in_tree grid points cap X b c e = e.first_leaf.in_tree
 
-module _ (tree : TreeModel) (lists : EntryLists) (points : List Point) (cap : ℕ) (field : TreeLists) (inside : AreInGrid 16 points) (are : AreLists tree lists) (is : IsFieldOf tree points cap field) (letter : Letter) (n : ℕ) (lt : n < size tree) where
+module _ (tree : TreeModel) (lists : EntryLists) (points : List Point) (cap : ℕ) (field : TreeLists) (inside : AreInGrid 16 points) (are : AreLists tree lists) (is : IsFieldOf points cap tree field) (letter : Letter) (n : ℕ) (lt : n < size tree) where
   the_list : IsListOf tree points cap letter n (row (lists_of lists letter) n)
   the_list = are.each points cap inside is.is_tree letter n lt
 

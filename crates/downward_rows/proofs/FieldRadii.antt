@@ -1,10 +1,12 @@
 -- The radius that is summed is that of the field.
-use Rattle.std.proofs.Common.{ℕ, ◌+◌, ◌*◌, ◌<◌, ◌≤◌, ◌≡◌, List, length, get_or, ap, ap₂, sym, ◌∙◌, arith, ℤ, pos, ◌+ℤ◌}
+use Rattle.std.proofs.Common.{ℕ, ◌+◌, ◌*◌, ◌<◌, ◌≤◌, ◌≡◌, inl, inr, ◌⊎◌, false, List, length, get_or, refl, ap, ap₂, sym, ◌∙◌, arith, ℤ, pos, ◌+ℤ◌}
 use Rattle.std.specs.Prelude.{All, sum_by, unsigned_abs}
+use Rattle.std.proofs.lemmas.Bool.{true≢false}
 use Rattle.std.proofs.lemmas.Int.{ints}
 use Rattle.std.proofs.lemmas.Map.Keys.{sorted_from_strictly_increasing}
 use Rattle.std.proofs.lemmas.Map.Views.{length-le_from_below}
 use Rattle.cell_name.specs.Square.{side, parent}
+use Rattle.cell_lists.proofs.CellNumbers.{first_level}
 use Rattle.cell_lists.specs.Lists.{IsListOf, AreLists, lists_of}
 use Rattle.cell_lists.specs.Row.{row}
 use Rattle.cell_lists.specs.declared.entry_lists.EntryLists.{EntryLists}
@@ -12,14 +14,14 @@ use Rattle.cert_text.specs.declared.Letter.{Letter}
 use Rattle.cert_text.specs.declared.Letter.TheVariants.{V, X}
 use Rattle.particle_text.specs.declared.Point.{Point}
 use Rattle.quadtree.specs.Tree.{AreInGrid}
-use Rattle.quadtree.specs.TreeModel.{TreeModel, size, square_of, IsTree}
-use Rattle.tree_field.proofs.LocalRows.{local_radius-below}
+use Rattle.quadtree.specs.TreeModel.{TreeModel, size, square_of, node_of, IsTree}
+use Rattle.tree_field.proofs.LocalRows.{local_radius-root, local_radius-below}
 use Rattle.tree_field.proofs.Sums.{sum_by-map, sum_by-same}
 use Rattle.tree_field.specs.Field.{pair_radius, single_radius, local_radius}
 use Rattle.tree_field.specs.Lists.{TreeLists}
 use Rattle.truncation.specs.Tails.{ceiling, pair_tail, single_tail}
-use Rattle.downward_rows.specs.LocalRows.{IsFieldOf}
-use Rattle.downward_rows.specs.Radii.{pair_loss, single_loss, AreWeights}
+use Rattle.tree_rows.specs.FieldRows.{AreWeights, IsFieldOf}
+use Rattle.downward_rows.specs.Radii.{IsRadiusOf, pair_loss, single_loss}
 use Rattle.downward_rows.proofs.FieldLists.{entries_by_number}
 
 module _ (tree : TreeModel) (lists : EntryLists) (is : IsTree tree) (are : AreLists tree lists) (letter : Letter) (n : ℕ) (lt : n < size tree) where
@@ -35,7 +37,15 @@ module _ (tree : TreeModel) (lists : EntryLists) (is : IsTree tree) (are : AreLi
   pub few_entries : length (row (lists_of lists letter) n) ≤ 65536
   few_entries = let le = length-le_from_below (size tree) (row (lists_of lists letter) n) (sorted_from_strictly_increasing (row (lists_of lists letter) n) the_list.ascending) the_list.numbers in omega (arith, le, is.is_tree.few)
 
-module _ (P : ℕ) (tree : TreeModel) (lists : EntryLists) (points : List Point) (cap : ℕ) (field : TreeLists) (weights : List ℤ) (n : ℕ) (inside : AreInGrid 16 points) (some : IsTree tree) (are : AreLists tree lists) (is : IsFieldOf tree points cap field) (lt : n < size tree) (given : AreWeights points P tree weights) where
+-- the first cell, and one without a target
+pub zero_radius : (P : ℕ) (tree : TreeModel) (points : List Point) (cap : ℕ) (field : TreeLists) (n : ℕ) → IsTree tree → IsFieldOf points cap tree field → n < size tree → (n ≡ 0) ⊎ ((node_of tree n).has_target ≡ false) → IsRadiusOf points cap P tree field n (pos 0)
+zero_radius P tree points cap field n some is lt (inl e) = record {
+  radius_is = λ t. ap pos (sym (local_radius-root points cap P field (square_of tree n) (ap (λ m. (square_of tree m).level) e ∙ first_level tree some (omega arith))));
+  empty = λ no. refl;
+}
+zero_radius P tree points cap field n some is lt (inr e) = record { radius_is = λ t. absurd (true≢false (sym ((is.is_tree.nodes_are n lt).target.1 t) ∙ e)); empty = λ no. refl }
+
+module _ (P : ℕ) (tree : TreeModel) (lists : EntryLists) (points : List Point) (cap : ℕ) (field : TreeLists) (weights : List ℤ) (n : ℕ) (inside : AreInGrid 16 points) (some : IsTree tree) (are : AreLists tree lists) (is : IsFieldOf points cap tree field) (lt : n < size tree) (given : AreWeights points P tree weights) where
   pairs_lose : (s : ℕ) → sum_by (pair_loss weights P s) (row lists.v n) ≡ sum_by (pair_radius points P s) (field.entries V (square_of tree n))
   pairs_lose s =
       sum_by-same (pair_loss weights P s) (λ c. pair_radius points P s (square_of tree c)) (row lists.v n)

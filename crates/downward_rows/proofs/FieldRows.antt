@@ -3,7 +3,7 @@ use Rattle.std.proofs.Common.{ℕ, ◌≡◌, ◌-◌, ◌*◌, ◌<◌, List, l
 use Rattle.std.specs.Prelude.{All, slice_get}
 use Rattle.std.specs.List.{range_with_len}
 use Rattle.std.proofs.lemmas.Bool.{false≢true}
-use Rattle.std.proofs.lemmas.List.Elements.{All-contains}
+use Rattle.std.proofs.lemmas.List.Elements.{All-contains, Contains-get_or}
 use Rattle.std.proofs.lemmas.Option.{slice_get_within}
 use Rattle.exact_math.specs.Ends.{BoxEnds, zero_box, add_box}
 use Rattle.exact_math.specs.Gaussian.{Gaussian}
@@ -36,8 +36,8 @@ use Rattle.tree_field.specs.Field.{is_source_in, sources_in, multipole_row, conv
 use Rattle.tree_field.specs.Lists.{TreeLists}
 use Rattle.truncation.specs.Places.{GaussianBeyond}
 use Rattle.downward_rows.specs.Entries.{pair_row, far_of, far_row_at, far_row_of, row_from, IsFarCell, IsFarPosition, HasFarEntries}
-use Rattle.downward_rows.specs.FlatRows.{row_at, AreSameRows}
-use Rattle.downward_rows.specs.LocalRows.{IsFieldOf, AreMultipoleRows}
+use Rattle.tree_rows.specs.FlatRows.{row_at, AreSameRows}
+use Rattle.tree_rows.specs.FieldRows.{IsFieldOf, AreMultipoleRowsOf}
 use Rattle.downward_rows.proofs.FarTotals.{positions_total}
 use Rattle.downward_rows.proofs.FieldLists.{entries_by_number}
 use Rattle.downward_rows.proofs.SameRows.{converted_same, shifted_down_same}
@@ -74,12 +74,12 @@ far_total points b c far k =
         (Contains-into_filter (λ j. holds_position c points j) (range_with_len 0 (length points)) i (Contains-range (length points) i (slice_get_within points i x e)) (ap (holds_point c) e ∙ held))
 
 -- ---- the row
-module _ (P : ℕ) (tree : TreeModel) (lists : EntryLists) (points : List Point) (cap : ℕ) (field : TreeLists) (up : List CBox) (n : ℕ) (inside : AreInGrid 16 points) (are : AreLists tree lists) (is : IsFieldOf tree points cap field) (lt : n < size tree) (entries : HasFarEntries tree lists points n) (multipoles : AreMultipoleRows points cap P tree up) where
+module _ (P : ℕ) (tree : TreeModel) (lists : EntryLists) (points : List Point) (cap : ℕ) (field : TreeLists) (up : List CBox) (n : ℕ) (inside : AreInGrid 16 points) (are : AreLists tree lists) (is : IsFieldOf points cap tree field) (lt : n < size tree) (entries : HasFarEntries tree lists points n) (multipoles : AreMultipoleRowsOf points cap P tree up (row lists.v n)) where
   pairs_is : (k : ℕ) → total_row (pair_row P tree up n) (row lists.v n) k ≡ converted_rows points cap P field (square_of tree n) k
   pairs_is k =
       total_box-same (λ c. pair_row P tree up n c k) (λ c. converted P (kernel_entry (sides_between (square_of tree n) (square_of tree c))) (multipole_row points cap (square_of tree c)) k) (row lists.v n)
       (λ i d h. converted_same P (kernel_entry (sides_between (square_of tree n) (square_of tree (get_or (row lists.v n) i d)))) (row_at P up (get_or (row lists.v n) i d)) (multipole_row points cap (square_of tree (get_or (row lists.v n) i d)))
-      (multipoles.each (get_or (row lists.v n) i d) (entries.pairs i d h).in_range) k)
+      (multipoles.each (get_or (row lists.v n) i d) (Contains-get_or (row lists.v n) i d h)) k)
       ∙ sym (total_box-map (λ c. converted P (kernel_entry (sides_between (square_of tree n) c)) (multipole_row points cap c) k) (square_of tree) (row lists.v n))
       ∙ ap (λ l. total_box (λ c. converted P (kernel_entry (sides_between (square_of tree n) c)) (multipole_row points cap c) k) l) (sym (entries_by_number tree lists points cap field inside are is V n lt))
 

@@ -4,11 +4,11 @@ use Rattle.std.specs.Prelude.{IsTrue, ◌==◌}
 use Rattle.std.proofs.lemmas.Bool.{cases_lt}
 use Rattle.exact_math.specs.Ends.{BoxEnds, BoxEndsWithin, zero_box, add_box}
 use Rattle.exact_math.specs.Gaussian.{gaussian}
-use Rattle.cell_name.proofs.Cells.{Holds-parent}
 use Rattle.cell_name.specs.Cell.{half_number}
-use Rattle.cell_name.specs.Square.{Square, parent}
+use Rattle.cell_name.specs.Square.{Square}
 use Rattle.cell_name.specs.declared.cell.Quadrant.{Quadrant}
-use Rattle.cell_lists.proofs.CellNumbers.{first_level, level_positive, parent_before, level_in_grid, IsParentOf}
+use Rattle.cell_lists.proofs.CellNumbers.{first_level, level_positive, parent_before, IsParentOf}
+use Rattle.cell_lists.specs.Row.{row}
 use Rattle.cell_lists.specs.declared.entry_lists.EntryLists.{EntryLists}
 use Rattle.complex_box.specs.Rows.{AllZero}
 use Rattle.complex_box.specs.declared.CBox.{CBox}
@@ -16,7 +16,7 @@ use Rattle.local_shift.proofs.Sums.{nothing_at}
 use Rattle.particle_text.specs.declared.Point.{Point}
 use Rattle.quadtree.proofs.Limits.{in_grid}
 use Rattle.quadtree.specs.Tree.{HasTarget}
-use Rattle.quadtree.specs.TreeModel.{TreeModel, size, square_of, node_of, IsTree}
+use Rattle.quadtree.specs.TreeModel.{TreeModel, size, square_of, node_of}
 use Rattle.row_recursions.proofs.RowSizes.{zero_within}
 use Rattle.row_recursions.proofs.ZeroBoxes.{zero_left}
 use Rattle.row_recursions.specs.Cells.{sign, quadrant_of}
@@ -27,15 +27,14 @@ use Rattle.tree_field.proofs.LocalRows.{local_row-root}
 use Rattle.tree_field.specs.Field.{local_row}
 use Rattle.tree_field.specs.Lists.{TreeLists}
 use Rattle.downward_rows.specs.Entries.{row_from}
-use Rattle.downward_rows.specs.FlatRows.{row_at, AreSameRows}
-use Rattle.downward_rows.specs.LocalRows.{IsTreeWithLists, IsFieldOf, AreMultipoleRows, IsLocalRow, AreLocalRowsTo}
+use Rattle.tree_rows.specs.FlatRows.{row_at, AreSameRows}
+use Rattle.tree_rows.specs.Trees.{IsTreeWithLists}
+use Rattle.tree_rows.specs.FieldRows.{IsFieldOf, AreMultipoleRowsOf, IsLocalRow}
 use Rattle.downward_rows.proofs.EntryPlaces.{far_entries}
 use Rattle.downward_rows.proofs.FieldRows.{row_is}
 use Rattle.downward_rows.proofs.FlatPlaces.{row_before, row_here, other_rows}
 use Rattle.downward_rows.proofs.Totals.{add_box-assoc}
-
-pub some_tree : (tree : TreeModel) (lists : EntryLists) (points : List Point) → IsTreeWithLists tree lists points → IsTree tree
-some_tree tree lists points h = record { points = points; cap = h.cap; in_grid = in_grid points h.range; few_points = h.count; is_tree = h.is_tree }
+use Rattle.downward_rows.proofs.Trees.{some_tree, target_of_parent}
 
 pub zero_row_within : (P : ℕ) (xs : List CBox) → length xs ≡ P → AllZero xs → RowWithin P 0 (row_of xs)
 zero_row_within P xs e z k h = subst (BoxEndsWithin 0) (sym (nothing_at P xs e z k h)) (zero_within 0)
@@ -52,34 +51,27 @@ half_is false n e = ap (λ m. m == 1) e
 pub quadrant_read : (q : Quadrant) (c : Square) → half_number q.right ≡ c.i % 2 → half_number q.top ≡ c.j % 2 → quadrant_of q ≡ quadrant c
 quadrant_read q c r t = ap₂ (λ x y. gaussian (sign x) (sign y)) (half_is q.right (c.i % 2) r) (half_is q.top (c.j % 2) t)
 
--- a parent has its child's targets
-target_above : (points : List Point) (c : Square) → 0 < c.level → c.level ≤ c.grid → HasTarget points c → HasTarget points (parent c)
-target_above points c lo hi h = record { target = h.target; here = record { listed = h.here.listed; held = Holds-parent c h.target.x h.target.y lo hi h.here.held }; is_target = h.is_target }
-
-module _ (P : ℕ) (tree : TreeModel) (lists : EntryLists) (points : List Point) (up : List CBox) (n : ℕ) (has : IsTreeWithLists tree lists points) (lt : n < size tree) (above own own' below rows : List CBox) (whole : rows ≡ above ++ (own ++ below)) (above_is : length above ≡ n * P) (own_is : length own ≡ P) (own'_is : length own' ≡ P) where
+module _ (P : ℕ) (tree : TreeModel) (lists : EntryLists) (points : List Point) (up : List CBox) (n : ℕ) (has : IsTreeWithLists points tree lists) (lt : n < size tree) (above own own' below rows : List CBox) (whole : rows ≡ above ++ (own ++ below)) (above_is : length above ≡ n * P) (own_is : length own ≡ P) (own'_is : length own' ≡ P) where
   pub others_stay : (m : ℕ) → (m ≡ n → ⊥) → AreSameRows P (row_at P (above ++ (own' ++ below)) m) (row_at P rows m)
   others_stay m ne k h = other_rows P n above above_is own own' below m own_is own'_is ne k h ∙ ap (λ l. row_at P l m k) (sym whole)
 
   pub above_stays : (m : ℕ) → m < n → AreSameRows P (row_at P above m) (row_at P rows m)
   above_stays m h k l = sym (row_before P n above above_is (own ++ below) m h k l) ∙ ap (λ r. row_at P r m k) (sym whole)
 
-  module _ (row : 0 < n → IsTrue (node_of tree n).has_target → AreSameRows P (row_of own') (row_from P tree lists points up n (row_at P above (node_of tree n).parent))) (at_root : n ≡ 0 → AreSameRows P (row_of own') (λ k. zero_box)) (empty : (IsTrue (node_of tree n).has_target → ⊥) → AreSameRows P (row_of own') (λ k. zero_box)) (cap : ℕ) (field : TreeLists) (is : IsFieldOf tree points cap field) (multipoles : AreMultipoleRows points cap P tree up) (before : AreLocalRowsTo points cap P tree field rows n) where
+  module _ (row_from_parent : 0 < n → IsTrue (node_of tree n).has_target → AreSameRows P (row_of own') (row_from P tree lists points up n (row_at P above (node_of tree n).parent))) (at_root : n ≡ 0 → AreSameRows P (row_of own') (λ k. zero_box)) (empty : (IsTrue (node_of tree n).has_target → ⊥) → AreSameRows P (row_of own') (λ k. zero_box)) (cap : ℕ) (field : TreeLists) (is : IsFieldOf points cap tree field) (multipoles : AreMultipoleRowsOf points cap P tree up (row lists.v n)) (parent_row : 0 < n → IsLocalRow points cap P tree field rows (node_of tree n).parent) where
     here : AreSameRows P (row_at P (above ++ (own' ++ below)) n) (row_of own')
     here = row_here P n above above_is own' below own'_is
 
     below_root : 0 < n → HasTarget points (square_of tree n) → AreSameRows P (row_of own') (local_row points cap P field (square_of tree n))
     below_root lo t k h =
-        let some = some_tree tree lists points has in
+        let some = some_tree points tree has.tree_is in
         let p : IsParentOf tree n (node_of tree n).parent = parent_before tree some n lo lt in
-        let level = level_positive tree some n lo lt in
-        let Q : Square → Type 0 = λ c. HasTarget points c in
-        let up_target : HasTarget points (square_of tree (node_of tree n).parent) = subst Q (sym p.is_parent) (target_above points (square_of tree n) level (level_in_grid tree some n lt) t) in
-        row lo ((is.is_tree.nodes_are n lt).target.1 t) k h
-        ∙ row_is P tree lists points cap field up n (in_grid points has.range) has.lists_are is lt (far_entries tree lists points has n lt) multipoles (row_at P above (node_of tree n).parent) level
-        (λ j l. above_stays (node_of tree n).parent p.before j l ∙ (before.each (node_of tree n).parent p.before).row_is up_target j l ∙ ap (λ c. local_row points cap P field c j) p.is_parent) k
+        row_from_parent lo ((is.is_tree.nodes_are n lt).target.1 t) k h
+        ∙ row_is P tree lists points cap field up n (in_grid points has.tree_is.range) has.lists_are is lt (far_entries tree lists points has n lt) multipoles (row_at P above (node_of tree n).parent) (level_positive tree some n lo lt)
+        (λ j l. above_stays (node_of tree n).parent p.before j l ∙ (parent_row lo).row_is (target_of_parent tree some points n lo lt t) j l ∙ ap (λ c. local_row points cap P field c j) p.is_parent) k
 
-    own_row : IsLocalRow points cap P tree field (above ++ (own' ++ below)) n
-    own_row = record {
+    pub row_filled : IsLocalRow points cap P tree field (above ++ (own' ++ below)) n
+    row_filled = record {
       row_is = λ t k h. here k h ∙ elim (cases_lt 0 n) [
         | inl lo ↦ below_root lo t k h
         | inr le ↦ at_root (omega arith) k h ∙ sym (local_row-root points cap P field (square_of tree n) (root_level (omega arith)) k)
@@ -88,18 +80,4 @@ module _ (P : ℕ) (tree : TreeModel) (lists : EntryLists) (points : List Point)
     }
       where
         root_level : n ≡ 0 → (square_of tree n).level ≡ 0
-        root_level e = ap (λ m. (square_of tree m).level) e ∙ first_level tree (some_tree tree lists points has) (omega arith)
-
-    earlier : (m : ℕ) → m < n → IsLocalRow points cap P tree field (above ++ (own' ++ below)) m
-    earlier m h = record {
-      row_is = λ t k l. others_stay m (λ e. absurd (omega arith)) k l ∙ (before.each m h).row_is t k l;
-      empty = λ no k l. others_stay m (λ e. absurd (omega arith)) k l ∙ (before.each m h).empty no k l;
-    }
-
-    pub rows_filled : AreLocalRowsTo points cap P tree field (above ++ (own' ++ below)) (n + 1)
-    rows_filled = record {
-      each = λ m h. elim (cases_lt m n) [
-        | inl less ↦ earlier m less
-        | inr ge ↦ let Q : ℕ → Type 0 = λ j. IsLocalRow points cap P tree field (above ++ (own' ++ below)) j in subst Q (omega arith) own_row
-      ];
-    }
+        root_level e = ap (λ m. (square_of tree m).level) e ∙ first_level tree (some_tree points tree has.tree_is) (omega arith)

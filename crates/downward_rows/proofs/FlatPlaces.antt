@@ -7,7 +7,7 @@ use Rattle.complex_box.specs.Box.{box_ends}
 use Rattle.complex_box.specs.Rows.{zero_cbox}
 use Rattle.complex_box.specs.declared.CBox.{CBox}
 use Rattle.row_recursions.specs.Rows.{row_of}
-use Rattle.downward_rows.specs.FlatRows.{row_at, AreSameRows}
+use Rattle.tree_rows.specs.FlatRows.{row_at, AreSameRows}
 
 pub room : (P m n : ℕ) → m < n → m * P + P ≤ n * P
 room P m n h = let g : suc m * P ≤ n * P = mul-le-mul_right P h in omega arith

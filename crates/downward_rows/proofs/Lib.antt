@@ -11,4 +11,6 @@ pub mod Losses
 pub mod PairRows
 pub mod SameRows
 pub mod Totals
+pub mod Translations
+pub mod Trees
 pub mod ZeroRows

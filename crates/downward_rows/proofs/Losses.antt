@@ -6,27 +6,27 @@ use Rattle.std.proofs.Math.Seq.{take-length}
 use Rattle.std.proofs.lemmas.Int.{ints, to_z-of_z}
 use Rattle.std.proofs.lemmas.List.Sums.{sum_by_more}
 use Rattle.truncation.specs.Tails.{ceiling}
-use Rattle.downward_rows.specs.Radii.{IsWeight}
+use Rattle.tree_rows.specs.FlatRows.{IsWeight}
 use mir.Syntax.{w128}
 
 ceiling_small : (a s : ℕ) → 1 ≤ s → ceiling a s ≤ a + 1
 ceiling_small a s h = let m : 1 * a ≤ s * a = mul-le-mul_right a h in div-le_of_le-mul s (omega arith)
 
-weight_small : (w : ℤ) → IsWeight w → unsigned_abs w ≤ 2 ^ 33
-weight_small w h = let l = h.low in let u = h.high in omega (arith, ints)
+weight_small : (w : ℤ) → IsWeight w → unsigned_abs w ≤ 2 ^ 32
+weight_small w h = let l = h.least in let u = h.most in omega (arith, ints)
 
 pub loss_small : (w side : ℤ) (tail : ℕ) → IsWeight w → tail ≤ 2 ^ 41 → pos 1 ≤ℤ side → ceiling (unsigned_abs w * tail) (unsigned_abs side) ≤ 2 ^ 75
 loss_small w side tail h t s =
     let a = weight_small w h in
-    let m : unsigned_abs w * tail ≤ 2 ^ 33 * tail = mul-le-mul_right tail a in
+    let m : unsigned_abs w * tail ≤ 2 ^ 32 * tail = mul-le-mul_right tail a in
     let c = ceiling_small (unsigned_abs w * tail) (unsigned_abs side) (omega (arith, ints)) in
     bound (ceiling (unsigned_abs w * tail) (unsigned_abs side)) (unsigned_abs w * tail) tail c m t
   where
-    bound : (x y t : ℕ) → x ≤ y + 1 → y ≤ 2 ^ 33 * t → t ≤ 2 ^ 41 → x ≤ 2 ^ 75
+    bound : (x y t : ℕ) → x ≤ y + 1 → y ≤ 2 ^ 32 * t → t ≤ 2 ^ 41 → x ≤ 2 ^ 75
     bound x y t a b c = omega arith
 
 weight_fits : (w : ℤ) → IsWeight w → SFits w128 w
-weight_fits w h = let l = h.low in let u = h.high in omega (arith, ints)
+weight_fits w h = let l = h.least in let u = h.most in omega (arith, ints)
 
 -- as it comes back from a call
 pub loss_read : (w side : ℤ) (tail : ℕ) → IsWeight w → SFits w64 side → ceiling (unsigned_abs (to_z w128 (of_z w128 w)) * tail) (unsigned_abs (to_z w64 (of_z w64 side))) ≡ ceiling (unsigned_abs w * tail) (unsigned_abs side)

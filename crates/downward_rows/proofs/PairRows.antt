@@ -11,7 +11,7 @@ use Rattle.quadtree.specs.TreeModel.{TreeModel, size, square_of}
 use Rattle.row_recursions.specs.Geometry.{sides_between}
 use Rattle.row_recursions.specs.Rows.{converted}
 use Rattle.downward_rows.specs.Entries.{pair_row}
-use Rattle.downward_rows.specs.FlatRows.{row_at, AreSameRows}
+use Rattle.tree_rows.specs.FlatRows.{row_at, AreSameRows}
 use Rattle.downward_rows.proofs.SameRows.{converted_same}
 
 pub distance_read : (tree : TreeModel) (cells : List Cell) (b c : ℕ) (x y : Cell) (e : Gaussian) → cells ≡ tree.cells → b < size tree → c < size tree → x ≡ get_or cells b x → y ≡ get_or cells c y

@@ -4,7 +4,7 @@ use Rattle.exact_math.specs.Ends.{BoxEnds, BoxEndsWithin, add_box, scale_box, ti
 use Rattle.exact_math.specs.Gaussian.{Gaussian}
 use Rattle.row_recursions.specs.Rows.{sum_boxes, converted, down_round, shifted_down}
 use Rattle.row_recursions.specs.Sizes.{RowWithin}
-use Rattle.downward_rows.specs.FlatRows.{AreSameRows}
+use Rattle.tree_rows.specs.FlatRows.{AreSameRows}
 
 sum_same : (n : ℕ) (f g : ℕ → BoxEnds) → ((k : ℕ) → k < n → f k ≡ g k) → sum_boxes n f ≡ sum_boxes n g
 sum_same zero f g h = refl

@@ -8,7 +8,7 @@ use Rattle.complex_box.specs.Rows.{AllZero, zero_cbox}
 use Rattle.complex_box.specs.declared.CBox.{CBox}
 use Rattle.row_recursions.proofs.RowSizes.{zero_within}
 use Rattle.row_recursions.specs.Sizes.{RowWithin}
-use Rattle.downward_rows.specs.FlatRows.{row_at}
+use Rattle.tree_rows.specs.FlatRows.{row_at}
 
 pub zero_rows_within : (P size : ℕ) (xs : List CBox) (n : ℕ) → AllZero xs → RowWithin P size (row_at P xs n)
 zero_rows_within P size xs n z k h = subst (BoxEndsWithin size) (sym is_zero) (zero_within size)

@@ -14,7 +14,7 @@ use Rattle.row_recursions.specs.Geometry.{sides_between}
 use Rattle.row_recursions.specs.Rows.{converted, shifted_down}
 use Rattle.soundness.specs.Computed.{total_row, far_coefficients_in}
 use Rattle.soundness.specs.Squares.{IsFarFrom, quadrant}
-use Rattle.downward_rows.specs.FlatRows.{row_at}
+use Rattle.tree_rows.specs.FlatRows.{row_at}
 
 -- the centre of cell b is a distance of the kernel from that of cell c
 pub record IsPairAt (tree : TreeModel) (b c : ℕ) : Type 0 where
@@ -43,11 +43,11 @@ abbrev pub weight_of : Option Point → ℕ
 weight_of (Some p) = weight64 p
 weight_of None = 0
 
-abbrev pub weight_at : List Point → ℕ → ℕ
-weight_at points k = weight_of (slice_get points k)
+abbrev pub far_weight_at : List Point → ℕ → ℕ
+far_weight_at points k = weight_of (slice_get points k)
 
 abbrev pub far_weight : TreeModel → List Point → ℕ → ℕ
-far_weight tree points c = sum_by (weight_at points) (node_of tree c).members
+far_weight tree points c = sum_by (far_weight_at points) (node_of tree c).members
 
 -- the point at a position is in range and far from the cell b
 pub record IsFarPosition (points : List Point) (b : Square) (k : ℕ) : Type 0 where

@@ -1,5 +1,4 @@
--- What the contracts cite: rows end to end in a slice, what entries add to them, the rows of the field, and what entries can lose.
+-- What the contracts cite: what entries add to local rows and what they can lose, and how many translations a row takes.
 pub mod Entries
-pub mod FlatRows
-pub mod LocalRows
 pub mod Radii
+pub mod Translations

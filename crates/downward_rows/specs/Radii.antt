@@ -1,13 +1,15 @@
--- What entries can lose by truncation, from the weights of all cells.
-use Rattle.std.specs.Prelude.{ℕ, ◌*◌, ◌^◌, ◌<◌, ◌≡◌, ℤ, pos, ◌≤ℤ◌, List, slice_index_or, unsigned_abs}
+-- What entries can lose by truncation, from the weights of all cells, and the radius of a cell.
+use Rattle.std.specs.Prelude.{ℕ, ◌*◌, ◌≡◌, ℤ, pos, List}
+use Rattle.cell_lists.specs.declared.entry_lists.EntryLists.{EntryLists}
 use Rattle.particle_text.specs.declared.Point.{Point}
-use Rattle.quadtree.specs.TreeModel.{TreeModel, size, square_of}
-use Rattle.tree_field.specs.Field.{weight_in}
+use Rattle.quadtree.specs.Tree.{HasTarget}
+use Rattle.quadtree.specs.TreeModel.{TreeModel, square_of}
+use Rattle.tree_field.specs.Field.{local_radius}
+use Rattle.tree_field.specs.Lists.{TreeLists}
+use Rattle.tree_rows.specs.FieldRows.{AreWeights}
+use Rattle.tree_rows.specs.FlatRows.{weight_at}
+use Rattle.tree_rows.specs.Trees.{IsTreeWithLists}
 use Rattle.truncation.specs.Tails.{ceiling, pair_tail, single_tail}
-
--- the weight of cell c
-abbrev pub weight_at : List ℤ → ℕ → ℕ
-weight_at weights c = unsigned_abs (slice_index_or weights c (pos 0))
 
 -- of a V entry of two cells of side s, and of an X entry of a cell of side s
 abbrev pub pair_loss : List ℤ → ℕ → ℕ → ℕ → ℕ
@@ -16,11 +18,13 @@ pair_loss weights P s c = ceiling (weight_at weights c * pair_tail P) s
 abbrev pub single_loss : List ℤ → ℕ → ℕ → ℕ → ℕ
 single_loss weights P s c = ceiling (weight_at weights c * single_tail P) s
 
--- what a weight may be: twice the greatest total of a list
-pub record IsWeight (w : ℤ) : Type 0 where
-  pub low : pos 0 ≤ℤ w
-  pub high : w ≤ℤ pos (2 ^ 33)
+-- the number is the radius of the local row of cell n where the cell has a target, and 0 where it has none
+pub record IsRadiusOf (points : List Point) (cap P : ℕ) (tree : TreeModel) (field : TreeLists) (n : ℕ) (radius : ℤ) : Type 0 where
+  pub radius_is : HasTarget points (square_of tree n) → radius ≡ pos (local_radius points cap P field (square_of tree n))
+  pub empty : (HasTarget points (square_of tree n) → ⊥) → radius ≡ pos 0
 
--- the weights are those of all cells
-pub record AreWeights (points : List Point) (P : ℕ) (tree : TreeModel) (weights : List ℤ) : Type 0 where
-  pub each : (c : ℕ) → c < size tree → slice_index_or weights c (pos 0) ≡ pos (weight_in points P (square_of tree c))
+-- the tree and its lists are those of some points, and the weights those of its cells
+pub record AreWeightsOfTree (P : ℕ) (tree : TreeModel) (lists : EntryLists) (weights : List ℤ) : Type 0 where
+  pub points : List Point
+  pub tree_is : IsTreeWithLists points tree lists
+  pub weights_are : AreWeights points P tree weights

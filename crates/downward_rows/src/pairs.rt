@@ -9,7 +9,7 @@ ghost use Rattle.row_recursions.specs.Geometry.{sides_between};
 ghost use Rattle.row_recursions.specs.Rows.{row_of, RowsAdd, converted};
 ghost use Rattle.row_recursions.specs.Sizes.{RowWithin};
 ghost use Rattle.soundness.specs.Computed.{total_row};
-ghost use Rattle.downward_rows.specs.FlatRows.{row_at};
+ghost use Rattle.tree_rows.specs.FlatRows.{row_at};
 ghost use Rattle.downward_rows.specs.Entries.{IsPairAt, pair_row};
 
 use cell_name::Cell;

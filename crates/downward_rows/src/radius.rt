@@ -4,10 +4,10 @@ ghost use Rattle.cell_lists.specs.Lists.{AreLists};
 ghost use Rattle.particle_text.specs.declared.Point.{Point};
 ghost use Rattle.quadtree.specs.Tree.{AreInGrid};
 ghost use Rattle.quadtree.specs.TreeModel.{size, square_of, node_of};
-ghost use Rattle.tree_field.specs.Field.{local_radius};
 ghost use Rattle.tree_field.specs.Lists.{TreeLists};
-ghost use Rattle.downward_rows.specs.LocalRows.{IsFieldOf};
-ghost use Rattle.downward_rows.specs.Radii.{IsWeight, AreWeights, pair_loss, single_loss};
+ghost use Rattle.tree_rows.specs.FieldRows.{AreWeights, IsFieldOf};
+ghost use Rattle.tree_rows.specs.FlatRows.{IsWeight};
+ghost use Rattle.downward_rows.specs.Radii.{IsRadiusOf, pair_loss, single_loss};
 
 use cell_lists::EntryLists;
 use error_ledger::Ledger;
@@ -50,9 +50,9 @@ fn add_single_losses(weights: &[i128], list: &[u32], side: i64, order: u32, ledg
 }
 
 /// The radius of the local row of cell `n`, in units of 2^-40: that of its parent's row, and what the entries of its V and X lists can lose.
-/// The root's is 0. `weights` has the total weight of the sources of each cell.
+/// The root's is 0, and so is that of a cell without a target. `weights` has the total weight of the sources of each cell.
 ///
-/// Conditions: the lists are those of the tree; each weight is 0 to 2^33, the parent's radius 0 to 2^120, and the order 1 to 32.
+/// Conditions: the lists are those of the tree; each weight is 0 to 2^32, the parent's radius 0 to 2^120, and the order 1 to 32.
 pub fn local_radius(
     tree: &Tree,
     lists: &EntryLists,
@@ -69,12 +69,12 @@ pub fn local_radius(
     requires high { parent ≤ℤ pos (2 ^ 120) }
     requires least { 1 ≤ order }
     requires most { order ≤ 32 }
-    ensures radius { (points : List Point) (cap : ℕ) (field : TreeLists) → AreInGrid 16 points → IsFieldOf tree.now points cap field → AreWeights points order tree.now weights.now → (0 < n → parent ≡ pos (local_radius points cap order field (square_of tree.now (node_of tree.now n).parent))) → result ≡ pos (local_radius points cap order field (square_of tree.now n)) }
+    ensures radius { (points : List Point) (cap : ℕ) (field : TreeLists) → AreInGrid 16 points → IsFieldOf points cap tree.now field → AreWeights points order tree.now weights.now → (0 < n → IsRadiusOf points cap order tree.now field (node_of tree.now n).parent parent) → IsRadiusOf points cap order tree.now field n result }
     ensures low { pos 0 ≤ℤ result }
     ensures high { result ≤ℤ (parent +ℤ pos (2 ^ 92)) }
 {
     let cells = tree.cells();
-    if n == 0 {
+    if n == 0 || !tree.has_target(n) {
         return 0;
     }
     let side = cells[n].side();

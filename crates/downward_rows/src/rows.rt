@@ -7,9 +7,11 @@ ghost use Rattle.cell_lists.specs.Row.{row};
 ghost use Rattle.row_recursions.specs.Rows.{row_of};
 ghost use Rattle.row_recursions.specs.Sizes.{RowWithin};
 ghost use Rattle.tree_field.specs.Lists.{TreeLists};
+ghost use Rattle.tree_rows.specs.FieldRows.{IsFieldOf, AreMultipoleRowsOf, IsLocalRow};
+ghost use Rattle.tree_rows.specs.FlatRows.{row_at, AreSameRows};
+ghost use Rattle.tree_rows.specs.Trees.{IsTreeWithLists};
 ghost use Rattle.downward_rows.specs.Entries.{HasFarEntries, row_from, far_weight};
-ghost use Rattle.downward_rows.specs.FlatRows.{row_at, AreSameRows};
-ghost use Rattle.downward_rows.specs.LocalRows.{IsTreeWithLists, IsFieldOf, AreMultipoleRows, AreLocalRowsTo, translations_at};
+ghost use Rattle.downward_rows.specs.Translations.{translations_at};
 
 use crate::far::add_far_cells;
 use crate::pairs::{add_pairs, row_of_cell};
@@ -69,7 +71,7 @@ fn fill<const P: usize>(
 )
     requires order { IsOrder P }
     requires number { n < size tree.now }
-    requires tree { IsTreeWithLists tree.now lists.now points.now }
+    requires tree { IsTreeWithLists points.now tree.now lists.now }
     requires rows { length up.now ≡ size tree.now * P }
     requires multipoles { (c : ℕ) → c < size tree.now → RowWithin P (2 ^ 80) (row_at P up.now c) }
     requires above { length above.now ≡ n * P }
@@ -111,17 +113,18 @@ pub fn fill_row<const P: usize>(
 )
     requires order { IsOrder P }
     requires number { n < size tree.now }
-    requires tree { IsTreeWithLists tree.now lists.now points.now }
+    requires tree { IsTreeWithLists points.now tree.now lists.now }
     requires multipole_rows { length up.now ≡ size tree.now * P }
     requires multipoles { (c : ℕ) → c < size tree.now → RowWithin P (2 ^ 80) (row_at P up.now c) }
     requires rows { length rows.old ≡ size tree.now * P }
     requires parent { 0 < n → RowWithin P (2 ^ 90) (row_at P rows.old (node_of tree.now n).parent) }
     requires count { work.old.translations + 28 < 2 ^ 63 }
-    ensures local { (cap : ℕ) (field : TreeLists) → IsFieldOf tree.now points.now cap field → AreMultipoleRows points.now cap P tree.now up.now → AreLocalRowsTo points.now cap P tree.now field rows.old n → AreLocalRowsTo points.now cap P tree.now field rows.new (n + 1) }
+    ensures local { (cap : ℕ) (field : TreeLists) → IsFieldOf points.now cap tree.now field → AreMultipoleRowsOf points.now cap P tree.now up.now (row lists.now.v n) → (0 < n → IsLocalRow points.now cap P tree.now field rows.old (node_of tree.now n).parent) → IsLocalRow points.now cap P tree.now field rows.new n }
     ensures others { (m : ℕ) → m ≢ n → AreSameRows P (row_at P rows.new m) (row_at P rows.old m) }
     ensures len { length rows.new ≡ length rows.old }
     ensures size { (p q : ℕ) → (0 < n → RowWithin P p (row_at P rows.old (node_of tree.now n).parent)) → ((c : ℕ) → c < size tree.now → RowWithin P (2 * q) (row_at P up.now c)) → RowWithin P (p + 81 * q + 2 ^ 40 * sum_by (far_weight tree.now points.now) (row lists.now.x n)) (row_at P rows.new n) }
     ensures translations { work.new.translations ≡ work.old.translations + translations_at tree.now lists.now n }
+    ensures few { work.new.translations ≤ work.old.translations + 28 }
     ensures pairs { work.new.pairs ≡ work.old.pairs }
 {
     let (above, rest) = rows.split_at_mut(n * P);

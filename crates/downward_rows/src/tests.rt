@@ -2,7 +2,7 @@
 ghost use Rattle.std.specs.Prelude.{◌≡◌, ◌≤◌, ◌*◌, IfOk, length};
 ghost use Rattle.complex_box.specs.Rows.{AllZero};
 ghost use Rattle.particle_text.specs.Limits.{WithinLimits};
-ghost use Rattle.downward_rows.specs.LocalRows.{IsTreeWithLists};
+ghost use Rattle.tree_rows.specs.Trees.{IsTreeWithLists};
 
 use super::{fill_row, local_radius};
 use cell_lists::{EntryLists, lists};
@@ -45,7 +45,7 @@ fn row_is(
     points: &[Point],
     row: [((i128, i128), (i128, i128)); 4],
 ) -> Result<(), Fail>
-    requires tree { IsTreeWithLists tree.now lists.now points.now }
+    requires tree { IsTreeWithLists points.now tree.now lists.now }
 {
     let count = tree.cells().len();
     assert!(rt; 15 < count);

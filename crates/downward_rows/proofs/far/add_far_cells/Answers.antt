@@ -6,7 +6,7 @@ use Rattle.exact_math.specs.Ends.{add_box}
 use Rattle.cell_name.specs.Cell.{square}
 use Rattle.row_recursions.specs.Rows.{row_of}
 use Rattle.soundness.specs.Computed.{total_row}
-use Rattle.downward_rows.specs.Entries.{far_row_at, far_row_of, far_weight, weight_at}
+use Rattle.downward_rows.specs.Entries.{far_row_at, far_row_of, far_weight, far_weight_at}
 use Rattle.downward_rows.proofs.Totals.{none_added, one_added, row_wider}
 use Rattle.downward_rows.proofs.far.add_far_cells.Goals as goal
 
@@ -25,12 +25,12 @@ add_positions-requires-clause-sum g c =
 pub loop-c-preserved : goal.loop-c-preserved
 loop-c-preserved g c =
     let e = sum_by_more (far_weight c.args.tree.now c.args.points.now) c.args.list.now c.loop-c.c-index 0 (omega arith) in
-    let m : sum_by (weight_at c.args.points.now) c.members.result.now ≡ far_weight c.args.tree.now c.args.points.now (get_or c.args.list.now c.loop-c.c-index 0) = ap (sum_by (weight_at c.args.points.now)) c.members.ensures in
+    let m : sum_by (far_weight_at c.args.points.now) c.members.result.now ≡ far_weight c.args.tree.now c.args.points.now (get_or c.args.list.now c.loop-c.c-index 0) = ap (sum_by (far_weight_at c.args.points.now)) c.members.ensures in
     record {
       len = c.add_positions.ensures.len;
       adds = one_added g.row.P (far_row_of c.args.tree.now c.args.points.now (square c.args.cell)) c.args.list.now c.loop-c.c-index 0 (row_of c.args.into.now) (row_of c.loop-c.into) (row_of c.add_positions.new.into) (omega arith) c.loop-c.invariant.adds
           (λ k h. c.add_positions.ensures.adds k h ∙ ap (λ l. add_box (row_of c.loop-c.into k) (total_row (far_row_at c.args.points.now (square c.args.cell)) l k)) c.members.ensures);
-      size = λ n h. row_wider g.row.P (n + 2 ^ 40 * sum_by (far_weight c.args.tree.now c.args.points.now) (take c.loop-c.c-index c.args.list.now) + 2 ^ 40 * sum_by (weight_at c.args.points.now) c.members.result.now)
+      size = λ n h. row_wider g.row.P (n + 2 ^ 40 * sum_by (far_weight c.args.tree.now c.args.points.now) (take c.loop-c.c-index c.args.list.now) + 2 ^ 40 * sum_by (far_weight_at c.args.points.now) c.members.result.now)
           (n + 2 ^ 40 * sum_by (far_weight c.args.tree.now c.args.points.now) (take (c.loop-c.c-index + 1) c.args.list.now)) (row_of c.add_positions.new.into) (omega (arith, e, m))
           (c.add_positions.ensures.size (n + 2 ^ 40 * sum_by (far_weight c.args.tree.now c.args.points.now) (take c.loop-c.c-index c.args.list.now)) (c.loop-c.invariant.size n h));
       light = omega (arith, e, m, c.loop-c.invariant.light, c.add_positions.ensures.light);

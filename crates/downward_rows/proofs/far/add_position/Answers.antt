@@ -6,7 +6,7 @@ use Rattle.particle_text.specs.Limits.{weight64}
 use Rattle.particle_text.specs.declared.Point.{Point}
 use Rattle.row_recursions.proofs.Points.{weight_bounded}
 use Rattle.row_recursions.specs.Rows.{row_of}
-use Rattle.downward_rows.specs.Entries.{weight_of, weight_at}
+use Rattle.downward_rows.specs.Entries.{weight_of, far_weight_at}
 use Rattle.downward_rows.proofs.FarPoints.{blank, is_there, far_read}
 use Rattle.downward_rows.proofs.Totals.{row_wider}
 use Rattle.downward_rows.proofs.far.add_position.Goals as goal
@@ -20,7 +20,7 @@ add_far_source-requires-clause-far g c = c.requires.far.far (get_or c.args.point
 pub returns-clause-adds : goal.returns-clause-adds
 returns-clause-adds g c = λ k h. c.add_far_source.ensures.adds k h ∙ ap (add_box (row_of c.args.into.now k)) (far_read c.args.points.now (square c.args.cell) c.args.k k c.requires.far.inside)
 
-light : (points : List Point) (k : ℕ) (p : Point) → slice_get points k ≡ Some p → weight64 p ≡ weight_at points k
+light : (points : List Point) (k : ℕ) (p : Point) → slice_get points k ≡ Some p → weight64 p ≡ far_weight_at points k
 light points k p e = ap weight_of (sym e)
 
 pub returns-clause-light : goal.returns-clause-light
@@ -33,4 +33,4 @@ pub returns-clause-size : goal.returns-clause-size
 returns-clause-size g c = λ n h.
     let here = is_there c.args.points.now c.args.k c.requires.far.inside in
     let e = light c.args.points.now c.args.k (get_or c.args.points.now c.args.k blank) here in
-    row_wider g.row.P (n + 2 ^ 40 * weight64 (get_or c.args.points.now c.args.k blank)) (n + 2 ^ 40 * weight_at c.args.points.now c.args.k) (row_of c.add_far_source.new.into) (omega arith) (c.add_far_source.ensures.size n h)
+    row_wider g.row.P (n + 2 ^ 40 * weight64 (get_or c.args.points.now c.args.k blank)) (n + 2 ^ 40 * far_weight_at c.args.points.now c.args.k) (row_of c.add_far_source.new.into) (omega arith) (c.add_far_source.ensures.size n h)

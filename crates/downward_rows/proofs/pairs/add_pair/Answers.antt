@@ -5,7 +5,7 @@ use Rattle.kernel_table.specs.Kernel.{IsKernelDistance}
 use Rattle.quadtree.specs.TreeModel.{square_of}
 use Rattle.row_recursions.specs.Geometry.{sides_between}
 use Rattle.row_recursions.specs.Rows.{row_of}
-use Rattle.downward_rows.specs.FlatRows.{row_at}
+use Rattle.tree_rows.specs.FlatRows.{row_at}
 use Rattle.downward_rows.proofs.PairRows.{distance_read, pair_read}
 use Rattle.downward_rows.proofs.SameRows.{within_same}
 use Rattle.downward_rows.proofs.pairs.add_pair.Goals as goal

@@ -4,7 +4,7 @@ use Rattle.row_recursions.specs.Rows.{row_of, RowsAdd}
 use Rattle.row_recursions.specs.Sizes.{RowWithin}
 use Rattle.soundness.specs.Computed.{total_row}
 use Rattle.downward_rows.specs.Entries.{pair_row}
-use Rattle.downward_rows.specs.FlatRows.{row_at}
+use Rattle.tree_rows.specs.FlatRows.{row_at}
 use Rattle.downward_rows.proofs.pairs.add_pairs.Given as goal
 
 abbrev pub invariant-loop-c : goal.invariant-loop-c

@@ -1,19 +1,21 @@
-use Rattle.std.proofs.Common.{ℕ, ◌≡◌, ◌<◌, ◌≤◌, List, length, ap, ◌∙◌, sym, subst, arith, pos, w64, to_z, of_z}
+use Rattle.std.proofs.Common.{ℕ, ◌≡◌, ◌<◌, ◌≤◌, inl, inr, List, length, ap, ◌∙◌, sym, subst, arith, pos, w64, to_z, of_z}
 use Rattle.std.specs.Prelude.{All}
 use Rattle.cell_name.specs.Square.{side}
-use Rattle.cell_lists.proofs.CellNumbers.{first_level, level_positive, parent_before}
+use Rattle.cell_lists.proofs.CellNumbers.{level_positive, parent_before}
 use Rattle.cell_lists.proofs.TreeNumbers.{read_at}
 use Rattle.cert_text.specs.declared.Letter.TheVariants.{V, X}
 use Rattle.quadtree.specs.TreeModel.{square_of}
-use Rattle.tree_field.proofs.LocalRows.{local_radius-root}
 use Rattle.tree_field.specs.Field.{local_radius}
-use Rattle.downward_rows.proofs.FieldRadii.{listed, numbers, few_entries, radius_read}
+use Rattle.downward_rows.proofs.FieldRadii.{listed, numbers, few_entries, zero_radius, radius_read}
 use Rattle.downward_rows.proofs.Losses.{side_read, sum_read}
+use Rattle.downward_rows.proofs.Trees.{target_of_parent}
 use Rattle.downward_rows.proofs.radius.local_radius.Goals as goal
+use Rattle.downward_rows.proofs.radius.local_radius.Goals.{then-n-eq0-via-then-n-eq0, then-n-eq0-via-else-n-eq0+then-not-has_target}
 
 pub returns-then-n-eq0-clause-radius : goal.returns-then-n-eq0-clause-radius
 returns-then-n-eq0-clause-radius c = λ points cap field inside is w p.
-    ap pos (sym (local_radius-root points cap c.args.order field (square_of c.args.tree.now c.args.n) (ap (λ m. (square_of c.args.tree.now m).level) c.if-n-eq0.true ∙ first_level c.args.tree.now c.cells-cells.ensures.tree (omega arith))))
+    zero_radius c.args.order c.args.tree.now points cap field c.args.n c.cells-cells.ensures.tree is c.requires.number
+    (elim c.then-n-eq0.branch [ then-n-eq0-via-then-n-eq0 w ↦ inl w.if-n-eq0.true | then-n-eq0-via-else-n-eq0+then-not-has_target w ↦ inr (sym w.has_target.ensures ∙ w.if-not-has_target.true) ])
 
 pub v_list-requires : goal.v_list-requires
 v_list-requires c = listed c.args.tree.now c.args.lists.now c.cells-cells.ensures.tree c.requires.lists V c.args.n c.requires.number
@@ -43,13 +45,17 @@ add_single_losses-requires-clause-few c =
 
 pub returns-clause-radius : goal.returns-clause-radius
 returns-clause-radius c = λ points cap field inside is w p.
+    let some = c.cells-cells.ensures.tree in
     let lo : 0 < c.args.n = omega arith in
-    let level = level_positive c.args.tree.now c.cells-cells.ensures.tree c.args.n lo c.requires.number in
-    let up = parent_before c.args.tree.now c.cells-cells.ensures.tree c.args.n lo c.requires.number in
+    let up = parent_before c.args.tree.now some c.args.n lo c.requires.number in
     let s : to_z w64 (of_z w64 c.side-side.result) ≡ pos (side (square_of c.args.tree.now c.args.n)) =
     side_read c.side-side.result c.side-side.ensures.at_least c.side-side.ensures.at_most ∙ c.side-side.ensures.value
     ∙ ap (λ q. pos (side q)) (read_at c.args.tree.now c.cells-cells.result.now c.args.n c.index-cells-n.result c.cells-cells.ensures.all c.requires.number c.index-cells-n.is) in
-    sum_read c.args.parent c.radius.result c.add_single_losses.new.ledger.radius c.requires.low c.requires.high c.radius.ensures c.add_single_losses.new.ledger.most
-    ∙ radius_read c.args.order c.args.tree.now c.args.lists.now points cap field c.args.weights.now c.args.n inside c.cells-cells.ensures.tree c.requires.lists is c.requires.number w level
-    (to_z w64 (of_z w64 c.side-side.result)) (to_z w64 (of_z w64 c.side-side.result)) c.args.parent c.v_list.result.now c.x_list.result.now c.new-ledger.result.radius c.add_pair_losses.new.ledger.radius c.add_single_losses.new.ledger.radius
-    s s c.v_list.ensures c.x_list.ensures c.new-ledger.ensures c.add_pair_losses.ensures.added c.add_single_losses.ensures.added (p lo ∙ ap (λ q. pos (local_radius points cap c.args.order field q)) up.is_parent)
+    record {
+      radius_is = λ t. sum_read c.args.parent c.radius.result c.add_single_losses.new.ledger.radius c.requires.low c.requires.high c.radius.ensures c.add_single_losses.new.ledger.most
+          ∙ radius_read c.args.order c.args.tree.now c.args.lists.now points cap field c.args.weights.now c.args.n inside some c.requires.lists is c.requires.number w (level_positive c.args.tree.now some c.args.n lo c.requires.number)
+          (to_z w64 (of_z w64 c.side-side.result)) (to_z w64 (of_z w64 c.side-side.result)) c.args.parent c.v_list.result.now c.x_list.result.now c.new-ledger.result.radius c.add_pair_losses.new.ledger.radius c.add_single_losses.new.ledger.radius
+          s s c.v_list.ensures c.x_list.ensures c.new-ledger.ensures c.add_pair_losses.ensures.added c.add_single_losses.ensures.added
+          ((p lo).radius_is (target_of_parent c.args.tree.now some points c.args.n lo c.requires.number t) ∙ ap (λ q. pos (local_radius points cap c.args.order field q)) up.is_parent);
+      empty = λ no. absurd (no ((is.is_tree.nodes_are c.args.n c.requires.number).target.0 (sym c.has_target.ensures ∙ c.if-not-has_target.false)));
+    }

@@ -9,26 +9,27 @@ use Rattle.row_recursions.specs.Rows.{row_of}
 use Rattle.soundness.specs.Computed.{total_row}
 use Rattle.soundness.specs.Squares.{quadrant}
 use Rattle.downward_rows.specs.Entries.{pair_row, far_row_of, far_weight}
-use Rattle.downward_rows.specs.FlatRows.{row_at}
+use Rattle.tree_rows.specs.FlatRows.{row_at}
 use Rattle.downward_rows.proofs.EntryPlaces.{far_entries}
-use Rattle.downward_rows.proofs.FilledRows.{some_tree, zero_row_within}
+use Rattle.downward_rows.proofs.FilledRows.{zero_row_within}
 use Rattle.downward_rows.proofs.FlatPlaces.{room}
 use Rattle.downward_rows.proofs.SameRows.{within_same, shifted_down_same}
 use Rattle.downward_rows.proofs.Totals.{row_wider}
+use Rattle.downward_rows.proofs.Trees.{some_tree}
 use Rattle.downward_rows.proofs.rows.fill.Goals as goal
 
 pub row_of_cell-parent-requires : goal.row_of_cell-parent-requires
 row_of_cell-parent-requires g c =
-    let some = some_tree c.args.tree.now c.args.lists.now c.args.points.now c.requires.tree in
+    let some = some_tree c.args.points.now c.args.tree.now c.requires.tree.tree_is in
     let p = parent_before c.args.tree.now some c.args.n c.if-n-gt0.true c.requires.number in
     let small = order_small g.row.P c.requires.order in
-    let few = c.requires.tree.is_tree.few in
+    let few = c.requires.tree.tree_is.is_tree.few in
     let r = room g.row.P c.parent.result c.args.n (omega (arith, c.parent.ensures, p.before)) in
     (lit< tt, (omega (arith, small), (omega (arith, c.parent.ensures, p.before, few, c.requires.number), omega (arith, r, c.requires.above))))
 
 pub fill_below-requires : goal.fill_below-requires
 fill_below-requires g c =
-    let some = some_tree c.args.tree.now c.args.lists.now c.args.points.now c.requires.tree in
+    let some = some_tree c.args.points.now c.args.tree.now c.requires.tree.tree_is in
     let level = level_positive c.args.tree.now some c.args.n c.if-n-gt0.true c.requires.number in (
       lit< tt,
       (

@@ -3,7 +3,7 @@ use Rattle.std.proofs.Common.{◌^◌, List, length, ap, sym, subst, arith, lit<
 use Rattle.complex_box.specs.declared.CBox.{CBox}
 use Rattle.quadtree.specs.TreeModel.{node_of}
 use Rattle.row_recursions.specs.Sizes.{RowWithin}
-use Rattle.downward_rows.specs.FlatRows.{row_at}
+use Rattle.tree_rows.specs.FlatRows.{row_at}
 use Rattle.downward_rows.proofs.ZeroRows.{zero_rows_within}
 use Rattle.downward_rows.proofs.tests.row_is.Goals as goal
 
