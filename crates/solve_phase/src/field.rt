@@ -25,7 +25,7 @@ pub struct Field<const P: usize> {
     pub(crate) values: Vec<CBox>,
     pub(crate) translations: u64,
     pub(crate) pairs: u64,
-    pub(crate) ghost together: { FitTogether P tree lists up.items local.items radii.items values.items },
+    pub(crate) ghost together: { FitTogether P tree up.items local.items radii.items values.items },
 }
 
 impl<const P: usize> Field<P> {

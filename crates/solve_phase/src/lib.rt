@@ -4,8 +4,8 @@
 #![tactic(auto)]
 
 mod field;
-mod solve;
+mod solving;
 
 pub use field::Field;
 pub use quadtree::TreeFault as SolveFault;
-pub use solve::solve;
+pub use solving::solve;
