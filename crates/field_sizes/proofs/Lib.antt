@@ -1,4 +1,5 @@
 -- What the proofs of this crate rest on.
+pub mod Bounds
 pub mod BoxSizes
 pub mod CellSources
 pub mod CellWeights
