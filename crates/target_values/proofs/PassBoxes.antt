@@ -11,7 +11,7 @@ use Rattle.cell_lists.specs.Lists.{AreLists}
 use Rattle.cell_lists.specs.declared.entry_lists.EntryLists.{EntryLists}
 use Rattle.complex_box.specs.Box.{box_ends, BoxWithin}
 use Rattle.complex_box.specs.declared.CBox.{CBox}
-use Rattle.field_sizes.specs.Sizes.{BoxSizes}
+use Rattle.field_sizes.proofs.Bounds.{boxes_within}
 use Rattle.near_field.specs.DirectSum.{direct_sum}
 use Rattle.particle_text.specs.Limits.{most_weight, total_weight}
 use Rattle.particle_text.specs.Points.{place}
@@ -29,9 +29,6 @@ use Rattle.target_values.proofs.FieldBox.{box_is, boxes_contain}
 use Rattle.target_values.proofs.Numbers.{in_grid}
 use Rattle.target_values.proofs.Sums.{map-same}
 use Rattle.target_values.proofs.Positions.{targets_at, positions_are, rows_of_leaf}
-
-box_sizes : BoxSizes
-box_sizes = ?
 
 -- ---- lists whose images are the same
 zip-from_images : {A B C : Type 0} (R : A → C → Type 0) (f : A → C) (g : B → C) (ts : List A) (vs : List B) → map g vs ≡ map f ts → All (λ t. R t (f t)) ts → AllZip (λ t v. R t (g v)) ts vs
@@ -84,4 +81,4 @@ module _ (points : List Point) (P : ℕ) (tree : TreeModel) (lists : EntryLists)
     pub each_small : IsOrder P → (values : List CBox) → map box_ends values ≡ target_boxes points cap P field 16 → All (BoxWithin (2 ^ 84)) values
     each_small order values e =
         all-from_images (BoxEndsWithin (2 ^ 84)) (λ t. target_box points cap P field 16 (place t)) box_ends (targets points) values e
-        (box_sizes points cap P field order (record { in_grid = in_grid points is.range; light = is.light; lists_are = rows.field_is.lists_are }))
+        (boxes_within points cap P field order (record { in_grid = in_grid points is.range; light = is.light; lists_are = rows.field_is.lists_are }))
