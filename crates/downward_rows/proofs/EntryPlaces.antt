@@ -41,7 +41,7 @@ module _ (tree : TreeModel) (lists : EntryLists) (points : List Point) (has : Is
   level_is : (c : ℕ) → c < size tree → (square_of tree c).level ≤ 16
   level_is c h = (tree_cell_at tree points has.tree_is.cap c has.tree_is.is_tree h).level_in_grid
 
-  entry_at : (letter : Letter) (k d : ℕ) → k < length (row (lists_of lists letter) n) → IsEntry 16 points has.tree_is.cap letter (square_of tree n) (square_of tree (get_or (row (lists_of lists letter) n) k d))
+  pub entry_at : (letter : Letter) (k d : ℕ) → k < length (row (lists_of lists letter) n) → IsEntry 16 points has.tree_is.cap letter (square_of tree n) (square_of tree (get_or (row (lists_of lists letter) n) k d))
   entry_at letter k d h =
       let is = the_list letter in
       (is.exact (get_or (row (lists_of lists letter) n) k d) (is.numbers k d h)).0 (Contains-get_or (row (lists_of lists letter) n) k d h)

@@ -7,10 +7,12 @@
 
 mod far;
 mod pairs;
+mod pass;
 mod radius;
 mod rows;
 #[cfg(test)]
 mod tests;
 
+pub use pass::{downward_pass, radius_pass};
 pub use radius::local_radius;
 pub use rows::fill_row;
