@@ -23,7 +23,7 @@ use Rattle.tree_rows.specs.FieldRows.{IsFieldOf, AreMultipoleRows, IsLocalRow}
 use Rattle.tree_rows.specs.FlatRows.{row_at}
 use Rattle.tree_rows.specs.Trees.{IsTreeOfPoints}
 use Rattle.downward_rows.specs.Radii.{IsRadiusOf}
-use Rattle.downward_rows.proofs.RowBounds.{rows_within, radii_within}
+use Rattle.field_sizes.proofs.Bounds.{rows_within, radii_within}
 use Rattle.downward_rows.proofs.SameRows.{within_same}
 use Rattle.downward_rows.proofs.Totals.{row_wider}
 
