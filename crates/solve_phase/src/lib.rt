@@ -4,6 +4,7 @@
 #![tactic(auto)]
 
 mod field;
+mod rows;
 mod solving;
 
 pub use field::Field;
