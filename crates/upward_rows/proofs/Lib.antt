@@ -1,4 +1,5 @@
 -- Lemmas on the rows of a tree.
+pub mod Children
 pub mod Counts
 pub mod Points
 pub mod Sizes

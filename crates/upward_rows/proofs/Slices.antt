@@ -1,15 +1,15 @@
 -- One row of the slice of all rows.
-use Rattle.std.proofs.Common.{ℕ, ◌≡◌, ◌+◌, ◌-◌, ◌*◌, ◌<◌, ◌≤◌, List, ◌++◌, length, get_or, take, drop, sym, ap, ◌∙◌, arith, length-append, length-drop}
+use Rattle.std.proofs.Common.{ℕ, ◌≡◌, ◌+◌, ◌-◌, ◌*◌, ◌<◌, ◌≤◌, List, ◌++◌, length, get_or, take, drop, ap, ◌∙◌, arith, length-append, length-drop}
 use borrow.Rule.Slice.PartMut.{put_mid, post_of}
 use Rattle.std.proofs.Math.Nat.{mul-le-mul_right}
 use Rattle.std.specs.List.{between}
 use Rattle.std.proofs.lemmas.List.Edits.{get_or-between}
-use Rattle.exact_math.specs.Ends.{BoxEnds}
 use Rattle.std.proofs.lemmas.List.{get_or_append_left, get_or-append_right, length-take}
 use Rattle.complex_box.specs.Box.{box_ends}
 use Rattle.complex_box.specs.Rows.{zero_cbox}
 use Rattle.complex_box.specs.declared.CBox.{CBox}
 use Rattle.row_recursions.specs.Rows.{row_of}
+use Rattle.tree_rows.specs.FlatRows.{row_at}
 
 -- ---- positions
 pub row_fits : (a b P : ℕ) → a < b → a * P + P ≤ b * P
@@ -50,15 +50,12 @@ module _ (P n : ℕ) (front back row : List CBox) (whole : length front ≡ (n +
       ∙ ap (λ j. get_or (row ++ post_of (n * P) (length front - n * P) front) j zero_cbox) (let e : n * P + k - n * P ≡ k = omega arith in e)
       ∙ get_or_append_left row (post_of (n * P) (length front - n * P) front) zero_cbox k (omega arith))
 
-  pub later_row : (i : ℕ) → (n + 1) * P ≤ i → row_of (written ++ back) i ≡ row_of (front ++ back) i
-  later_row i le = ap box_ends (
-      get_or-append_right written back ((n + 1) * P) i zero_cbox written_length le
-      ∙ sym (get_or-append_right front back ((n + 1) * P) i zero_cbox whole le))
-
 -- ---- a row that is read from those behind
-pub row_behind : (P n m : ℕ) (behind cells : List CBox) (row : ℕ → BoxEnds) → cells ≡ between ((m - n - 1) * P) ((m - n - 1) * P + P) behind → ((k : ℕ) → k < P → row_of behind ((m - (n + 1)) * P + k) ≡ row k) → (k : ℕ) → k < P → row_of cells k ≡ row k
-row_behind P n m behind cells row e h k lt =
+pub part_row : (P n m : ℕ) (rows behind : List CBox) → ((j : ℕ) (d : CBox) → get_or behind j d ≡ get_or rows ((n + 1) * P + j) d) → n < m → (k : ℕ) → row_at P behind (m - (n + 1)) k ≡ row_at P rows m k
+part_row P n m rows behind each lt k = ap box_ends (each ((m - (n + 1)) * P + k) zero_cbox) ∙ ap (row_of rows) (from_next m n P k lt)
+
+pub row_behind : (P n m : ℕ) (behind cells : List CBox) → cells ≡ between ((m - n - 1) * P) ((m - n - 1) * P + P) behind → (k : ℕ) → k < P → row_of cells k ≡ row_at P behind (m - (n + 1)) k
+row_behind P n m behind cells e k lt =
     ap (λ l. row_of l k) e
     ∙ ap box_ends (get_or-between behind ((m - n - 1) * P) ((m - n - 1) * P + P) k zero_cbox (omega arith))
     ∙ ap (λ j. row_of behind (j * P + k)) (let d : m - n - 1 ≡ m - (n + 1) = omega arith in d)
-    ∙ h k lt

@@ -1,2 +1,2 @@
--- What the contracts cite: the rows of a tree's cells in one list, and how many shifts they take.
+-- What the contracts cite: which boxes stay, and how many shifts the rows take.
 pub mod Upward

@@ -1,4 +1,4 @@
--- The multipole rows of the cells of a tree, one behind the other in one list of boxes, in the order of the cells.
+-- What making the multipole rows of a tree's cells leaves as it was, and how many shifts it takes.
 use Rattle.std.specs.Prelude.{ℕ, ◌≡◌, ◌+◌, ◌*◌, ◌≤◌, ◌<◌, Bool, ◌&&◌, nat_lt, cond, List}
 use Rattle.std.specs.List.{count_by}
 use Rattle.cell_name.specs.Square.{Square}
@@ -6,19 +6,8 @@ use Rattle.complex_box.specs.Rows.{at}
 use Rattle.complex_box.specs.declared.CBox.{CBox}
 use Rattle.particle_text.specs.declared.Point.{Point}
 use Rattle.quadtree.specs.Splitting.{quarters}
-use Rattle.quadtree.specs.TreeModel.{TreeModel, size, square_of, node_of, IsTreeOf}
-use Rattle.row_recursions.specs.Rows.{row_of}
-use Rattle.tree_field.specs.Field.{has_source, multipole_row}
-
--- the tree of the points with some capacity of the leaves
-pub record IsTreeOfPoints (points : List Point) (tree : TreeModel) : Type 0 where
-  pub capacity : ℕ
-  pub is_tree : IsTreeOf 16 tree points capacity
-
--- the rows of all cells from the number n on are those of the field, whatever capacity gave the tree; the row of the cell m has the P boxes from the position
--- m P on
-pub record UpFrom (points : List Point) (P : ℕ) (tree : TreeModel) (rows : List CBox) (n : ℕ) : Type 0 where
-  pub rows_are : (capacity m k : ℕ) → IsTreeOf 16 tree points capacity → n ≤ m → m < size tree → k < P → row_of rows (m * P + k) ≡ multipole_row points capacity (square_of tree m) k
+use Rattle.quadtree.specs.TreeModel.{TreeModel, square_of, node_of}
+use Rattle.tree_field.specs.Field.{has_source}
 
 -- no box but those of the row of the cell n has changed
 pub record OthersStay (P n : ℕ) (old new : List CBox) : Type 0 where

@@ -1,11 +1,15 @@
 //! The row of one cell.
-ghost use Rattle.std.specs.Prelude.{◌≡◌, ℕ, ◌+◌, ◌-◌, ◌*◌, ◌^◌, ◌<◌, ◌≤◌, length, All};
+ghost use Rattle.std.specs.Prelude.{◌≡◌, ℕ, ◌+◌, ◌-◌, ◌*◌, ◌^◌, ◌<◌, ◌≤◌, length, All, Contains};
 ghost use Rattle.exact_math.specs.Orders.{IsOrder};
-ghost use Rattle.particle_text.specs.Limits.{InRange, most_weight, total_weight};
 ghost use Rattle.quadtree.specs.TreeModel.{IsTreeOf, size, square_of};
 ghost use Rattle.row_recursions.specs.Rows.{row_of};
+ghost use Rattle.row_recursions.specs.Sizes.{RowWithin};
 ghost use Rattle.tree_field.specs.Field.{multipole_row};
-ghost use Rattle.upward_rows.specs.Upward.{IsTreeOfPoints, UpFrom, OthersStay, shifts_into};
+ghost use Rattle.tree_field.specs.Program.{source_children};
+ghost use Rattle.tree_rows.specs.FieldRows.{AreMultipoleRowsOf};
+ghost use Rattle.tree_rows.specs.FlatRows.{row_at, AreSameRows};
+ghost use Rattle.tree_rows.specs.Trees.{IsTreeOfPoints};
+ghost use Rattle.upward_rows.specs.Upward.{OthersStay, shifts_into};
 
 use crate::quarters::{quadrant, quarter_with_source};
 use crate::sources::sum_sources;
@@ -14,7 +18,8 @@ use multipole_shift::shift_up;
 use particle_text::Point;
 use quadtree::Tree;
 
-/// Makes the row of cell `n` from its sources or from the rows behind it, of which `behind` begins with that of cell `n + 1`.
+/// Makes the row of cell `n` from its sources or from the rows of its quarters that have a source. `behind` begins with the row of cell
+/// `n + 1`.
 fn sum_row<const P: usize>(
     tree: &Tree,
     points: &[Point],
@@ -25,14 +30,12 @@ fn sum_row<const P: usize>(
 )
     requires order { IsOrder P }
     requires tree { IsTreeOfPoints points.now tree.now }
-    requires range { All InRange points.now }
-    requires weight { total_weight points.now ≤ most_weight }
     requires cell { n < size tree.now }
     requires whole { length behind.now ≡ (size tree.now - (n + 1)) * P }
-    requires behind { (capacity m k : ℕ) → IsTreeOf 16 tree.now points.now capacity → n < m → m < size tree.now → k < P → row_of behind.now ((m - (n + 1)) * P + k) ≡ multipole_row points.now capacity (square_of tree.now m) k }
+    requires small { All (λ m. RowWithin P (2 ^ 74) (row_at P behind.now (m - (n + 1)))) (source_children tree.now n) }
     requires len { length row.old ≡ P }
     requires room { work.old.translations < 2 ^ 62 }
-    ensures row { (capacity k : ℕ) → IsTreeOf 16 tree.now points.now capacity → k < P → row_of row.new k ≡ multipole_row points.now capacity (square_of tree.now n) k }
+    ensures row { (cap : ℕ) → IsTreeOf 16 tree.now points.now cap → ((m : ℕ) → Contains (source_children tree.now n) m → AreSameRows P (row_at P behind.now (m - (n + 1))) (multipole_row points.now cap (square_of tree.now m))) → AreSameRows P (row_of row.new) (multipole_row points.now cap (square_of tree.now n)) }
     ensures translations { work.new.translations ≡ work.old.translations + shifts_into points.now tree.now n }
     ensures pairs { work.new.pairs ≡ work.old.pairs }
 {
@@ -53,12 +56,13 @@ fn sum_row<const P: usize>(
     }
 }
 
-/// Makes the row of cell `n` in the slice of all rows, where the rows of all cells behind it stand: of a leaf the sum of the moments of its
-/// sources, of another cell the sum of the rows of its quarters that have a source, shifted up, which raises the translations by one
-/// each. A cell without a source gets zeros.
+/// Makes the row of cell `n` in the slice of all rows: of a leaf the sum of the moments of its sources, of another cell the sum of the rows of
+/// its quarters that have a source, shifted up, which raises the translations by one each. A cell without a source gets zeros. Where the rows
+/// of those quarters are the multipole rows of the field, the row of the cell is too.
 ///
-/// Conditions: `P` is one of the orders, the tree is that of the points, which are in range and within the total weight, `n` is a cell's
-/// number, the slice has `P` boxes for each cell, and the count of translations is below 2^62.
+/// Conditions: `P` is one of the orders, the tree is that of the points, which are within the limits, `n` is a cell's number, the slice has `P`
+/// boxes for each cell, those of the quarters of `n` that have a source have ends of at most 2^74 in size, and the count of translations is
+/// below 2^62.
 pub fn fill_row<const P: usize>(
     tree: &Tree,
     points: &[Point],
@@ -68,16 +72,16 @@ pub fn fill_row<const P: usize>(
 )
     requires order { IsOrder P }
     requires tree { IsTreeOfPoints points.now tree.now }
-    requires range { All InRange points.now }
-    requires weight { total_weight points.now ≤ most_weight }
     requires cell { n < size tree.now }
     requires len { length rows.old ≡ size tree.now * P }
-    requires behind { UpFrom points.now P tree.now rows.old (n + 1) }
+    requires small { All (λ m. RowWithin P (2 ^ 74) (row_at P rows.old m)) (source_children tree.now n) }
     requires room { work.old.translations < 2 ^ 62 }
     ensures len { length rows.new ≡ length rows.old }
-    ensures row { UpFrom points.now P tree.now rows.new n }
+    ensures row { (cap : ℕ) → IsTreeOf 16 tree.now points.now cap → AreMultipoleRowsOf points.now cap P tree.now rows.old (source_children tree.now n) → AreSameRows P (row_at P rows.new n) (multipole_row points.now cap (square_of tree.now n)) }
+    ensures small { (cap : ℕ) → IsTreeOf 16 tree.now points.now cap → AreMultipoleRowsOf points.now cap P tree.now rows.old (source_children tree.now n) → RowWithin P (2 ^ 74) (row_at P rows.new n) }
     ensures others { OthersStay P n rows.old rows.new }
     ensures translations { work.new.translations ≡ work.old.translations + shifts_into points.now tree.now n }
+    ensures few { work.new.translations ≤ work.old.translations + 4 }
     ensures pairs { work.new.pairs ≡ work.old.pairs }
 {
     let (front, behind) = rows.split_at_mut((n + 1) * P);

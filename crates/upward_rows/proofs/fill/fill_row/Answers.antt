@@ -1,49 +1,60 @@
--- The row stands in its place, and the rows behind it as before.
-use Rattle.std.proofs.Common.{inl, inr, ◌≡◌, ◌+◌, ◌-◌, ◌*◌, ◌++◌, ap, sym, ◌∙◌, arith, length}
-use Rattle.std.proofs.lemmas.Bool.{cases_lt}
-use Rattle.complex_box.specs.Box.{box_ends}
-use Rattle.complex_box.specs.Rows.{zero_cbox}
+-- The row stands in its place, and the rows behind it are read where they stand.
+use Rattle.std.proofs.Common.{◌+◌, ◌-◌, ◌^◌, length, sym, subst, ◌∙◌, arith}
+use Rattle.std.proofs.lemmas.List.Elements.{All-contains}
+use Rattle.exact_math.specs.Ends.{BoxEndsWithin}
 use Rattle.quadtree.specs.TreeModel.{size, square_of}
-use Rattle.row_recursions.specs.Rows.{row_of}
+use Rattle.row_recursions.specs.Sizes.{RowWithin}
+use Rattle.row_recursions.proofs.RowSizes.{order_small}
 use Rattle.tree_field.specs.Field.{multipole_row}
-use Rattle.upward_rows.proofs.Slices.{row_fits, from_next, rest_length, part_length, written, own_row, later_row}
+use Rattle.tree_field.specs.Program.{source_children}
+use Rattle.tree_field.proofs.Members.{All-from_members}
+use Rattle.tree_rows.specs.FlatRows.{row_at}
+use Rattle.upward_rows.proofs.Children.{tree_is, child_behind}
+use Rattle.upward_rows.proofs.Counts.{shifts_few}
+use Rattle.upward_rows.proofs.Sizes.{multipole_row-light}
+use Rattle.upward_rows.proofs.Slices.{rest_length, part_length, own_row, part_row}
+use Rattle.upward_rows.proofs.Totals.{wider}
+use Rattle.upward_rows.proofs.Trees.{cell_is}
 use Rattle.upward_rows.proofs.fill.fill_row.Goals as goal
 
 pub sum_row-requires-clause-whole : goal.sum_row-requires-clause-whole
 sum_row-requires-clause-whole g c = let h = c.split_at_mut-front.ensures in rest_length (length c.split_at_mut-front.result.1.now) c.args.n (size c.args.tree.now) g.row.P c.requires.cell (h.back_len ∙ c.requires.len)
 
-pub sum_row-requires-clause-behind : goal.sum_row-requires-clause-behind
-sum_row-requires-clause-behind g c = λ capacity m k is after inside lt.
+pub sum_row-requires-clause-small : goal.sum_row-requires-clause-small
+sum_row-requires-clause-small g c =
     let P = g.row.P in
     let n = c.args.n in
-    let h = c.split_at_mut-front.ensures in
-    ap box_ends (h.by_index.1 ((m - (n + 1)) * P + k) zero_cbox)
-    ∙ ap (row_of c.args.rows.now) (from_next m n P k after)
-    ∙ c.requires.behind.rows_are capacity m k is (omega arith) inside lt
+    let tree = c.args.tree.now in
+    let rows = c.args.rows.now in
+    let back = c.split_at_mut-front.result.1.now in
+    All-from_members (λ m. RowWithin P (2 ^ 74) (row_at P back (m - (n + 1)))) (source_children tree n) (λ m listed k h.
+    let child = child_behind tree (tree_is c.args.points.now tree c.requires.tree) n m listed in
+    subst (BoxEndsWithin (2 ^ 74)) (sym (part_row P n m rows back c.split_at_mut-front.ensures.by_index.1 child.behind k)) (All-contains (λ m. RowWithin P (2 ^ 74) (row_at P rows m)) (source_children tree n) m c.requires.small listed k h))
 
 pub sum_row-requires-clause-len : goal.sum_row-requires-clause-len
 sum_row-requires-clause-len g c = part_length g.row.P c.args.n c.split_at_mut-front.result.0.now c.split_at_mut-front.ensures.front_len
 
 pub returns-clause-row : goal.returns-clause-row
-returns-clause-row g c = record {
-  rows_are = λ capacity m k is le inside lt.
-      let P = g.row.P in
-      let n = c.args.n in
-      let h = c.split_at_mut-front.ensures in
-      let front = c.split_at_mut-front.result.0.now in
-      let back = c.split_at_mut-front.result.1.now in
-      let row = c.sum_row.new.row in
-      let as_long : length row ≡ P = c.sum_row.auto.row ∙ part_length P n front h.front_len in
-      elim (cases_lt n m) [
-        | inl after ↦
-            later_row P n front back row h.front_len as_long (m * P + k) (let f = row_fits n m P after in omega (arith, f))
-            ∙ ap (λ l. row_of l (m * P + k)) (sym h.value)
-            ∙ c.requires.behind.rows_are capacity m k is (omega arith) inside lt
-        | inr before ↦
-            let e : m ≡ n = omega arith in
-            ap (λ j. row_of (written P n front back row h.front_len as_long ++ back) (j * P + k)) e
-            ∙ own_row P n front back row h.front_len as_long k lt
-            ∙ c.sum_row.ensures.row capacity k is lt
-            ∙ ap (λ j. multipole_row c.args.points.now capacity (square_of c.args.tree.now j) k) (sym e)
-      ];
-}
+returns-clause-row g c = λ cap is rows k lt.
+    let P = g.row.P in
+    let n = c.args.n in
+    let tree = c.args.tree.now in
+    let h = c.split_at_mut-front.ensures in
+    let front = c.split_at_mut-front.result.0.now in
+    let back = c.split_at_mut-front.result.1.now in
+    let row = c.sum_row.new.row in
+    own_row P n front back row h.front_len (c.sum_row.auto.row ∙ part_length P n front h.front_len) k lt
+    ∙ c.sum_row.ensures.row cap is (λ m listed j l.
+    part_row P n m c.args.rows.now back h.by_index.1 (child_behind tree (tree_is c.args.points.now tree c.requires.tree) n m listed).behind j
+    ∙ rows.each m listed j l) k lt
+
+pub returns-clause-small : goal.returns-clause-small
+returns-clause-small g c = λ cap is rows k lt.
+    let P = g.row.P in
+    let here = square_of c.args.tree.now c.args.n in
+    let cell = cell_is c.args.tree.now c.args.points.now cap is c.args.n c.requires.cell in
+    subst (BoxEndsWithin (2 ^ 74)) (sym (returns-clause-row g c cap is rows k lt))
+    (wider P (2 ^ 72) (2 ^ 74) (multipole_row c.args.points.now cap here) (omega arith) (multipole_row-light P c.args.points.now cap here (omega (arith, order_small P c.requires.order)) (omega (arith, cell.of_grid, cell.level_in_grid)) c.requires.tree.light) k lt)
+
+pub returns-clause-few : goal.returns-clause-few
+returns-clause-few g c = omega (arith, c.sum_row.ensures.translations, shifts_few c.args.points.now c.args.tree.now c.args.n)

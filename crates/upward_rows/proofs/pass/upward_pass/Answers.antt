@@ -1,14 +1,44 @@
 -- One row more.
-use Rattle.std.proofs.Common.{◌≡◌, ◌+◌, ◌-◌, ◌<◌, ap, ◌∙◌, length, arith}
+use Rattle.std.proofs.Common.{inl, inr, ◌≡◌, ◌+◌, ◌-◌, ◌*◌, ◌^◌, ◌<◌, ap, ◌∙◌, sym, subst, length, arith}
 use Rattle.std.specs.Prelude.{sum_by}
 use Rattle.std.specs.List.{range_with_len}
-use Rattle.quadtree.specs.TreeModel.{size}
+use Rattle.std.proofs.lemmas.Bool.{cases_lt}
+use Rattle.exact_math.specs.Ends.{BoxEndsWithin}
+use Rattle.complex_box.specs.Box.{box_ends}
+use Rattle.quadtree.specs.TreeModel.{size, square_of}
+use Rattle.row_recursions.specs.Sizes.{RowWithin}
+use Rattle.row_recursions.proofs.RowSizes.{order_small}
+use Rattle.tree_field.specs.Field.{multipole_row}
+use Rattle.tree_field.specs.Program.{source_children}
+use Rattle.tree_field.proofs.Members.{All-from_members}
+use Rattle.tree_rows.specs.FlatRows.{row_at}
 use Rattle.upward_rows.specs.Upward.{shifts_into}
-use Rattle.upward_rows.proofs.Counts.{in_grid, shifts_few, shifts_more, shifts_of_all}
+use Rattle.upward_rows.proofs.Children.{tree_is, child_behind}
+use Rattle.upward_rows.proofs.Counts.{in_grid, shifts_more, shifts_of_all}
+use Rattle.upward_rows.proofs.Sizes.{multipole_row-light}
+use Rattle.upward_rows.proofs.Slices.{row_fits}
+use Rattle.upward_rows.proofs.Totals.{wider}
+use Rattle.upward_rows.proofs.Trees.{cell_is}
 use Rattle.upward_rows.proofs.pass.upward_pass.Goals as goal
+
+pub fill_row-requires-clause-small : goal.fill_row-requires-clause-small
+fill_row-requires-clause-small g c =
+    let P = g.row.P in
+    let tree = c.args.tree.now in
+    let points = c.args.points.now in
+    let capacity = c.requires.tree.cap in
+    let is = c.requires.tree.is_tree in
+    let n = c.loop-n.n - 1 in
+    let few = order_small P c.requires.order in
+    All-from_members (λ m. RowWithin P (2 ^ 74) (row_at P c.loop-n.rows m)) (source_children tree n) (λ m listed k h.
+    let child = child_behind tree (tree_is points tree c.requires.tree) n m listed in
+    let cell = cell_is tree points capacity is m child.inside in
+    subst (BoxEndsWithin (2 ^ 74)) (sym (c.loop-n.invariant.rows capacity m is (omega (arith, child.behind)) child.inside k h))
+    (wider P (2 ^ 72) (2 ^ 74) (multipole_row points capacity (square_of tree m)) (omega arith) (multipole_row-light P points capacity (square_of tree m) (omega (arith, few)) (omega (arith, cell.of_grid, cell.level_in_grid)) c.requires.tree.light) k h))
 
 pub loop-n-preserved : goal.loop-n-preserved
 loop-n-preserved g c =
+    let P = g.row.P in
     let points = c.args.points.now in
     let tree = c.args.tree.now in
     let n = c.loop-n.n - 1 in
@@ -16,9 +46,24 @@ loop-n-preserved g c =
     let lt : n < size tree = omega (arith, c.loop-n-test.true, c.loop-n.auto.n, ap length c.cells-n.ensures.all) in
     let before = ap (λ k. sum_by (shifts_into points tree) (range_with_len k (size tree - k))) next in
     record {
-      rows = c.fill_row.ensures.row;
+      rows = λ cap m is le inside k h.
+          elim (cases_lt n m) [
+            | inl after ↦
+                ap box_ends (c.fill_row.ensures.others.behind (m * P + k) (let f = row_fits n m P after in omega (arith, f)))
+                ∙ c.loop-n.invariant.rows cap m is (omega (arith, after, next)) inside k h
+            | inr last ↦
+                let e : m ≡ n = omega (arith, le, last) in
+                ap (λ j. row_at P c.fill_row.new.rows j k) e
+                ∙ c.fill_row.ensures.row cap is
+                (record {
+                  each = λ j listed. let child = child_behind tree (tree_is points tree c.requires.tree) n j listed in
+                      c.loop-n.invariant.rows cap j is (omega (arith, child.behind, next)) child.inside;
+                })
+                k h
+                ∙ ap (λ j. multipole_row points cap (square_of tree j) k) (sym e)
+          ];
       translations = omega (arith, c.fill_row.ensures.translations, c.loop-n.invariant.translations, shifts_more points tree n (size tree) lt, before);
-      few = omega (arith, c.fill_row.ensures.translations, c.loop-n.invariant.few, shifts_few points tree n, lt, next);
+      few = omega (arith, c.fill_row.ensures.few, c.loop-n.invariant.few, lt, next);
       pairs = c.fill_row.ensures.pairs ∙ c.loop-n.invariant.pairs;
     }
 
@@ -29,5 +74,5 @@ returns-clause-translations g c =
     let first : c.loop-n.n ≡ 0 = omega (arith, c.loop-n-test.false) in
     let all = ap (λ k. sum_by (shifts_into points tree) (range_with_len k (size tree - k))) first in
     let whole = ap (λ j. sum_by (shifts_into points tree) (range_with_len 0 j)) (let e : size tree - 0 ≡ size tree = omega arith in e) in
-    let total = shifts_of_all tree points c.requires.tree.capacity c.requires.tree.is_tree (in_grid points c.requires.range) in
+    let total = shifts_of_all tree points c.requires.tree.cap c.requires.tree.is_tree (in_grid points c.requires.tree.range) in
     omega (arith, c.loop-n.invariant.translations, all, whole, total)
