@@ -12,7 +12,6 @@ pub mod LocalRows
 pub mod Losses
 pub mod PairRows
 pub mod RadiiSoFar
-pub mod RowBounds
 pub mod SameRows
 pub mod Totals
 pub mod Translations
