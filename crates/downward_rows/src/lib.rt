@@ -13,6 +13,6 @@ mod rows;
 #[cfg(test)]
 mod tests;
 
-pub use pass::{downward_pass, radius_pass};
-pub use radius::local_radius;
+pub use pass::downward_pass;
+pub use radius::{local_radius, radius_pass};
 pub use rows::fill_row;

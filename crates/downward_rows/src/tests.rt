@@ -2,9 +2,9 @@
 ghost use Rattle.std.specs.Prelude.{◌≡◌, ◌≤◌, ◌*◌, IfOk, length};
 ghost use Rattle.complex_box.specs.Rows.{AllZero};
 ghost use Rattle.particle_text.specs.Limits.{WithinLimits};
-ghost use Rattle.tree_rows.specs.Trees.{IsTreeWithLists};
+ghost use Rattle.tree_rows.specs.Trees.{IsTreeOfPoints, IsTreeWithLists};
 
-use super::{fill_row, local_radius};
+use super::{fill_row, local_radius, radius_pass};
 use cell_lists::{EntryLists, lists};
 use complex_box::{CBox, Work};
 use kernel_table::Kernel;
@@ -13,6 +13,7 @@ use quadtree::Tree;
 use std::alloc::Global;
 use std::process::Abort;
 use std::test::Fail;
+use tree_rows::weigh_cells;
 
 /// The list of a text.
 fn points_of(alloc: Global, text: &str) -> Result<Points, Fail>
@@ -62,19 +63,25 @@ fn row_is(
     Ok(())
 }
 
-/// The radius of a cell whose parent's radius is 0, where each cell has this weight.
+/// The radius of a cell above which nothing is lost: among those of all cells, and by itself.
 fn radius_is(
     rt: &impl Abort,
     alloc: Global,
     tree: &Tree,
+    points: &[Point],
     n: usize,
-    weight: u32,
     radius: i128,
-) -> Result<(), Fail> {
+) -> Result<(), Fail>
+    requires tree { IsTreeOfPoints points.now tree.now }
+{
     let lists = lists(alloc, tree)?;
     let count = tree.cells().len();
     assert!(rt; n < count);
-    let weights = vec![in alloc; i128::from(weight); count]?;
+    let mut weights = vec![in alloc; 0i128; count]?;
+    weigh_cells(tree, points, 4, &mut weights);
+    let mut radii = vec![in alloc; 0i128; count]?;
+    radius_pass(tree, &lists, &weights, &mut radii, 4);
+    assert_eq!(rt; radii[n], radius);
     assert_eq!(rt; local_radius(tree, &lists, &weights, n, 0, 4), radius);
     Ok(())
 }
@@ -113,7 +120,7 @@ fn far_charge(rt: HostRuntime) -> Result<(), Fail> {
             ),
         ],
     )?;
-    radius_is(&rt, alloc, &tree, 15, 1, 13_668_646_683)
+    radius_is(&rt, alloc, &tree, points.list.points(), 15, 13_668_646_683)
 }
 
 #[test]
@@ -124,5 +131,12 @@ fn nine_charges(rt: HostRuntime) -> Result<(), Fail> {
         "fmm 1 field\ncharge 0 0 1\ncharge 0 0 1\ncharge 0 0 1\ncharge 0 0 1\ncharge 0 0 1\ncharge 0 0 1\ncharge 0 0 1\ncharge 0 0 1\ncharge 0 0 1\ntarget 2 0\ntarget 2 0\ntarget 2 0\ntarget 2 0\ntarget 2 0\ntarget 2 0\ntarget 2 0\ntarget 2 0\ntarget 2 0\n",
     )?;
     let tree = Tree::build(alloc, &points, 8)?;
-    radius_is(&rt, alloc, &tree, 18, 9, 1_789_868_981_808)
+    radius_is(
+        &rt,
+        alloc,
+        &tree,
+        points.list.points(),
+        18,
+        1_789_868_981_808,
+    )
 }

@@ -5,7 +5,7 @@ use Rattle.std.proofs.lemmas.Int.{ints}
 use Rattle.cell_lists.proofs.CellNumbers.{parent_before}
 use Rattle.quadtree.specs.TreeModel.{size, node_of}
 use Rattle.downward_rows.proofs.RadiiSoFar.{AreRadiiSoFar, no_radii, kept_radius, one_radius_more, small_read, above_read, all_small}
-use Rattle.downward_rows.proofs.pass.radius_pass.Goals as goal
+use Rattle.downward_rows.proofs.radius.radius_pass.Goals as goal
 
 pub loop-n-init : goal.loop-n-init
 loop-n-init c = record { radii = λ points cap field inside is w. no_radii points cap c.args.order c.args.tree.now field c.args.radii.now }
