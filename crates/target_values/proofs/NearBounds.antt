@@ -1,5 +1,5 @@
 -- A target takes at most one pair for each point.
-use Rattle.std.proofs.Common.{ℕ, ◌≡◌, ◌∙◌, ◌<◌, ◌≤◌, ◌*◌, List, length, map, get_or, Bool, true, false, not, cond, sym, ap, arith, lit<}
+use Rattle.std.proofs.Common.{ℕ, ◌≡◌, ◌∙◌, ◌<◌, ◌≤◌, List, length, get_or, Bool, true, false, not, cond, sym, ap, arith, lit<}
 use Rattle.std.specs.Prelude.{sum_by}
 use Rattle.std.proofs.lemmas.List.Sums.{sum_by-le, sum_by-le-sum_by}
 use Rattle.exact_math.specs.Gaussian.{Gaussian}
@@ -9,7 +9,7 @@ use Rattle.cell_lists.specs.Row.{row}
 use Rattle.cell_lists.specs.declared.entry_lists.EntryLists.{EntryLists}
 use Rattle.cell_lists.proofs.TreeNumbers.{tree_cell_at}
 use Rattle.cert_text.specs.declared.Letter.TheVariants.{U}
-use Rattle.field_sizes.specs.Sizes.{EntriesShareNoSource}
+use Rattle.field_sizes.proofs.Disjoint.{entries_share_no_source}
 use Rattle.near_field.specs.Pair.{is_at}
 use Rattle.particle_text.specs.declared.Point.{Point}
 use Rattle.quadtree.specs.Tree.{AreInGrid}
@@ -20,9 +20,6 @@ use Rattle.tree_field.proofs.Program.{lists_of_tree, nodes_of_tree}
 use Rattle.tree_field.proofs.Sums.{sum_by-map, sum_by-same}
 use Rattle.target_values.specs.Points.{no_point, count_apart}
 use Rattle.target_values.specs.Values.{sources_of, near_count}
-
-entries_share_no_source : EntriesShareNoSource
-entries_share_no_source = ?
 
 abbrev count : List Point → ℕ
 count some = sum_by (λ p. 1) some

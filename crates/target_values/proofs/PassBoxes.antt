@@ -1,5 +1,5 @@
 -- The boxes of all targets from the rows of all cells.
-use Rattle.std.proofs.Common.{ℕ, zero, suc, ◌≡◌, ◌∙◌, ◌+◌, ◌^◌, ◌<◌, ℤ, pos, List, [], ◌∷◌, ◌++◌, length, map, get_or, set, take, sym, ap, subst, arith, lit<}
+use Rattle.std.proofs.Common.{ℕ, ◌≡◌, ◌∙◌, ◌+◌, ◌^◌, ◌<◌, ℤ, pos, List, [], ◌∷◌, ◌++◌, length, map, get_or, set, take, sym, ap, subst, arith}
 use Rattle.std.specs.Prelude.{All}
 use Rattle.std.specs.List.{AllZip}
 use Rattle.std.proofs.lemmas.List.{get_or-map, length-map, map_more, take_more_set, map-append}
@@ -11,16 +11,15 @@ use Rattle.cell_lists.specs.Lists.{AreLists}
 use Rattle.cell_lists.specs.declared.entry_lists.EntryLists.{EntryLists}
 use Rattle.complex_box.specs.Box.{box_ends, BoxWithin}
 use Rattle.complex_box.specs.declared.CBox.{CBox}
-use Rattle.field_sizes.specs.Sizes.{BoxSizes}
+use Rattle.field_sizes.proofs.BoxSizes.{box_sizes}
+use Rattle.field_sizes.proofs.Disjoint.{entries_share_no_source}
 use Rattle.near_field.specs.DirectSum.{direct_sum}
-use Rattle.particle_text.specs.Limits.{most_weight, total_weight}
 use Rattle.particle_text.specs.Points.{place}
 use Rattle.particle_text.specs.declared.Point.{Point}
-use Rattle.quadtree.specs.Tree.{AreInGrid}
 use Rattle.quadtree.specs.TreeModel.{TreeModel, leaf_of}
 use Rattle.tree_field.specs.Field.{target_box, target_boxes, targets}
 use Rattle.tree_field.specs.Lists.{TreeLists}
-use Rattle.tree_rows.specs.FieldRows.{AreFieldRows, AreWeights, IsFieldOf}
+use Rattle.tree_rows.specs.FieldRows.{AreFieldRows, AreWeights}
 use Rattle.tree_rows.specs.Trees.{IsTreeOfPoints}
 use Rattle.target_values.specs.Points.{point_at}
 use Rattle.target_values.specs.Targets.{target_positions}
@@ -29,9 +28,6 @@ use Rattle.target_values.proofs.FieldBox.{box_is, boxes_contain}
 use Rattle.target_values.proofs.Numbers.{in_grid}
 use Rattle.target_values.proofs.Sums.{map-same}
 use Rattle.target_values.proofs.Positions.{targets_at, positions_are, rows_of_leaf}
-
-box_sizes : BoxSizes
-box_sizes = ?
 
 -- ---- lists whose images are the same
 zip-from_images : {A B C : Type 0} (R : A → C → Type 0) (f : A → C) (g : B → C) (ts : List A) (vs : List B) → map g vs ≡ map f ts → All (λ t. R t (f t)) ts → AllZip (λ t v. R t (g v)) ts vs
@@ -84,4 +80,4 @@ module _ (points : List Point) (P : ℕ) (tree : TreeModel) (lists : EntryLists)
     pub each_small : IsOrder P → (values : List CBox) → map box_ends values ≡ target_boxes points cap P field 16 → All (BoxWithin (2 ^ 84)) values
     each_small order values e =
         all-from_images (BoxEndsWithin (2 ^ 84)) (λ t. target_box points cap P field 16 (place t)) box_ends (targets points) values e
-        (box_sizes points cap P field order (record { in_grid = in_grid points is.range; light = is.light; lists_are = rows.field_is.lists_are }))
+        (box_sizes entries_share_no_source points cap P field order (record { in_grid = in_grid points is.range; light = is.light; lists_are = rows.field_is.lists_are }))
