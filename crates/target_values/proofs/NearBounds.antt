@@ -1,5 +1,5 @@
 -- A target takes at most one pair for each point.
-use Rattle.std.proofs.Common.{ℕ, ◌≡◌, ◌∙◌, ◌<◌, ◌≤◌, ◌*◌, List, length, map, get_or, Bool, true, false, not, cond, sym, ap, arith, lit<}
+use Rattle.std.proofs.Common.{ℕ, ◌≡◌, ◌∙◌, ◌<◌, ◌≤◌, List, length, get_or, Bool, true, false, not, cond, sym, ap, arith, lit<}
 use Rattle.std.specs.Prelude.{sum_by}
 use Rattle.std.proofs.lemmas.List.Sums.{sum_by-le, sum_by-le-sum_by}
 use Rattle.exact_math.specs.Gaussian.{Gaussian}

@@ -1,11 +1,9 @@
 -- The pairs of all targets, one after another, are those of all U entries.
-use Rattle.std.proofs.Common.{ℕ, ◌≡◌, ◌≢◌, ◌∙◌, ◌<◌, inl, inr, List, [], ◌∷◌, map, get_or, length, Bool, true, false, not, cond, filter, refl, sym, ap, arith, lit<}
-use Rattle.std.specs.Prelude.{Contains, sum_by, count_by}
+use Rattle.std.proofs.Common.{ℕ, ◌≡◌, ◌≢◌, ◌∙◌, ◌<◌, List, [], ◌∷◌, map, get_or, Bool, true, false, not, cond, filter, refl, sym, ap, arith, lit<}
+use Rattle.std.specs.Prelude.{Contains, sum_by}
 use Rattle.std.specs.List.{range_with_len}
 use Rattle.std.proofs.lemmas.List.Elements.{Contains-get_or}
 use Rattle.std.proofs.lemmas.Option.{slice_get-get_or}
-use Rattle.std.proofs.lemmas.Bool.{cases_Bool}
-use Rattle.exact_math.specs.Gaussian.{Gaussian}
 use Rattle.cell_name.specs.Square.{Square, holds_test}
 use Rattle.cell_name.proofs.HoldsTest.{Holds-from_test, test-from_Holds}
 use Rattle.cell_lists.specs.Lists.{AreLists}
@@ -18,9 +16,9 @@ use Rattle.particle_text.specs.Points.{place}
 use Rattle.particle_text.specs.declared.Point.{Point}
 use Rattle.quadtree.specs.Tree.{AreInGrid}
 use Rattle.quadtree.specs.TreeModel.{TreeModel, IsTreeOf, size, squares, square_of, leaf_of}
-use Rattle.tree_field.specs.Field.{sources_in, targets}
+use Rattle.tree_field.specs.Field.{sources_in}
 use Rattle.tree_field.specs.Lists.{TreeLists, AreTreeLists}
-use Rattle.tree_field.specs.Work.{is_target_in, targets_in, pairs_between, pairs}
+use Rattle.tree_field.specs.Work.{targets_in, pairs_between, pairs}
 use Rattle.tree_field.proofs.Leaves.{only_leaf}
 use Rattle.tree_field.proofs.Members.{All-from_members, AllPairs-both, AllPairs-range, Contains-range, filter-filter, range_below}
 use Rattle.tree_field.proofs.Program.{nodes_of_tree, leaves_of_tree}

@@ -1,5 +1,5 @@
 -- The boxes of all targets from the rows of all cells.
-use Rattle.std.proofs.Common.{ℕ, zero, suc, ◌≡◌, ◌∙◌, ◌+◌, ◌^◌, ◌<◌, ℤ, pos, List, [], ◌∷◌, ◌++◌, length, map, get_or, set, take, sym, ap, subst, arith, lit<}
+use Rattle.std.proofs.Common.{ℕ, ◌≡◌, ◌∙◌, ◌+◌, ◌^◌, ◌<◌, ℤ, pos, List, [], ◌∷◌, ◌++◌, length, map, get_or, set, take, sym, ap, subst, arith}
 use Rattle.std.specs.Prelude.{All}
 use Rattle.std.specs.List.{AllZip}
 use Rattle.std.proofs.lemmas.List.{get_or-map, length-map, map_more, take_more_set, map-append}
@@ -13,14 +13,12 @@ use Rattle.complex_box.specs.Box.{box_ends, BoxWithin}
 use Rattle.complex_box.specs.declared.CBox.{CBox}
 use Rattle.field_sizes.proofs.Bounds.{boxes_within}
 use Rattle.near_field.specs.DirectSum.{direct_sum}
-use Rattle.particle_text.specs.Limits.{most_weight, total_weight}
 use Rattle.particle_text.specs.Points.{place}
 use Rattle.particle_text.specs.declared.Point.{Point}
-use Rattle.quadtree.specs.Tree.{AreInGrid}
 use Rattle.quadtree.specs.TreeModel.{TreeModel, leaf_of}
 use Rattle.tree_field.specs.Field.{target_box, target_boxes, targets}
 use Rattle.tree_field.specs.Lists.{TreeLists}
-use Rattle.tree_rows.specs.FieldRows.{AreFieldRows, AreWeights, IsFieldOf}
+use Rattle.tree_rows.specs.FieldRows.{AreFieldRows, AreWeights}
 use Rattle.tree_rows.specs.Trees.{IsTreeOfPoints}
 use Rattle.target_values.specs.Points.{point_at}
 use Rattle.target_values.specs.Targets.{target_positions}

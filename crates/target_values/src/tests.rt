@@ -4,7 +4,7 @@ ghost use Rattle.complex_box.specs.Box.{BoxWithin};
 ghost use Rattle.particle_text.specs.Limits.{WithinLimits};
 ghost use Rattle.tree_rows.specs.FlatRows.{IsWeight};
 
-use crate::target_value;
+use crate::{target_positions, target_value, value_pass};
 use cell_lists::lists;
 use complex_box::{CBox, Work};
 use particle_text::{Points, parse};
@@ -12,6 +12,7 @@ use quadtree::Tree;
 use std::alloc::Global;
 use std::process::Abort;
 use std::test::Fail;
+use tree_rows::weigh_cells;
 
 /// The list of a field text with some lines, each so many times.
 fn points_of(alloc: Global, lines: &[(u32, &str)]) -> Result<Points, Fail>
@@ -98,22 +99,59 @@ fn far_cell(rt: HostRuntime) -> Result<(), Fail> {
     )
 }
 
+/// The value of each target at order 4, where the tree is one cell, and how many pairs they took.
+fn values_are(
+    rt: &impl Abort,
+    alloc: Global,
+    points: &Points,
+    parts: ((i128, i128), (i128, i128)),
+    pairs: u64,
+) -> Result<(), Fail>
+    requires list { WithinLimits points.now.mode points.now.list }
+{
+    let tree = Tree::build(alloc, points, 8)?;
+    let found = lists(alloc, &tree)?;
+    let list = points.list.points();
+    assert!(rt; tree.cells().len() == 1);
+    let zero = CBox::zero();
+    let rows = [zero; 4];
+    let mut weights = [0i128; 1];
+    weigh_cells(&tree, list, 4, &mut weights);
+    let positions = target_positions(alloc, list)?;
+    let mut values = vec![in alloc; zero; positions.len()]?;
+    let mut work = Work::new();
+    value_pass::<4>(
+        &tree,
+        &found,
+        list,
+        &positions,
+        &rows,
+        &rows,
+        &weights,
+        &[0i128; 1],
+        &mut values,
+        &mut work,
+    );
+    for value in &values {
+        assert_eq!(rt; (value.re.lo, value.re.hi), parts.0);
+        assert_eq!(rt; (value.im.lo, value.im.hi), parts.1);
+    }
+    assert_eq!(rt; (work.translations(), work.pairs()), (0, pairs));
+    Ok(())
+}
+
 #[test]
 fn near_charge(rt: HostRuntime) -> Result<(), Fail> {
     let alloc = rt.alloc();
     let points = points_of(alloc, &[(1, "charge 0 0 1\n"), (2, "target 3 4\n")])?;
-    value_is(
+    values_are(
         &rt,
         alloc,
         &points,
-        &[CBox::zero(); 4],
-        &[CBox::zero(); 4],
-        &[0i128; 1],
-        1,
         (
             (131_941_395_333, 131_941_395_334),
             (-175_921_860_445, -175_921_860_444),
         ),
-        1,
+        2,
     )
 }

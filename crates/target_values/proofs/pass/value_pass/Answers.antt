@@ -1,4 +1,4 @@
-use Rattle.std.proofs.Common.{ℕ, ◌≡◌, ◌∙◌, ◌+◌, ◌<◌, ◌≤◌, ℤ, List, length, map, get_or, take, pos, sym, ap, arith, to_z-of_z, SFits, length-set}
+use Rattle.std.proofs.Common.{ℕ, ◌≡◌, ◌∙◌, ◌+◌, ◌<◌, ◌≤◌, ℤ, List, length, map, get_or, pos, sym, ap, arith, to_z-of_z, SFits, length-set}
 use Rattle.std.specs.Int.{w128}
 use Rattle.std.proofs.lemmas.Int.{ints}
 use Rattle.std.specs.Prelude.{sum_by}

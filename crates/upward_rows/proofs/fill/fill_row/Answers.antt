@@ -11,9 +11,9 @@ use Rattle.tree_field.proofs.Members.{All-from_members}
 use Rattle.tree_rows.specs.FlatRows.{row_at}
 use Rattle.upward_rows.proofs.Children.{tree_is, child_behind}
 use Rattle.upward_rows.proofs.Counts.{shifts_few}
-use Rattle.upward_rows.proofs.Sizes.{multipole_row-light}
+use Rattle.field_sizes.proofs.MultipoleSizes.{multipole_row-light}
 use Rattle.upward_rows.proofs.Slices.{rest_length, part_length, own_row, part_row}
-use Rattle.upward_rows.proofs.Totals.{wider}
+use Rattle.field_sizes.proofs.RowTotals.{wider}
 use Rattle.upward_rows.proofs.Trees.{cell_is}
 use Rattle.upward_rows.proofs.fill.fill_row.Goals as goal
 

@@ -15,9 +15,9 @@ use Rattle.tree_rows.specs.FlatRows.{row_at}
 use Rattle.upward_rows.specs.Upward.{shifts_into}
 use Rattle.upward_rows.proofs.Children.{tree_is, child_behind}
 use Rattle.upward_rows.proofs.Counts.{in_grid, shifts_more, shifts_of_all}
-use Rattle.upward_rows.proofs.Sizes.{multipole_row-light}
+use Rattle.field_sizes.proofs.MultipoleSizes.{multipole_row-light}
 use Rattle.upward_rows.proofs.Slices.{row_fits}
-use Rattle.upward_rows.proofs.Totals.{wider}
+use Rattle.field_sizes.proofs.RowTotals.{wider}
 use Rattle.upward_rows.proofs.Trees.{cell_is}
 use Rattle.upward_rows.proofs.pass.upward_pass.Goals as goal
 
