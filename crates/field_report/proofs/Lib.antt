@@ -1,2 +1,4 @@
 pub mod Bounds
 mod Digits
+pub mod FieldTexts
+pub mod Pieces

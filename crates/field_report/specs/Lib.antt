@@ -1,4 +1,5 @@
 -- What the contracts cite: counts, their decimals and the lines of a report.
 pub mod Counts
 pub mod Decimals
+pub mod FieldText
 pub mod Report

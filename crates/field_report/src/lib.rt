@@ -1,4 +1,4 @@
-//! The report of a field: the printed counts of boxes, their decimals and the lines of targets.
+//! The report of a field: the printed counts of boxes, their decimals, the lines of targets, and the whole report.
 #![tactic(auto)]
 
 mod counts;
@@ -6,12 +6,14 @@ mod decimal;
 mod ends;
 mod front;
 mod line;
+mod report;
 
 pub use counts::to_count;
 pub use decimal::Decimal;
 pub use ends::{write_end, write_head};
 pub use front::FrontText;
 pub use line::write_target;
+pub use report::write_report;
 
 #[cfg(test)]
 mod tests;

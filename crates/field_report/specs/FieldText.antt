@@ -1,0 +1,22 @@
+-- The report of the field of a list of points.
+use Rattle.std.specs.Prelude.{ℕ, List, map, flat_map}
+use Rattle.particle_text.specs.Points.{place}
+use Rattle.particle_text.specs.declared.Mode.{Mode}
+use Rattle.particle_text.specs.declared.Point.{Point}
+use Rattle.tree_field.specs.Field.{targets, target_box}
+use Rattle.tree_field.specs.Lists.{TreeLists}
+use Rattle.tree_field.specs.Work.{translations, pairs}
+use Rattle.field_report.specs.Counts.{target_counts}
+use Rattle.field_report.specs.Report.{TargetLine, report_text, target_line}
+
+-- the line of a target: its place, and the counts of its box
+abbrev pub field_line : Mode → List Point → ℕ → ℕ → TreeLists → Point → TargetLine
+field_line mode points cap P lists t = record { x = t.x; y = t.y; counts = target_counts mode (target_box points cap P lists 16 (place t)) }
+
+-- the lines of the targets among some of the points
+abbrev pub target_text : Mode → List Point → ℕ → ℕ → TreeLists → List Point → List ℕ
+target_text mode points cap P lists some = flat_map (target_line mode) (map (field_line mode points cap P lists) (targets some))
+
+-- the report of the field at an order with a leaf capacity, over the lists of the tree
+abbrev pub field_text : Mode → List Point → ℕ → ℕ → TreeLists → List ℕ
+field_text mode points order cap lists = report_text mode order cap (map (field_line mode points cap order lists) (targets points)) (translations points lists) (pairs points lists)

@@ -1,0 +1,77 @@
+//! The report of a field.
+ghost use Rattle.std.specs.Prelude.{◌≡◌, All, OnOk, OnErr, not};
+ghost use Rattle.std.specs.Io.KnownBytes.{Appends};
+ghost use Rattle.field_report.specs.FieldText.{field_text, target_text};
+ghost use Rattle.io_ports.specs.Bytes.{AppendsPrefix};
+ghost use Rattle.io_ports.specs.Faults.{HasCause};
+ghost use Rattle.near_field.specs.DirectSum.{is_source};
+ghost use Rattle.particle_text.specs.Limits.{InRange, WithinLimits};
+ghost use Rattle.solve_phase.specs.Field.{IsSolved, kept};
+ghost use Rattle.tree_field.specs.Lists.{TreeLists, AreTreeLists};
+
+use crate::ends::{write_end, write_head};
+use crate::line::write_target;
+use io_ports::{Sink, WriteFault};
+use particle_text::{Kind, Mode, Point, Points};
+use solve_phase::Field;
+
+// Whether a point is a target.
+fn is_target(p: &Point) -> bool
+    ensures { result ≡ not (is_source p.now.kind) }
+{
+    match p.kind {
+        Kind::Charge(_) | Kind::Dipole(_, _) | Kind::Vortex(_) => false,
+        Kind::Target => true,
+    }
+}
+
+// Appends the lines of all targets, in the order of the list.
+fn write_targets<const P: usize, S: Sink>(
+    mode: Mode,
+    points: &[Point],
+    field: &Field<P>,
+    sink: &mut S,
+) -> Result<(), WriteFault>
+    requires range { All InRange points.now }
+    requires field { IsSolved points.now (kept field.now).cap P (kept field.now) }
+    ensures done { (lists : TreeLists) → AreTreeLists 16 points.now (kept field.now).cap lists
+        → OnOk result (Appends (S.held sink.old) (S.held sink.new) (target_text mode points.now (kept field.now).cap P lists points.now)) }
+    ensures part { (lists : TreeLists) → AreTreeLists 16 points.now (kept field.now).cap lists
+        → OnErr result (AppendsPrefix (S.held sink.old) (S.held sink.new) (target_text mode points.now (kept field.now).cap P lists points.now)) }
+    ensures cause { HasCause (S.faults sink.old) (S.faults sink.new) result }
+{
+    let mut k = 0;
+    for p in points {
+        if is_target(p) {
+            write_target(mode, p.x, p.y, field.value(k), sink)?;
+            k += 1;
+        }
+    }
+    Ok(())
+}
+
+/// Appends the report of a field: its first line, the line of each target in the order of the list, the counts of work, and `end`.
+///
+/// Conditions: the points are within their limits, and the field is theirs with the leaf capacity `cap`. No memory is taken.
+///
+/// # Errors
+///
+/// `WriteFault` where a write failed. What was appended then is a prefix of the report.
+pub fn write_report<const P: usize, S: Sink>(
+    points: &Points,
+    cap: u32,
+    field: &Field<P>,
+    sink: &mut S,
+) -> Result<(), WriteFault>
+    requires list { WithinLimits points.now.mode points.now.list }
+    requires field { IsSolved points.now.list cap P (kept field.now) }
+    ensures done { (lists : TreeLists) → AreTreeLists 16 points.now.list cap lists
+        → OnOk result (Appends (S.held sink.old) (S.held sink.new) (field_text points.now.mode points.now.list P cap lists)) }
+    ensures part { (lists : TreeLists) → AreTreeLists 16 points.now.list cap lists
+        → OnErr result (AppendsPrefix (S.held sink.old) (S.held sink.new) (field_text points.now.mode points.now.list P cap lists)) }
+    ensures cause { HasCause (S.faults sink.old) (S.faults sink.new) result }
+{
+    write_head(points.mode, P as u32, cap, sink)?;
+    write_targets(points.mode, points.list.points(), field, sink)?;
+    write_end(field.translations(), field.pairs(), sink)
+}
