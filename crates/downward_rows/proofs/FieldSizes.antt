@@ -9,9 +9,7 @@ use Rattle.exact_math.specs.Ends.{zero_box}
 use Rattle.exact_math.specs.Orders.{IsOrder}
 use Rattle.cell_lists.proofs.TreeNumbers.{tree_cell_at}
 use Rattle.complex_box.specs.declared.CBox.{CBox}
-use Rattle.field_sizes.proofs.Disjoint.{entries_share_no_source}
-use Rattle.field_sizes.proofs.LocalSizes.{row_sizes}
-use Rattle.field_sizes.proofs.Radii.{radius_sizes}
+use Rattle.field_sizes.proofs.Bounds.{rows_within, radii_within}
 use Rattle.field_sizes.specs.Sizes.{IsLimited, RowsWithin}
 use Rattle.particle_text.specs.declared.Point.{Point}
 use Rattle.quadtree.proofs.Limits.{in_grid}
@@ -40,7 +38,7 @@ module _ (points : List Point) (tree : TreeModel) (has : IsTreeOfPoints points t
     limited = record { in_grid = in_grid points has.range; light = has.light; lists_are = is.lists_are }
 
     within : RowsWithin points has.cap P field (square_of tree n)
-    within = row_sizes entries_share_no_source points has.cap P field order limited (square_of tree n) (tree_cell_at tree points has.cap n has.is_tree lt)
+    within = rows_within points has.cap P field order limited (square_of tree n) (tree_cell_at tree points has.cap n has.is_tree lt)
 
     pub multipole_small : (rows : List CBox) → AreMultipoleRows points has.cap P tree rows → RowWithin P (2 ^ 80) (row_at P rows n)
     multipole_small rows are = within_same P (2 ^ 80) (row_at P rows n) (multipole_row points has.cap (square_of tree n)) (are.each n lt) (row_wider P (2 ^ 74) (2 ^ 80) (multipole_row points has.cap (square_of tree n)) (omega arith) within.multipole)
@@ -61,5 +59,5 @@ module _ (points : List Point) (tree : TreeModel) (has : IsTreeOfPoints points t
 
     pub radius_small : (r : ℤ) → IsRadiusOf points has.cap P tree field n r → (pos 0 ≤ℤ r) × (r ≤ℤ pos (2 ^ 90))
     radius_small r here = target_or_not
-        (λ t. bounded r (local_radius points has.cap P field (square_of tree n)) (here.radius_is t) (radius_sizes entries_share_no_source points has.cap P field order limited (square_of tree n) (tree_cell_at tree points has.cap n has.is_tree lt)))
+        (λ t. bounded r (local_radius points has.cap P field (square_of tree n)) (here.radius_is t) (radii_within points has.cap P field order limited (square_of tree n) (tree_cell_at tree points has.cap n has.is_tree lt)))
         (λ no. bounded r 0 (here.empty no) (omega arith))
