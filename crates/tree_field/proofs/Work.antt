@@ -11,7 +11,9 @@ use Rattle.cell_name.specs.Cell.{square}
 use Rattle.cell_name.specs.Square.{Square, root}
 use Rattle.cell_lists.specs.Row.{row}
 use Rattle.cert_text.specs.declared.Letter.TheVariants.{U, V}
-use Rattle.quadtree.specs.TreeModel.{TreeModel, squares, size, square_of, node_of}
+use Rattle.particle_text.specs.declared.Point.{Point}
+use Rattle.quadtree.specs.Tree.{AreInGrid}
+use Rattle.quadtree.specs.TreeModel.{TreeModel, IsTreeOf, squares, size, square_of, node_of}
 use Rattle.tree_field.specs.Field.{has_source}
 use Rattle.tree_field.specs.Laws.{TranslationsAreFew}
 use Rattle.tree_field.specs.Program.{WorkOfTree}
@@ -36,29 +38,31 @@ zero_is n le = omega arith
 sum_by_rows : (rows : List (List ℕ)) (n : ℕ) (f : List ℕ → ℕ) → length rows ≡ n → sum_by f rows ≡ sum_by (λ k. f (row rows k)) (range_with_len 0 n)
 sum_by_rows rows n f e = ap (sum_by f) (fill_by_all (row rows) rows n [] e (λ k lt. refl)) ∙ sum_by-map f (row rows) (range_with_len 0 n)
 
+module _ (tree : TreeModel) (points : List Point) (cap : ℕ) (inside : AreInGrid 16 points) (h : IsTreeOf 16 tree points cap) where
+  level_is : (n : ℕ) → n < size tree → nat_lt 0 (square_of tree n).level ≡ nat_lt 0 n
+  level_is n lt = same_test _ _ (λ e. lt-ltb 0 n (not_first n (ltb-true 0 (square_of tree n).level e)))
+      (λ e. lt-ltb 0 (square_of tree n).level (level_positive 16 points cap (squares tree) (lit< tt) inside h.cells_are n (ltb-true 0 n e) (omega (arith, length-map tree.cells square))))
+    where
+      not_first : (n : ℕ) → 0 < (square_of tree n).level → 0 < n
+      not_first n lo = elim (cases_lt 0 n) [ inl lt ↦ lt | inr le ↦ absurd (let e : (square_of tree n).level ≡ 0 = ap (λ k. (square_of tree k).level) (zero_is n le) ∙ ap (λ (s : Square). s.level) (first_is_root 16 points cap (squares tree) (lit< tt) inside h.cells_are (omega (arith, length-map tree.cells square))) in omega arith) ]
+
+  -- the cells below the root with a source, and with a target
+  pub sources_counted : count_by (λ c. nat_lt 0 c.level && has_source points c) (squares tree) ≡ count_by (λ n. nat_lt 0 n && (node_of tree n).has_source) (range_with_len 0 (size tree))
+  sources_counted = sum_by_numbers tree _ _ (λ n lt. ap₂ (λ (a b : Bool). cond {A = ℕ} (a && b) 1 0) (level_is n lt) (sym (nodes_of_tree tree points cap inside h n lt).source))
+
+  targets_counted : count_by (λ c. nat_lt 0 c.level && has_target points c) (squares tree) ≡ count_by (λ n. nat_lt 0 n && (node_of tree n).has_target) (range_with_len 0 (size tree))
+  targets_counted = sum_by_numbers tree _ _ (λ n lt. ap₂ (λ (a b : Bool). cond {A = ℕ} (a && b) 1 0) (level_is n lt) (sym (nodes_of_tree tree points cap inside h n lt).target))
+
 pub work_of_tree : WorkOfTree
 work_of_tree tree lists points cap these inside h are a =
     let of = lists_of_tree tree lists points cap these inside h are a in
     record {
-      translations_are = ap₂ (λ m n. m + n) (ap (count_by (λ c. nat_lt 0 c.level && has_source points c)) of.cells ∙ sources)
-          (ap₂ (λ m n. m + n) (ap (sum_by (λ b. length (these.entries V b))) of.cells ∙ converted (of.entries V)) (ap (count_by (λ c. nat_lt 0 c.level && has_target points c)) of.cells ∙ targets));
+      translations_are = ap₂ (λ m n. m + n) (ap (count_by (λ c. nat_lt 0 c.level && has_source points c)) of.cells ∙ sources_counted tree points cap inside h)
+          (ap₂ (λ m n. m + n) (ap (sum_by (λ b. length (these.entries V b))) of.cells ∙ converted (of.entries V)) (ap (count_by (λ c. nat_lt 0 c.level && has_target points c)) of.cells ∙ targets_counted tree points cap inside h));
       pairs_are = ap (sum_by (λ b. sum_by (pairs_between points b) (these.entries U b))) of.cells ∙ sum_by_numbers tree _ _ (λ n lt.
           ap (sum_by (pairs_between points (square_of tree n))) (of.entries U n lt) ∙ sum_by-map (pairs_between points (square_of tree n)) (square_of tree) (row lists.u n));
     }
   where
-    level_is : (n : ℕ) → n < size tree → nat_lt 0 (square_of tree n).level ≡ nat_lt 0 n
-    level_is n lt = same_test _ _ (λ e. lt-ltb 0 n (not_first n (ltb-true 0 (square_of tree n).level e)))
-        (λ e. lt-ltb 0 (square_of tree n).level (level_positive 16 points cap (squares tree) (lit< tt) inside h.cells_are n (ltb-true 0 n e) (omega (arith, length-map tree.cells square))))
-      where
-        not_first : (n : ℕ) → 0 < (square_of tree n).level → 0 < n
-        not_first n lo = elim (cases_lt 0 n) [ inl lt ↦ lt | inr le ↦ absurd (let e : (square_of tree n).level ≡ 0 = ap (λ k. (square_of tree k).level) (zero_is n le) ∙ ap (λ (s : Square). s.level) (first_is_root 16 points cap (squares tree) (lit< tt) inside h.cells_are (omega (arith, length-map tree.cells square))) in omega arith) ]
-
-    sources : count_by (λ c. nat_lt 0 c.level && has_source points c) (squares tree) ≡ count_by (λ n. nat_lt 0 n && (node_of tree n).has_source) (range_with_len 0 (size tree))
-    sources = sum_by_numbers tree _ _ (λ n lt. ap₂ (λ (a b : Bool). cond {A = ℕ} (a && b) 1 0) (level_is n lt) (sym (nodes_of_tree tree points cap inside h n lt).source))
-
-    targets : count_by (λ c. nat_lt 0 c.level && has_target points c) (squares tree) ≡ count_by (λ n. nat_lt 0 n && (node_of tree n).has_target) (range_with_len 0 (size tree))
-    targets = sum_by_numbers tree _ _ (λ n lt. ap₂ (λ (a b : Bool). cond {A = ℕ} (a && b) 1 0) (level_is n lt) (sym (nodes_of_tree tree points cap inside h n lt).target))
-
     converted : ((n : ℕ) → n < size tree → these.entries V (square_of tree n) ≡ map (square_of tree) (row lists.v n)) → sum_by (λ b. length (these.entries V b)) (squares tree) ≡ sum_by (λ list. length list) lists.v
     converted e = sum_by_numbers tree _ _ (λ n lt. ap length (e n lt) ∙ length-map (row lists.v n) (square_of tree)) ∙ sym (sum_by_rows lists.v (size tree) (λ list. length list) (are.as_many V))
 
