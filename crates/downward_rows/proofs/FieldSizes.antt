@@ -1,9 +1,8 @@
 -- A tree of the points has a field, and its rows and radii stay within what the calls take.
-use Rattle.std.proofs.Common.{ℕ, ◌≡◌, ◌<◌, ◌≤◌, ◌^◌, List, length, get_or, true, false, sym, ap, ◌∙◌, arith, lit<, ℤ, pos}
-use Rattle.std.specs.Prelude.{All, ◌≤ℤ◌, slice_index_or}
+use Rattle.std.proofs.Common.{ℕ, ◌≡◌, ◌<◌, ◌≤◌, ◌^◌, List, sym, ◌∙◌, arith, lit<, ℤ, pos}
+use Rattle.std.specs.Prelude.{◌≤ℤ◌}
 use Rattle.std.proofs.lemmas.Bool.{true≢false, cases_Bool}
 use Rattle.std.proofs.lemmas.Int.{ints}
-use Rattle.std.proofs.lemmas.List.{get_or_default}
 use mathlib.Core.Logic.{⊎_elim}
 use Rattle.exact_math.specs.Ends.{zero_box}
 use Rattle.exact_math.specs.Orders.{IsOrder}

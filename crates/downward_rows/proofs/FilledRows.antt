@@ -1,5 +1,5 @@
 -- A row that is filled, and what it makes of the rows of all cells.
-use Rattle.std.proofs.Common.{ℕ, ◌+◌, ◌*◌, ◌%◌, ◌<◌, ◌≤◌, ◌≡◌, inl, inr, List, ◌++◌, length, Bool, true, false, ap, ap₂, sym, ◌∙◌, subst, arith}
+use Rattle.std.proofs.Common.{ℕ, ◌*◌, ◌%◌, ◌<◌, ◌≡◌, inl, inr, List, ◌++◌, length, Bool, true, false, ap, ap₂, sym, ◌∙◌, subst, arith}
 use Rattle.std.specs.Prelude.{IsTrue, ◌==◌}
 use Rattle.std.proofs.lemmas.Bool.{cases_lt}
 use Rattle.exact_math.specs.Ends.{BoxEnds, BoxEndsWithin, zero_box, add_box}

@@ -1,5 +1,5 @@
 -- The radii of the cells so far.
-use Rattle.std.proofs.Common.{ℕ, ◌≡◌, ◌+◌, ◌<◌, ◌≤◌, ◌^◌, inl, inr, List, length, sym, ◌∙◌, subst, arith, ℤ, pos, SFits, to_z, of_z, get_or-set_same, get_or-set_other}
+use Rattle.std.proofs.Common.{ℕ, ◌≡◌, ◌+◌, ◌<◌, ◌≤◌, ◌^◌, inl, inr, List, length, ◌∙◌, subst, arith, ℤ, pos, SFits, to_z, of_z, get_or-set_same, get_or-set_other}
 use Rattle.std.specs.Prelude.{◌≤ℤ◌, slice_set, slice_index_or}
 use Rattle.std.proofs.lemmas.Bool.{cases_lt}
 use Rattle.std.proofs.lemmas.Int.{ints, to_z-of_z}

@@ -1,5 +1,5 @@
 -- One radius more.
-use Rattle.std.proofs.Common.{ℤ, ◌≡◌, ◌+◌, ◌<◌, length, ap, ◌∙◌, subst, sym, arith}
+use Rattle.std.proofs.Common.{ℤ, ◌+◌, ◌<◌, length, ap, ◌∙◌, subst, sym, arith}
 use Rattle.std.specs.Prelude.{slice_set}
 use Rattle.std.proofs.lemmas.Int.{ints}
 use Rattle.cell_lists.proofs.CellNumbers.{parent_before}
