@@ -1,34 +1,59 @@
--- A report of one leaf is certified: the printed counts contain the exact direct sums.
-use Rattle.std.proofs.Common.{◌≡◌, refl, subst, Some, None, IfSome, ℕ, List, [], ◌∷◌, map}
+-- A report is certified: the printed counts contain the exact direct sums, and one entry accounts for each target and source.
+use Rattle.std.proofs.Common.{◌≡◌, refl, subst, arith, Some, None, IfSome, ℕ, ◌≤◌, List, [], ◌∷◌, map, pos, ◌^◌, inl, inr}
+use Rattle.std.proofs.lemmas.List.Elements.{recursion_from_All}
 use Rattle.std.specs.Io.KnownBytes.{Appends, Consumes}
-use Rattle.std.specs.List.{AllZip}
+use Rattle.std.specs.List.{AllZip, AllByRecursion}
 use Rattle.std.specs.declared.option.Option.{Option}
+use Rattle.cell_lists.proofs.OneEntry.{each_pair_has_one_entry}
+use Rattle.exact_math.specs.Ends.{BoxEndsContain}
+use Rattle.exact_math.specs.Orders.{IsOrder}
+use Rattle.field_report.proofs.Bounds.{CountsContain-box}
+use Rattle.field_report.specs.FieldText.{field_line}
+use Rattle.near_field.specs.DirectSum.{direct_sum}
 use Rattle.particle_text.specs.Points.{place}
 use Rattle.particle_text.specs.declared.Mode.{Mode}
 use Rattle.particle_text.specs.declared.Point.{Point}
-use Rattle.field_report.proofs.Bounds.{CountsContain-box}
-use Rattle.fmm_program.specs.Answers.{IsCertified, IsSolved, LineContains, SolveEnds}
+use Rattle.quadtree.proofs.Limits.{in_grid}
+use Rattle.quadtree.specs.Tree.{AreInGrid}
+use Rattle.tree_field.proofs.Whole.{field_contains}
+use Rattle.tree_field.proofs.Work.{translations_are_few}
+use Rattle.tree_field.specs.Field.{targets, target_box}
+use Rattle.tree_field.specs.Lists.{TreeLists}
+use Rattle.fmm_program.specs.Answers.{IsCertified, IsReported, LineContains, SolveEnds}
 use Rattle.fmm_program.specs.Forms.{IsSolve}
 use Rattle.fmm_program.specs.declared.status.Status.{Status}
 use Rattle.fmm_program.specs.declared.status.Status.TheVariants.{Done}
-use Rattle.fmm_program.specs.OneLeaf.{leaf_box, leaf_line, pairs_at, targets_of}
-use Rattle.fmm_program.proofs.LeafContains.{leaf_box-contains}
 
-lines_contain : (mode : Mode) (points some : List Point) → AllZip (LineContains mode points) some (map (leaf_line mode points) some)
-lines_contain mode points [] = tt
-lines_contain mode points (t ∷ some) = (record { x = refl; y = refl; sum = CountsContain-box mode (leaf_box (place t) points) _ (leaf_box-contains (place t) points) }, lines_contain mode points some)
+at_least_two : (order : ℕ) → IsOrder order → 2 ≤ order
+at_least_two order (inl e) = omega arith
+at_least_two order (inr (inl e)) = omega arith
+at_least_two order (inr (inr (inl e))) = omega arith
+at_least_two order (inr (inr (inr e))) = omega arith
 
-pub certified : (order cap : ℕ) (input out : List ℕ) → IsSolved order cap input out → IsCertified order cap input out
-certified order cap input out s = record {
-  mode = s.mode;
-  points = s.points;
-  within = s.within;
-  spelled = s.spelled;
-  lines = map (leaf_line s.mode s.points) (targets_of s.points);
-  pairs = pairs_at s.points s.points;
-  report = s.report;
-  contain = lines_contain s.mode s.points (targets_of s.points);
-}
+lines_contain : (mode : Mode) (points : List Point) (cap P : ℕ) (lists : TreeLists) (some : List Point)
+    → AllByRecursion (λ t. BoxEndsContain (pos (2 ^ 40)) (target_box points cap P lists 16 (place t)) (direct_sum (place t) points)) some
+    → AllZip (LineContains mode points) some (map (field_line mode points cap P lists) some)
+lines_contain mode points cap P lists [] h = tt
+lines_contain mode points cap P lists (t ∷ some) h =
+    (record { x = refl; y = refl; sum = CountsContain-box mode (target_box points cap P lists 16 (place t)) (direct_sum (place t) points) h.0 }, lines_contain mode points cap P lists some h.1)
+
+pub certified : (order cap : ℕ) (input out : List ℕ) → IsOrder order → IsReported order cap input out → IsCertified order cap input out
+certified order cap input out is_order s =
+    let inside : AreInGrid 16 s.points = in_grid s.points s.spelled.limits.range in
+    let boxes = field_contains 16 s.points cap order s.lists (omega arith) (at_least_two order is_order) inside s.lists_are in
+    record {
+      mode = s.mode;
+      points = s.points;
+      within = s.within;
+      spelled = s.spelled;
+      lists = s.lists;
+      lists_are = s.lists_are;
+      lines = map (field_line s.mode s.points cap order s.lists) (targets s.points);
+      report = s.report;
+      contain = lines_contain s.mode s.points cap order s.lists (targets s.points) (recursion_from_All _ (targets s.points) boxes);
+      one_entry = λ target source both. each_pair_has_one_entry 16 s.points cap target source (omega arith) inside both;
+      few = translations_are_few s.points s.lists;
+    }
 
 -- what a run of `solve` that was carried out wrote
 pub certified_ends : (words : List (List ℕ)) (order cap : ℕ) (file : List ℕ) (status : Status) (left before after : Option (List ℕ)) → IsSolve words order cap file → status ≡ Done
@@ -37,7 +62,7 @@ pub certified_ends : (words : List (List ℕ)) (order cap : ℕ) (file : List �
 certified_ends words order cap file status None before after form done ends = tt
 certified_ends words order cap file status (Some input) before after form done ends =
     let e = subst (λ s. SolveEnds order cap input s before after) done ends in
-    (order, cap, file, e.0, form, certified order cap input e.0 e.1, e.2)
+    (order, cap, file, e.0, form, certified order cap input e.0 form.is_order e.1, e.2)
 
 -- the same of the bytes that came, where the source tells nothing
 pub certified_came : (words : List (List ℕ)) (order cap : ℕ) (file : List ℕ) (status : Status) (left rest before after : Option (List ℕ)) → IsSolve words order cap file → status ≡ Done
@@ -45,4 +70,4 @@ pub certified_came : (words : List (List ℕ)) (order cap : ℕ) (file : List �
     → (order : ℕ) × (cap : ℕ) × (file : List ℕ) × (input : List ℕ) × (bytes : List ℕ) × IsSolve words order cap file × Consumes left rest input × IsCertified order cap input bytes × Appends before after bytes
 certified_came words order cap file status left rest before after form done came =
     let e = subst (λ s. SolveEnds order cap came.0 s before after) done came.2 in
-    (order, cap, file, came.0, e.0, form, came.1, certified order cap came.0 e.0 e.1, e.2)
+    (order, cap, file, came.0, e.0, form, came.1, certified order cap came.0 e.0 form.is_order e.1, e.2)

@@ -1,20 +1,24 @@
--- A text that fits one leaf is not refused.
-use Rattle.std.proofs.Common.{◌≡◌, subst, refl, arith, ℕ, ◌<◌, ◌⊎◌, inl, inr, List, length, Some, IfSome}
+-- A text with no crowded place and few cells is not refused.
+use Rattle.std.proofs.Common.{◌≡◌, subst, sym, refl, arith, ℕ, ◌⊎◌, inl, inr, List, Some, IfSome}
 use Rattle.std.specs.declared.option.Option.{Option}
 use Rattle.particle_text.proofs.OneFault.{never_both}
 use Rattle.particle_text.proofs.OneText.{one_list}
-use Rattle.fmm_program.specs.Answers.{FitsLeaf, SolveEnds}
+use Rattle.particle_text.specs.declared.Point.{Point}
+use Rattle.quadtree.specs.Faults.{most_cells, HasMoreCells, NoneIsCrowded}
+use Rattle.fmm_program.specs.Answers.{HasDepth, SolveEnds}
 use Rattle.fmm_program.specs.declared.status.Status.{Status}
 use Rattle.fmm_program.specs.declared.status.Status.TheVariants.{Done, Refused, Usage, Memory, ReadFault, WriteFault, Rejected}
 
-module _ (order cap : ℕ) (input : List ℕ) (before after : Option (List ℕ)) (fits : FitsLeaf cap input) where
+module _ (order cap : ℕ) (input : List ℕ) (before after : Option (List ℕ)) (depth : HasDepth cap input) where
   refused : SolveEnds order cap input Refused before after → ⊥
-  refused (out, inl long, held) = absurd (let l = long.long in let w = fits.within in omega arith)
-  refused (out, inr (inl faulty), held) = never_both input fits.mode fits.points faulty.number faulty.kind fits.spelled faulty.fault
-  refused (out, inr (inr wide), held) =
-      let e = (one_list input wide.mode fits.mode wide.points fits.points wide.spelled fits.spelled).points in
-      let w : cap < length fits.points = subst (λ ps. cap < length ps) e wide.wide in
-      absurd (let f = fits.fits in omega arith)
+  refused (out, inl long, held) = absurd (let l = long.long in let w = depth.within in omega arith)
+  refused (out, inr (inl faulty), held) = never_both input depth.mode depth.points faulty.number faulty.kind depth.spelled faulty.fault
+  refused (out, inr (inr (inl crowded)), held) =
+      let e = (one_list input crowded.mode depth.mode crowded.points depth.points crowded.spelled depth.spelled).points in
+      subst (λ (ps : List Point). NoneIsCrowded 16 ps) (sym e) depth.none_crowded crowded.cell crowded.first.crowded
+  refused (out, inr (inr (inr cells)), held) =
+      let e = (one_list input cells.mode depth.mode cells.points depth.points cells.spelled depth.spelled).points in
+      depth.no_more (subst (λ (ps : List Point). HasMoreCells 16 ps cap most_cells) e cells.too_many.too_many)
 
   pub completes : (status : Status) → SolveEnds order cap input status before after → (status ≡ ReadFault → ⊥) → (status ≡ WriteFault → ⊥) → (status ≡ Done) ⊎ (status ≡ Memory)
   completes Done ends r w = inl refl

@@ -1,9 +1,4 @@
-pub mod Examples
-pub mod LeafContains
-pub mod Commands
-pub mod LeafSums
-pub mod Pieces
-pub mod LeafReports
 pub mod Certified
-pub mod RunEnds
+pub mod Commands
 pub mod Complete
+pub mod RunEnds

@@ -1,15 +1,22 @@
 -- How runs end: from what the calls answered to the answers of a run.
-use Rattle.std.proofs.Common.{◌≡◌, ◌∙◌, subst, sym, refl, ℕ, ◌≤◌, ◌<◌, List, [], ◌++◌, append-nil, length, length-append, ap, arith, inl, inr, Some, None, IfSome}
-use Rattle.std.specs.Io.KnownBytes.{Consumes}
+use Rattle.std.proofs.Common.{◌≡◌, ◌∙◌, subst, sym, refl, ℕ, ◌≤◌, ◌<◌, List, append-nil, length, length-append, ap, arith, inl, inr, Some, None, IfSome}
+use Rattle.std.specs.Io.KnownBytes.{Appends, Consumes}
 use Rattle.std.specs.declared.option.Option.{Option}
-use Rattle.io_ports.specs.Bytes.{GivesAll}
+use Rattle.cell_name.specs.Cell.{square}
+use Rattle.field_report.specs.FieldText.{field_text}
+use Rattle.io_ports.specs.Bytes.{AppendsPrefix, GivesAll}
 use Rattle.particle_text.specs.Faults.{FirstFault}
 use Rattle.particle_text.specs.Text.{Spells}
 use Rattle.particle_text.specs.declared.Mode.{Mode}
 use Rattle.particle_text.specs.declared.Point.{Point}
 use Rattle.particle_text.specs.declared.TextKind.{TextKind}
-use Rattle.fmm_program.specs.Answers.{Answers, IsSolved, RefusalEnds, SolveEnds, fault_line, most_input, wide_line, long_line}
-use Rattle.fmm_program.specs.OneLeaf.{leaf_report}
+use Rattle.quadtree.proofs.Limits.{in_grid}
+use Rattle.quadtree.specs.Faults.{most_cells, HasMoreCells, IsFaultOf, NoneIsCrowded}
+use Rattle.quadtree.specs.declared.fault.TreeFault.{TreeFault}
+use Rattle.quadtree.specs.declared.fault.TreeFault.TheVariants.{Crowded, Cells, Memory as NoMemory}
+use Rattle.tree_field.proofs.EachList.{each_list_has_tree}
+use Rattle.tree_field.specs.Lists.{TreeLists, AreTreeLists}
+use Rattle.fmm_program.specs.Answers.{Answers, DepthEnds, IsReported, RefusalEnds, SolveEnds, cells_line, crowded_line, fault_line, most_input, long_line}
 use Rattle.fmm_program.specs.declared.status.Status.{Status}
 use Rattle.fmm_program.specs.declared.status.Status.TheVariants.{Done, Refused, Usage, Memory, ReadFault, WriteFault, Rejected}
 
@@ -27,10 +34,15 @@ module _ (order cap : ℕ) (before after : Option (List ℕ)) where
       → RefusalEnds status before after line → SolveEnds order cap input status before after
   fault_ends input status number kind line within fault e r = refused_ends input status line (inr (inl (record { number = number; kind = kind; within = within; fault = fault; line = e }))) r
 
-  pub wide_ends : (input : List ℕ) (status : Status) (mode : Mode) (points list : List Point) → length input ≤ most_input → Spells input mode points → list ≡ points → cap < length list
-      → RefusalEnds status before after wide_line → SolveEnds order cap input status before after
-  wide_ends input status mode points list within spelled e wide r =
-      refused_ends input status wide_line (inr (inr (record { mode = mode; points = points; within = within; spelled = spelled; wide = subst (λ l. cap < length l) e wide; line = refl }))) r
+  -- a list that has no field
+  pub depth_ends : (input : List ℕ) (mode : Mode) (points : List Point) (fault : TreeFault) (status : Status) → length input ≤ most_input → Spells input mode points → IsFaultOf 16 points cap fault
+      → DepthEnds fault status before after → SolveEnds order cap input status before after
+  depth_ends input mode points (Crowded cell count) status within spelled h r =
+      refused_ends input status (crowded_line (square cell) count)
+      (inr (inr (inl (record { mode = mode; points = points; within = within; spelled = spelled; cell = square cell; count = count; first = h; line = refl })))) r
+  depth_ends input mode points Cells status within spelled h r =
+      refused_ends input status cells_line (inr (inr (inr (record { mode = mode; points = points; within = within; spelled = spelled; too_many = h; line = refl })))) r
+  depth_ends input mode points NoMemory status within spelled h r = subst (λ s. SolveEnds order cap input s before after) (sym r.0) r.1
 
   -- more came than an input may have
   pub long_ends : (status : Status) (left rest : Option (List ℕ)) (bytes : List ℕ) → Consumes left rest bytes → most_input < length bytes → RefusalEnds status before after long_line
@@ -51,6 +63,18 @@ pub all_came : (left rest : Option (List ℕ)) (bytes : List ℕ) → GivesAll l
 all_came None rest bytes g = tt
 all_came (Some xs) rest bytes g = subst (λ r. Consumes (Some xs) r bytes) (sym g.1) (sym g.0 ∙ sym (append-nil bytes))
 
--- the text fits one leaf
-pub solved : (order cap : ℕ) (input : List ℕ) (mode : Mode) (points list : List Point) → length input ≤ most_input → Spells input mode points → list ≡ points → length list ≤ cap → IsSolved order cap input (leaf_report mode list order cap)
-solved order cap input mode points list within spelled e fits = record { mode = mode; points = list; within = within; spelled = subst (Spells input mode) (sym e) spelled; fits = fits; report = refl }
+-- what goes out with the report
+module _ (order cap : ℕ) (input : List ℕ) (mode : Mode) (points : List Point) (within : length input ≤ most_input) (spelled : Spells input mode points) (none : NoneIsCrowded 16 points)
+    (few : HasMoreCells 16 points cap most_cells → ⊥)
+  where
+    some : (lists : TreeLists) × AreTreeLists 16 points cap lists
+    some = each_list_has_tree 16 points cap (omega arith) (in_grid points spelled.limits.range)
+
+    reported : IsReported order cap input (field_text mode points order cap some.0)
+    reported = record { mode = mode; points = points; within = within; spelled = spelled; none_crowded = none; no_more = few; lists = some.0; lists_are = some.1; report = refl }
+
+    pub report_ends : (before after : Option (List ℕ)) → ((lists : TreeLists) → AreTreeLists 16 points cap lists → Appends before after (field_text mode points order cap lists)) → SolveEnds order cap input Done before after
+    report_ends before after h = (field_text mode points order cap some.0, reported, h some.0 some.1)
+
+    pub part_ends : (before after : Option (List ℕ)) → ((lists : TreeLists) → AreTreeLists 16 points cap lists → AppendsPrefix before after (field_text mode points order cap lists)) → SolveEnds order cap input WriteFault before after
+    part_ends before after h = (Done, field_text mode points order cap some.0, reported, h some.0 some.1)

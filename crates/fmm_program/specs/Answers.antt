@@ -1,8 +1,12 @@
 -- What a run answers, and what it writes.
-use Rattle.std.specs.Prelude.{ℕ, ◌<◌, ◌≤◌, ◌≡◌, ◌⊎◌, List, ◌++◌, length, codes, decimal}
+use Rattle.std.specs.Prelude.{ℕ, ◌+◌, ◌*◌, ◌<◌, ◌≤◌, ◌≡◌, ◌⊎◌, List, ◌++◌, length, codes, decimal, sum_by}
 use Rattle.std.specs.List.{AllZip}
 use Rattle.std.specs.Io.KnownBytes.{Appends}
 use Rattle.std.specs.declared.option.Option.{Option}
+use Rattle.cell_lists.specs.Entries.{HasOneEntry, IsTargetAndSource}
+use Rattle.cell_name.specs.Cell.{square}
+use Rattle.cell_name.specs.Square.{Square}
+use Rattle.cert_text.specs.declared.Letter.TheVariants.{V}
 use Rattle.io_ports.specs.Bytes.{AppendsPrefix}
 use Rattle.near_field.specs.DirectSum.{direct_sum}
 use Rattle.particle_text.specs.Faults.{FirstFault}
@@ -12,9 +16,15 @@ use Rattle.particle_text.specs.declared.Mode.{Mode}
 use Rattle.particle_text.specs.declared.Point.{Point}
 use Rattle.particle_text.specs.declared.TextKind.{TextKind}
 use Rattle.particle_text.specs.declared.TextKind.TheVariants.{Syntax, Range, Mixed, Many, Strength}
+use Rattle.quadtree.specs.Faults.{most_cells, HasMoreCells, HasTooManyCells, IsFirstCrowded, NoneIsCrowded}
+use Rattle.quadtree.specs.declared.fault.TreeFault.{TreeFault}
+use Rattle.quadtree.specs.declared.fault.TreeFault.TheVariants.{Crowded, Cells, Memory as NoMemory}
+use Rattle.tree_field.specs.Field.{targets}
+use Rattle.tree_field.specs.Lists.{TreeLists, AreTreeLists}
+use Rattle.tree_field.specs.Work.{translations, pairs}
 use Rattle.field_report.specs.Counts.{CountsContain}
+use Rattle.field_report.specs.FieldText.{field_text}
 use Rattle.field_report.specs.Report.{TargetLine, line_feed, report_text}
-use Rattle.fmm_program.specs.OneLeaf.{leaf_report, targets_of}
 use Rattle.fmm_program.specs.declared.status.Status.{Status}
 use Rattle.fmm_program.specs.declared.status.Status.TheVariants.{Done, Refused, Usage, Memory, ReadFault, WriteFault, Rejected}
 
@@ -39,8 +49,13 @@ kind_word Strength = codes "strength"
 abbrev pub fault_line : ℕ → TextKind → List ℕ
 fault_line line kind = codes "refused line " ++ decimal line ++ codes " " ++ kind_word kind ++ line_feed
 
-abbrev pub wide_line : List ℕ
-wide_line = codes "refused wide" ++ line_feed
+-- level, column and row of the place, and how many points stand there
+abbrev pub crowded_line : Square → ℕ → List ℕ
+crowded_line c count =
+    codes "refused depth crowded cell " ++ decimal c.level ++ codes " " ++ decimal c.i ++ codes " " ++ decimal c.j ++ codes " points " ++ decimal count ++ line_feed
+
+abbrev pub cells_line : List ℕ
+cells_line = codes "refused depth cells" ++ line_feed
 
 -- ---- what each answer means for the bytes that came, and which bytes go out with it
 
@@ -57,36 +72,51 @@ pub record IsFaulty (input out : List ℕ) : Type 0 where
   pub fault : FirstFault input number kind
   pub line : out ≡ fault_line number kind
 
--- the text has more points than fit one leaf
-pub record IsWide (cap : ℕ) (input out : List ℕ) : Type 0 where
+-- too many points of the text stand at one place, and the line names the first such place by column and row, and how many they are
+pub record IsCrowdedText (input out : List ℕ) : Type 0 where
   pub mode : Mode
   pub points : List Point
   pub within : length input ≤ most_input
   pub spelled : Spells input mode points
-  pub wide : cap < length points
-  pub line : out ≡ wide_line
+  pub cell : Square
+  pub count : ℕ
+  pub first : IsFirstCrowded 16 points cell count
+  pub line : out ≡ crowded_line cell count
 
--- the text fits one leaf, and the bytes are its report
-pub record IsSolved (order cap : ℕ) (input out : List ℕ) : Type 0 where
+-- no place is crowded, and the tree of the text has too many cells
+pub record HasCellsFault (cap : ℕ) (input out : List ℕ) : Type 0 where
   pub mode : Mode
   pub points : List Point
   pub within : length input ≤ most_input
   pub spelled : Spells input mode points
-  pub fits : length points ≤ cap
-  pub report : out ≡ leaf_report mode points order cap
+  pub too_many : HasTooManyCells 16 points cap
+  pub line : out ≡ cells_line
 
--- the input is a text that fits one leaf
-pub record FitsLeaf (cap : ℕ) (input : List ℕ) : Type 0 where
+-- the text has a tree, and the bytes are the report of the field over its lists
+pub record IsReported (order cap : ℕ) (input out : List ℕ) : Type 0 where
   pub mode : Mode
   pub points : List Point
   pub within : length input ≤ most_input
   pub spelled : Spells input mode points
-  pub fits : length points ≤ cap
+  pub none_crowded : NoneIsCrowded 16 points
+  pub no_more : HasMoreCells 16 points cap most_cells → ⊥
+  pub lists : TreeLists
+  pub lists_are : AreTreeLists 16 points cap lists
+  pub report : out ≡ field_text mode points order cap lists
+
+-- the input is a text with no crowded place, whose tree has no more cells than a tree may have
+pub record HasDepth (cap : ℕ) (input : List ℕ) : Type 0 where
+  pub mode : Mode
+  pub points : List Point
+  pub within : length input ≤ most_input
+  pub spelled : Spells input mode points
+  pub none_crowded : NoneIsCrowded 16 points
+  pub no_more : HasMoreCells 16 points cap most_cells → ⊥
 
 -- the answer to this input, and what goes out with it
 abbrev pub Answers : ℕ → ℕ → List ℕ → Status → List ℕ → Type 0
-Answers order cap input Done out = IsSolved order cap input out
-Answers order cap input Refused out = IsLong input out ⊎ (IsFaulty input out ⊎ IsWide cap input out)
+Answers order cap input Done out = IsReported order cap input out
+Answers order cap input Refused out = IsLong input out ⊎ (IsFaulty input out ⊎ (IsCrowdedText input out ⊎ HasCellsFault cap input out))
 Answers order cap input Usage out = ⊥
 Answers order cap input Memory out = ⊥
 Answers order cap input ReadFault out = ⊥
@@ -115,15 +145,19 @@ pub record LineContains (mode : Mode) (points : List Point) (t : Point) (line : 
   pub sum : CountsContain mode line.counts (direct_sum (place t) points)
 
 -- The input is within its limit and spells points, and the bytes are a report with one line for each target, in order, whose counts contain the exact direct sum.
+-- Of the lists of the tree exactly one entry accounts for each target and source, and the counts of work are theirs.
 pub record IsCertified (order cap : ℕ) (input out : List ℕ) : Type 0 where
   pub mode : Mode
   pub points : List Point
   pub within : length input ≤ most_input
   pub spelled : Spells input mode points
+  pub lists : TreeLists
+  pub lists_are : AreTreeLists 16 points cap lists
   pub lines : List TargetLine
-  pub pairs : ℕ
-  pub report : out ≡ report_text mode order cap lines 0 pairs
-  pub contain : AllZip (LineContains mode points) (targets_of points) lines
+  pub report : out ≡ report_text mode order cap lines (translations points lists) (pairs points lists)
+  pub contain : AllZip (LineContains mode points) (targets points) lines
+  pub one_entry : (target source : Point) → IsTargetAndSource points target source → HasOneEntry 16 points cap target source
+  pub few : translations points lists ≤ sum_by (λ b. length (lists.entries V b)) lists.cells + 2 * length lists.cells
 
 -- what `out` took with one of the lines of refusal
 abbrev pub RefusalEnds : Status → Option (List ℕ) → Option (List ℕ) → List ℕ → Type 0
@@ -136,3 +170,9 @@ abbrev pub IsSolveStatus : Status → Type 0
 IsSolveStatus Usage = ⊥
 IsSolveStatus Rejected = ⊥
 IsSolveStatus _ = Unit {0}
+
+-- what `out` took where a list has no field
+abbrev pub DepthEnds : TreeFault → Status → Option (List ℕ) → Option (List ℕ) → Type 0
+DepthEnds (Crowded cell count) status before after = RefusalEnds status before after (crowded_line (square cell) count)
+DepthEnds Cells status before after = RefusalEnds status before after cells_line
+DepthEnds NoMemory status before after = (status ≡ Memory) × (after ≡ before)

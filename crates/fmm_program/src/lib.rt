@@ -1,8 +1,7 @@
 //! The program: its words, and the top call that does all that it does.
 #![tactic(auto)]
 
-mod leaf;
-mod report;
+mod refusals;
 mod solve;
 mod status;
 #[cfg(test)]

@@ -4,60 +4,48 @@ ghost use Rattle.std.specs.Io.KnownBytes.{Appends, Consumes};
 ghost use Rattle.exact_math.specs.Orders.{IsCapacity, IsOrder};
 ghost use Rattle.io_ports.specs.Bytes.{AppendsPrefix};
 ghost use Rattle.io_ports.specs.Faults.{Rose};
-ghost use Rattle.particle_text.specs.declared.TextKind.{TextKind};
-ghost use Rattle.fmm_program.specs.Answers.{IsSolveStatus, RefusalEnds, SolveEnds, fault_line, kind_word, most_input};
+ghost use Rattle.particle_text.specs.Limits.{WithinLimits};
+ghost use Rattle.particle_text.specs.Text.{Spells};
+ghost use Rattle.fmm_program.specs.Answers.{IsSolveStatus, SolveEnds, most_input};
 
-use crate::report::write_report;
+use crate::refusals::{refuse, refuse_depth, refuse_text};
 use crate::status::Status;
-use field_report::FrontText;
-use io_ports::{InFault, Sink, Source, put, read_all};
-use particle_text::{ParseFault, TextKind, parse};
+use field_report::write_report;
+use io_ports::{InFault, Sink, Source, read_all};
+use particle_text::{ParseFault, Points, parse};
 use std::alloc::Global;
 
 /// The greatest number of bytes of an input.
 const MOST_INPUT: u64 = 16_777_216;
 
-/// Writes a line of refusal.
-fn refuse<O: Sink>(line: &[u8], out: &mut O) -> Status
-    ensures ends { RefusalEnds result (O.held out.old) (O.held out.new) line.now }
+/// Solves the points at the order `P`, and writes the report of their field or the line that refuses them.
+fn answer_points<const P: usize, O: Sink>(
+    alloc: Global,
+    points: &Points,
+    cap: u32,
+    out: &mut O,
+) -> Status
+    requires list { WithinLimits points.now.mode points.now.list }
+    requires order { IsOrder P }
+    requires cap { IsCapacity cap }
+    ensures ends { (input : List ℕ) → length input ≤ most_input → Spells input points.now.mode points.now.list
+        → SolveEnds P cap input result (O.held out.old) (O.held out.new) }
     ensures cause { result ≡ Status.WriteFault → Rose (O.faults out.old) (O.faults out.new) }
     ensures later { O.faults out.old ≤ O.faults out.new }
+    ensures read { result ≡ Status.ReadFault → ⊥ }
 {
-    match put(out, line) {
-        Ok(()) => Status::Refused,
-        Err(_) => Status::WriteFault,
+    match solve_phase::solve::<P>(alloc, points, cap) {
+        Ok(field) => match write_report(points, cap, &field, out) {
+            Ok(()) => Status::Done,
+            Err(_) => Status::WriteFault,
+        },
+        Err(fault) => refuse_depth(fault, out),
     }
-}
-
-/// The word of a kind.
-fn kind_label(kind: TextKind) -> &'static [u8]
-    ensures word { result.now ≡ kind_word kind }
-    ensures room { length result.now ≤ 8 }
-{
-    match kind {
-        TextKind::Syntax => b"syntax",
-        TextKind::Range => b"range",
-        TextKind::Mixed => b"mixed",
-        TextKind::Many => b"many",
-        TextKind::Strength => b"strength",
-    }
-}
-
-/// The line of the first fault of a text.
-fn fault_text(line: u64, kind: TextKind) -> FrontText<64>
-    ensures { result ≡ fault_line line kind }
-{
-    let mut text = FrontText::new();
-    text.prepend(b'\n');
-    text.prepend_word(kind_label(kind));
-    text.prepend(b' ');
-    text.prepend_decimal(line);
-    text.prepend_word(b"refused line ");
-    text
 }
 
 /// Answers an input that was read whole.
 fn answer_text<O: Sink>(alloc: Global, order: u32, cap: u32, bytes: &[u8], out: &mut O) -> Status
+    requires order { IsOrder order }
     requires cap { IsCapacity cap }
     requires within { length bytes.now ≤ most_input }
     ensures ends { SolveEnds order cap bytes.now result (O.held out.old) (O.held out.new) }
@@ -68,17 +56,13 @@ fn answer_text<O: Sink>(alloc: Global, order: u32, cap: u32, bytes: &[u8], out: 
     let points = match parse(alloc, bytes) {
         Ok(points) => points,
         Err(ParseFault::Memory) => return Status::Memory,
-        Err(ParseFault::Text { line, what }) => {
-            return refuse(fault_text(line, what).as_bytes(), out);
-        }
+        Err(ParseFault::Text { line, what }) => return refuse_text(line, what, out),
     };
-    let list = points.list.points();
-    if list.len() > cap as usize {
-        return refuse(b"refused wide\n", out);
-    }
-    match write_report(points.mode, list, order, cap, out) {
-        Ok(()) => Status::Done,
-        Err(_) => Status::WriteFault,
+    match order {
+        4 => answer_points::<4, O>(alloc, &points, cap, out),
+        8 => answer_points::<8, O>(alloc, &points, cap, out),
+        16 => answer_points::<16, O>(alloc, &points, cap, out),
+        _ => answer_points::<24, O>(alloc, &points, cap, out),
     }
 }
 
@@ -93,7 +77,8 @@ pub(crate) fn solve<A: Source, O: Sink>(
     points: &mut A,
     out: &mut O,
 ) -> Status
-    requires { IsCapacity cap }
+    requires order { IsOrder order }
+    requires cap { IsCapacity cap }
     ensures ends { IfSome (A.left points.old) (λ input. SolveEnds order cap input result (O.held out.old) (O.held out.new)) }
     ensures came { (input : List ℕ) × Consumes (A.left points.old) (A.left points.new) input × SolveEnds order cap input result (O.held out.old) (O.held out.new) }
     ensures status { IsSolveStatus result }

@@ -2,7 +2,7 @@
 ghost use Rattle.std.specs.Prelude.{◌≡◌, ℕ, ◌+◌, ◌≤◌, ◌⊎◌, List, IfSome, Some, [], length};
 ghost use Rattle.std.specs.Io.KnownBytes.{Appends, Consumes};
 ghost use Rattle.io_ports.specs.Faults.{Rose};
-ghost use Rattle.fmm_program.specs.Answers.{FitsLeaf, IsCertified, SolveEnds, UsageEnds, most_input};
+ghost use Rattle.fmm_program.specs.Answers.{HasDepth, IsCertified, SolveEnds, UsageEnds, most_input};
 ghost use Rattle.fmm_program.specs.Forms.{IsSolve, IsUsage};
 
 use crate::solve::solve;
@@ -38,7 +38,7 @@ pub fn run<A: Source, B: Source, O: Sink, C: Sink>(
         → IfSome (A.left points.old) (λ input. SolveEnds order cap input result (O.held out.old) (O.held out.new)) }
     ensures came { (order cap : ℕ) (file : List ℕ) → IsSolve words.now order cap file
         → (input : List ℕ) × Consumes (A.left points.old) (A.left points.new) input × SolveEnds order cap input result (O.held out.old) (O.held out.new) }
-    ensures complete { (order cap : ℕ) (file input : List ℕ) → IsSolve words.now order cap file → A.left points.old ≡ Some input → FitsLeaf cap input
+    ensures complete { (order cap : ℕ) (file input : List ℕ) → IsSolve words.now order cap file → A.left points.old ≡ Some input → HasDepth cap input
         → (Rose (A.faults points.old) (A.faults points.new) → ⊥) → (Rose (O.faults out.old) (O.faults out.new) → ⊥) → (result ≡ Status.Done) ⊎ (result ≡ Status.Memory) }
     ensures usage { IsUsage words.now → UsageEnds result (O.held out.old) (O.held out.new) × (points.new ≡ points.old) }
     ensures usage_only { result ≡ Status.Usage → IsUsage words.now }

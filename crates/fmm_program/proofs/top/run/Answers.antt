@@ -1,5 +1,5 @@
 use Rattle.std.proofs.Common.{subst}
-use Rattle.fmm_program.specs.Answers.{FitsLeaf}
+use Rattle.fmm_program.specs.Answers.{HasDepth}
 use Rattle.fmm_program.proofs.Commands.{one_capacity}
 use Rattle.fmm_program.proofs.Complete.{completes, told}
 use Rattle.fmm_program.proofs.Certified.{certified_came, certified_ends}
@@ -24,12 +24,12 @@ pub returns-in-Err-clause-solve : goal.returns-in-Err-clause-solve
 returns-in-Err-clause-solve g c order cap file form = absurd (c.in-None.ensures.none order cap file form)
 
 pub returns-in-Some-clause-complete : goal.returns-in-Some-clause-complete
-returns-in-Some-clause-complete g c order cap file input form left fits read write =
-    completes _ _ input _ _ (subst (λ k. FitsLeaf k input) (one_capacity _ _ _ _ _ _ _ form c.in-Some.ensures.some) fits) c.solve.result
+returns-in-Some-clause-complete g c order cap file input form left depth read write =
+    completes _ _ input _ _ (subst (λ k. HasDepth k input) (one_capacity _ _ _ _ _ _ _ form c.in-Some.ensures.some) depth) c.solve.result
     (told _ _ input left c.solve.ensures.ends) (λ e. read (c.solve.ensures.read e)) (λ e. write (c.solve.ensures.write e))
 
 pub returns-in-Ok-clause-complete : goal.returns-in-Ok-clause-complete
-returns-in-Ok-clause-complete g c order cap file input form left fits read write = absurd (c.in-None.ensures.none order cap file form)
+returns-in-Ok-clause-complete g c order cap file input form left depth read write = absurd (c.in-None.ensures.none order cap file form)
 
 pub returns-in-Err-clause-complete : goal.returns-in-Err-clause-complete
-returns-in-Err-clause-complete g c order cap file input form left fits read write = absurd (c.in-None.ensures.none order cap file form)
+returns-in-Err-clause-complete g c order cap file input form left depth read write = absurd (c.in-None.ensures.none order cap file form)

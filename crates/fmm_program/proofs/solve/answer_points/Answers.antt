@@ -1,0 +1,14 @@
+use Rattle.fmm_program.proofs.RunEnds.{depth_ends, part_ends, report_ends}
+use Rattle.fmm_program.proofs.solve.answer_points.Goals as goal
+
+pub returns-in-Ok-write_report-clause-ends : goal.returns-in-Ok-write_report-clause-ends
+returns-in-Ok-write_report-clause-ends g c input within spelled =
+    report_ends g.row.P c.args.cap input c.args.points.now.mode c.args.points.now.list within spelled c.in-Ok.ensures.none_crowded c.in-Ok.ensures.no_more _ _ c.in-Ok-write_report.ensures.done
+
+pub returns-in-Ok-clause-ends : goal.returns-in-Ok-clause-ends
+returns-in-Ok-clause-ends g c input within spelled =
+    part_ends g.row.P c.args.cap input c.args.points.now.mode c.args.points.now.list within spelled c.in-Ok.ensures.none_crowded c.in-Ok.ensures.no_more _ _ c.in-Err-write_report.ensures.part
+
+pub returns-clause-ends : goal.returns-clause-ends
+returns-clause-ends g c input within spelled =
+    depth_ends g.row.P c.args.cap _ _ input c.args.points.now.mode c.args.points.now.list c.in-Err.fault c.refuse_depth.result within spelled c.in-Err.ensures.fault c.refuse_depth.ensures.ends

@@ -1,0 +1,93 @@
+//! The lines of refusal.
+ghost use Rattle.std.specs.Prelude.{◌≡◌, ◌≤◌, length};
+ghost use Rattle.cell_name.specs.Cell.{square};
+ghost use Rattle.io_ports.specs.Faults.{Rose};
+ghost use Rattle.fmm_program.specs.Answers.{DepthEnds, RefusalEnds, crowded_line, fault_line, kind_word};
+
+use crate::status::Status;
+use cell_name::Cell;
+use field_report::FrontText;
+use io_ports::{Sink, put};
+use particle_text::TextKind;
+use solve_phase::SolveFault;
+
+// A line grows from its end to its front, in at most this many bytes.
+const LINE: usize = 128;
+
+/// Writes a line of refusal.
+pub(crate) fn refuse<O: Sink>(line: &[u8], out: &mut O) -> Status
+    ensures ends { RefusalEnds result (O.held out.old) (O.held out.new) line.now }
+    ensures cause { result ≡ Status.WriteFault → Rose (O.faults out.old) (O.faults out.new) }
+    ensures later { O.faults out.old ≤ O.faults out.new }
+{
+    match put(out, line) {
+        Ok(()) => Status::Refused,
+        Err(_) => Status::WriteFault,
+    }
+}
+
+/// Writes the line of the first fault of a text.
+pub(crate) fn refuse_text<O: Sink>(line: u64, kind: TextKind, out: &mut O) -> Status
+    ensures ends { RefusalEnds result (O.held out.old) (O.held out.new) (fault_line line kind) }
+    ensures cause { result ≡ Status.WriteFault → Rose (O.faults out.old) (O.faults out.new) }
+    ensures later { O.faults out.old ≤ O.faults out.new }
+{
+    refuse(fault_text(line, kind).as_bytes(), out)
+}
+
+/// Writes the line of a list that has no field; there is none for want of memory.
+pub(crate) fn refuse_depth<O: Sink>(fault: SolveFault, out: &mut O) -> Status
+    ensures ends { DepthEnds fault result (O.held out.old) (O.held out.new) }
+    ensures cause { result ≡ Status.WriteFault → Rose (O.faults out.old) (O.faults out.new) }
+    ensures later { O.faults out.old ≤ O.faults out.new }
+{
+    match fault {
+        SolveFault::Crowded { cell, count } => refuse(crowded_text(cell, count).as_bytes(), out),
+        SolveFault::Cells => refuse(b"refused depth cells\n", out),
+        SolveFault::Memory => Status::Memory,
+    }
+}
+
+// The word of a kind.
+fn kind_label(kind: TextKind) -> &'static [u8]
+    ensures word { result.now ≡ kind_word kind }
+    ensures room { length result.now ≤ 8 }
+{
+    match kind {
+        TextKind::Syntax => b"syntax",
+        TextKind::Range => b"range",
+        TextKind::Mixed => b"mixed",
+        TextKind::Many => b"many",
+        TextKind::Strength => b"strength",
+    }
+}
+
+// The line of the first fault of a text.
+fn fault_text(line: u64, kind: TextKind) -> FrontText<LINE>
+    ensures { result ≡ fault_line line kind }
+{
+    let mut text = FrontText::new();
+    text.prepend(b'\n');
+    text.prepend_word(kind_label(kind));
+    text.prepend(b' ');
+    text.prepend_decimal(line);
+    text.prepend_word(b"refused line ");
+    text
+}
+
+// The line of the first crowded place.
+fn crowded_text(cell: Cell, count: u64) -> FrontText<LINE>
+    ensures { result ≡ crowded_line (square cell) count }
+{
+    let mut text = FrontText::new();
+    text.prepend(b'\n');
+    text.prepend_decimal(count);
+    text.prepend_word(b" points ");
+    text.prepend_decimal(u64::from(cell.j));
+    text.prepend(b' ');
+    text.prepend_decimal(u64::from(cell.i));
+    text.prepend(b' ');
+    text.prepend_decimal(u64::from(cell.level));
+    text.prepend_word(b"refused depth crowded cell ");
+    text
+}
