@@ -4,3 +4,4 @@ mod Digits
 mod Greatest
 mod Grid
 mod Lines
+mod Worked

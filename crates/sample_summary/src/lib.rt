@@ -7,3 +7,6 @@ mod widths;
 mod write;
 
 pub use write::write_summary;
+
+#[cfg(test)]
+mod tests;
