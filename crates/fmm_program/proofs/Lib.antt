@@ -1,6 +1,7 @@
 pub mod Examples
 pub mod LeafContains
 pub mod Commands
+mod SampleWords
 pub mod LeafSums
 pub mod Pieces
 pub mod LeafReports

@@ -2,3 +2,4 @@
 pub mod Answers
 pub mod Forms
 pub mod OneLeaf
+pub mod Samples

@@ -3,6 +3,7 @@
 
 mod leaf;
 mod report;
+mod samples;
 mod solve;
 mod status;
 #[cfg(test)]
