@@ -2,3 +2,4 @@ pub mod Certified
 pub mod Commands
 pub mod Complete
 pub mod RunEnds
+mod SampleWords

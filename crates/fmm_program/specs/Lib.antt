@@ -1,3 +1,4 @@
 -- What the contracts cite: forms of the command line, and the answers of a run.
 pub mod Answers
 pub mod Forms
+pub mod Samples

@@ -2,6 +2,7 @@
 #![tactic(auto)]
 
 mod refusals;
+mod samples;
 mod solve;
 mod status;
 #[cfg(test)]

@@ -84,7 +84,7 @@ pub(crate) struct SolveCommand<'a> {
 }
 
 /// The number that a word spells, where it is at least `least` and at most `most`.
-fn number_in(word: &str, least: u32, most: u32) -> Option<u32>
+pub(crate) fn number_in(word: &str, least: u32, most: u32) -> Option<u32>
     ensures some { IfSome result (λ n. IsUint word.now n × (least ≤ n) × (n ≤ most)) }
     ensures none { IfNone result ((n : ℕ) → IsUint word.now n → least ≤ n → n ≤ most → ⊥) }
 {
@@ -96,7 +96,7 @@ fn number_in(word: &str, least: u32, most: u32) -> Option<u32>
 }
 
 /// The order that a word spells.
-fn order_of(word: &str) -> Option<u32>
+pub(crate) fn order_of(word: &str) -> Option<u32>
     ensures some { IfSome result (λ n. IsUint word.now n × IsOrder n) }
     ensures none { IfNone result ((n : ℕ) → IsUint word.now n → IsOrder n → ⊥) }
 {
@@ -108,7 +108,7 @@ fn order_of(word: &str) -> Option<u32>
 }
 
 /// The capacity that a word spells.
-fn capacity_of(word: &str) -> Option<u32>
+pub(crate) fn capacity_of(word: &str) -> Option<u32>
     ensures some { IfSome result (λ n. IsUint word.now n × IsCapacity n) }
     ensures none { IfNone result ((n : ℕ) → IsUint word.now n → IsCapacity n → ⊥) }
 {

@@ -1,0 +1,76 @@
+-- The cells, leaves and entries of a tree of the program, counted by numbers and counted as cells.
+use Rattle.std.proofs.Common.{ℕ, ◌≡◌, ◌+◌, ◌<◌, ◌≤◌, inl, inr, List, [], length, take, get_or, Bool, true, false, cond, not, refl, sym, ap, ◌∙◌, arith}
+use Rattle.std.specs.Prelude.{◌==◌, ◌↔◌, ◌⊎◌, IsTrue, nat_lt, sum_by}
+use Rattle.std.specs.List.{range_with_len, count_by}
+use Rattle.std.proofs.lemmas.Bool.{ltb-false, le-ltb, eqb-true, eq-eqb, not-true, not_from_false, or_cases, or_left, or_right}
+use Rattle.std.proofs.lemmas.List.{length-map}
+use Rattle.std.proofs.lemmas.List.FromFn.{fill_by_all, length-range_with_len, get_or-range_with_len}
+use Rattle.std.proofs.lemmas.List.Sums.{count_by_more_yes, count_by_more_no}
+use mathlib.Core.Logic.{⊎_elim}
+use Rattle.cell_name.specs.Cell.{square}
+use Rattle.cell_name.specs.Square.{Square, root}
+use Rattle.cell_lists.specs.Lists.{lists_of, AreLists}
+use Rattle.cell_lists.specs.Row.{row}
+use Rattle.cell_lists.specs.declared.entry_lists.EntryLists.{EntryLists}
+use Rattle.cell_lists.proofs.TreeNumbers.{tree_cell_at}
+use Rattle.cert_text.specs.declared.Letter.{Letter}
+use Rattle.particle_text.specs.declared.Point.{Point}
+use Rattle.quadtree.specs.Tree.{count_in, AreInGrid, IsTreeCell, IsLeaf}
+use Rattle.quadtree.specs.TreeModel.{TreeModel, squares, size, square_of, node_of, IsTreeOf}
+use Rattle.tree_field.specs.Lists.{TreeLists, AreTreeLists}
+use Rattle.tree_field.proofs.Leaves.{same_test}
+use Rattle.tree_field.proofs.Members.{All-from_members, range_below}
+use Rattle.tree_field.proofs.Program.{lists_of_tree}
+use Rattle.tree_field.proofs.Sums.{sum_by-map, sum_by-same}
+use Rattle.sample_summary.specs.Summary.{is_leaf, entry_count}
+
+-- ---- the next of the first n numbers
+number_at : (n k : ℕ) → k < n → get_or (range_with_len 0 n) k 0 ≡ k
+number_at n k lt = omega (arith, get_or-range_with_len 0 n k 0 lt)
+
+pub counted_yes : (p : ℕ → Bool) (n k was now : ℕ) → k < n → was ≡ count_by p (take k (range_with_len 0 n)) → p k ≡ true → now ≡ was + 1 → now ≡ count_by p (take (k + 1) (range_with_len 0 n))
+counted_yes p n k was now lt e at_k more =
+    more ∙ ap (λ m. m + 1) e ∙ sym (count_by_more_yes p (range_with_len 0 n) k 0 (omega (arith, length-range_with_len 0 n)) (ap p (number_at n k lt) ∙ at_k))
+
+pub counted_no : (p : ℕ → Bool) (n k was now : ℕ) → k < n → was ≡ count_by p (take k (range_with_len 0 n)) → p k ≡ false → now ≡ was → now ≡ count_by p (take (k + 1) (range_with_len 0 n))
+counted_no p n k was now lt e at_k same =
+    same ∙ e ∙ sym (count_by_more_no p (range_with_len 0 n) k 0 (omega (arith, length-range_with_len 0 n)) (ap p (number_at n k lt) ∙ at_k))
+
+-- ---- sums over all cells, and over the rows of lists
+by_numbers : (tree : TreeModel) (f : Square → ℕ) (g : ℕ → ℕ) → ((n : ℕ) → n < size tree → f (square_of tree n) ≡ g n) → sum_by f (squares tree) ≡ sum_by g (range_with_len 0 (size tree))
+by_numbers tree f g same =
+    ap (sum_by f) (fill_by_all (square_of tree) (squares tree) (size tree) (root 16) (length-map tree.cells square) (λ k lt. refl))
+    ∙ sum_by-map f (square_of tree) (range_with_len 0 (size tree))
+    ∙ sum_by-same (λ n. f (square_of tree n)) g (range_with_len 0 (size tree)) (All-from_members (λ n. f (square_of tree n) ≡ g n) (range_with_len 0 (size tree)) (λ n h. same n (range_below (size tree) n h)))
+
+by_rows : (rows : List (List ℕ)) (n : ℕ) (f : List ℕ → ℕ) → length rows ≡ n → sum_by f rows ≡ sum_by (λ k. f (row rows k)) (range_with_len 0 n)
+by_rows rows n f e = ap (sum_by f) (fill_by_all (row rows) rows n [] e (λ k lt. refl)) ∙ sum_by-map f (row rows) (range_with_len 0 n)
+
+-- ---- whether a cell is a leaf
+leaf_is : (points : List Point) (cap : ℕ) (c : Square) (b : Bool) → IsTreeCell 16 points cap c → IsTrue b ↔ IsLeaf 16 points cap c → b ≡ is_leaf points cap c
+leaf_is points cap c b here h = same_test b (is_leaf points cap c) (λ e. passes (h.0 e)) (λ e. h.1 (record { in_tree = here; ends = end e }))
+  where
+    over : Bool
+    over = nat_lt cap (count_in points c)
+
+    passes : IsLeaf 16 points cap c → is_leaf points cap c ≡ true
+    passes leaf = ⊎_elim (λ few. or_left (not over) (c.level == 16) (not_from_false over (le-ltb cap (count_in points c) few))) (λ last. or_right (not over) (c.level == 16) (eq-eqb c.level 16 last)) leaf.ends
+
+    end : is_leaf points cap c ≡ true → (count_in points c ≤ cap) ⊎ (c.level ≡ 16)
+    end e = ⊎_elim (λ few. inl (ltb-false cap (count_in points c) (not-true over few))) (λ last. inr (eqb-true c.level 16 last)) (or_cases (not over) (c.level == 16) e)
+
+module _ (tree : TreeModel) (lists : EntryLists) (points : List Point) (cap : ℕ) (these : TreeLists) (inside : AreInGrid 16 points) (h : IsTreeOf 16 tree points cap) (are : AreLists tree lists) (a : AreTreeLists 16 points cap these) where
+  pub cells_are : size tree ≡ length these.cells
+  cells_are = sym (ap length (lists_of_tree tree lists points cap these inside h are a).cells ∙ length-map tree.cells square)
+
+  pub leaves_are : count_by (λ n. (node_of tree n).is_leaf) (range_with_len 0 (size tree)) ≡ count_by (is_leaf points cap) these.cells
+  leaves_are = sym (ap (count_by (is_leaf points cap)) (lists_of_tree tree lists points cap these inside h are a).cells
+      ∙ by_numbers tree (λ c. cond (is_leaf points cap c) 1 0) (λ n. cond (node_of tree n).is_leaf 1 0)
+      (λ n lt. ap (λ (b : Bool). cond {A = ℕ} b 1 0) (sym (leaf_is points cap (square_of tree n) (node_of tree n).is_leaf (tree_cell_at tree points cap n h lt) (h.nodes_are n lt).leaf))))
+
+  pub entries_are : (letter : Letter) → sum_by (λ list. length list) (lists_of lists letter) ≡ entry_count these letter
+  entries_are letter =
+      let of = lists_of_tree tree lists points cap these inside h are a in
+      by_rows (lists_of lists letter) (size tree) (λ list. length list) (are.as_many letter)
+      ∙ sym (ap (sum_by (λ b. length (these.entries letter b))) of.cells
+      ∙ by_numbers tree (λ b. length (these.entries letter b)) (λ n. length (row (lists_of lists letter) n)) (λ n lt. ap length (of.entries letter n lt) ∙ length-map (row (lists_of lists letter) n) (square_of tree)))

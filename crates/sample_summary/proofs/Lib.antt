@@ -1,0 +1,7 @@
+-- What the proofs of this crate rest on.
+mod Counting
+mod Digits
+mod Greatest
+mod Grid
+mod Lines
+mod Worked

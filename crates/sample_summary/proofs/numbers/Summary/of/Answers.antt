@@ -1,0 +1,47 @@
+use Rattle.std.proofs.Common.{◌≡◌, ◌∙◌, List, ap, sym, refl, subst, length}
+use Rattle.std.specs.Prelude.{sum_by}
+use Rattle.std.specs.List.{range_with_len, count_by}
+use Rattle.std.proofs.lemmas.List.{length-map}
+use Rattle.cell_lists.specs.Lists.{lists_of}
+use Rattle.cert_text.specs.declared.Letter.TheVariants.{U, V, W, X}
+use Rattle.complex_box.specs.Box.{box_ends}
+use Rattle.particle_text.specs.Points.{place}
+use Rattle.particle_text.specs.declared.Point.{Point}
+use Rattle.quadtree.specs.Tree.{AreInGrid}
+use Rattle.quadtree.specs.TreeModel.{size, node_of, IsTree}
+use Rattle.tree_field.specs.Field.{targets, target_box}
+use Rattle.sample_summary.specs.Summary.{widest_re, widest_im}
+use Rattle.sample_summary.proofs.Counting.{cells_are, leaves_are, entries_are}
+use Rattle.sample_summary.proofs.Grid.{points_in_grid}
+use Rattle.sample_summary.proofs.numbers.Summary.of.Goals as goal
+
+pub returns : goal.returns
+returns g c these a =
+    let tree = c.args.field.now.tree in
+    let lists = c.args.field.now.lists in
+    let values = c.args.field.now.values.items in
+    let points : List Point = c.args.points.now in
+    let cap = c.args.field.now.cap in
+    let h = c.requires.is_tree in
+    let are = c.requires.lists_are in
+    let is_tree = c.tree-tree.ensures in
+    let are_lists = c.lists-lists.ensures in
+    let inside : AreInGrid 16 points = points_in_grid tree points cap (subst IsTree is_tree c.cells.ensures.tree) h in
+    let over = c.requires.over these a in
+    let as_many : length values ≡ length (targets points) =
+    sym (length-map values box_ends) ∙ ap length over.values_are ∙ length-map (targets points) (λ p. target_box points cap g.row.P these 16 (place p)) in
+    rw (
+      c.source_count.ensures,
+      c.targets.ensures ∙ as_many,
+      ap length c.cells.ensures.all ∙ ap size is_tree ∙ cells_are tree lists points cap these inside h are a,
+      c.leaf_count.ensures ∙ ap (λ tree. count_by (λ n. (node_of tree n).is_leaf) (range_with_len 0 (size tree))) is_tree ∙ leaves_are tree lists points cap these inside h are a,
+      c.total.ensures ∙ ap (λ lists. sum_by (λ list. length list) (lists_of lists U)) are_lists ∙ entries_are tree lists points cap these inside h are a U,
+      c.total-2.ensures ∙ ap (λ lists. sum_by (λ list. length list) (lists_of lists V)) are_lists ∙ entries_are tree lists points cap these inside h are a V,
+      c.total-3.ensures ∙ ap (λ lists. sum_by (λ list. length list) (lists_of lists W)) are_lists ∙ entries_are tree lists points cap these inside h are a W,
+      c.total-4.ensures ∙ ap (λ lists. sum_by (λ list. length list) (lists_of lists X)) are_lists ∙ entries_are tree lists points cap these inside h are a X,
+      c.translations.ensures ∙ over.translations_are,
+      c.pairs.ensures ∙ over.pairs_are,
+      c.of-widest.ensures.re ∙ ap widest_re over.values_are,
+      c.of-widest.ensures.im ∙ ap widest_im over.values_are,
+    )
+    refl

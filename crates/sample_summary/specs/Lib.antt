@@ -1,0 +1,3 @@
+-- What the contracts cite: the numbers of a summary, and its lines.
+pub mod Summary
+pub mod Text

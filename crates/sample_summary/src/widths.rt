@@ -1,0 +1,53 @@
+//! The widths of printed counts.
+ghost use Rattle.std.specs.Prelude.{◌≡◌, ◌^◌, map, max};
+ghost use Rattle.complex_box.specs.Box.{BoxWithin, box_ends};
+ghost use Rattle.field_report.specs.Counts.{count_ends};
+ghost use Rattle.fixed_interval.specs.Interval.{IntervalWithin, ends_of};
+ghost use Rattle.sample_summary.specs.Summary.{width, widest_re, widest_im};
+ghost use Rattle.solve_phase.specs.Field.{kept};
+
+use complex_box::CBox;
+use field_report::to_count;
+use fixed_interval::Interval;
+use solve_phase::Field;
+
+/// How far the printed counts of an interval are apart.
+fn width(i: Interval) -> u128
+    requires { IntervalWithin (2 ^ 84) i }
+    ensures { result ≡ width (count_ends (ends_of i)) }
+{
+    (to_count(i.hi, true) - to_count(i.lo, false)).unsigned_abs()
+}
+
+/// The greatest widths of the printed counts of some boxes, of each part by itself.
+#[derive(Clone, Copy)]
+pub(crate) struct Widest {
+    pub(crate) re: u128,
+    pub(crate) im: u128,
+}
+
+impl Widest {
+    /// The greatest widths with one further box.
+    fn with(self, v: CBox) -> Widest
+        requires { BoxWithin (2 ^ 84) v }
+        ensures re { result.re ≡ max self.re (width (count_ends (ends_of v.re))) }
+        ensures im { result.im ≡ max self.im (width (count_ends (ends_of v.im))) }
+    {
+        Widest {
+            re: self.re.max(width(v.re)),
+            im: self.im.max(width(v.im)),
+        }
+    }
+
+    /// Those of the boxes of all targets; 0 where there is none.
+    pub(crate) fn of<const P: usize>(field: &Field<P>) -> Widest
+        ensures re { result.re ≡ widest_re (map box_ends (kept field.now).values) }
+        ensures im { result.im ≡ widest_im (map box_ends (kept field.now).values) }
+    {
+        let mut widest = Widest { re: 0, im: 0 };
+        for k in 0..field.targets() {
+            widest = widest.with(field.value(k));
+        }
+        widest
+    }
+}

@@ -1,0 +1,38 @@
+//! Writing a summary.
+ghost use Rattle.std.specs.Prelude.{◌≡◌, OnOk, OnErr, length};
+ghost use Rattle.std.specs.Io.KnownBytes.{Appends};
+ghost use Rattle.io_ports.specs.Bytes.{AppendsPrefix};
+ghost use Rattle.io_ports.specs.Faults.{HasCause};
+ghost use Rattle.sample_summary.specs.Summary.{summary_of};
+ghost use Rattle.sample_summary.specs.Text.{summary_text};
+ghost use Rattle.solve_phase.specs.Field.{IsSolved, kept};
+ghost use Rattle.tree_field.specs.Lists.{TreeLists, AreTreeLists};
+
+use crate::numbers::Summary;
+use crate::text::summary_text;
+use io_ports::{Sink, WriteFault, put};
+use particle_text::Points;
+use solve_phase::Field;
+
+/// Appends the summary of a sample, the points that a seed gave and their field with a leaf capacity: its seven lines count points, cells,
+/// entries and work, and name the greatest widths of the printed counts over all targets, in units of 10^-12.
+///
+/// # Errors
+///
+/// `WriteFault` where a write failed. What was appended then is a prefix of the lines.
+pub fn write_summary<const P: usize, S: Sink>(
+    seed: u32,
+    points: &Points,
+    cap: u32,
+    field: &Field<P>,
+    sink: &mut S,
+) -> Result<(), WriteFault>
+    requires { IsSolved points.now.list cap P (kept field.now) }
+    ensures done { (lists : TreeLists) → AreTreeLists 16 points.now.list cap lists → OnOk result (Appends (S.held sink.old) (S.held sink.new) (summary_text seed (length points.now.list) P cap (summary_of points.now.list cap P lists))) }
+    ensures part { (lists : TreeLists) → AreTreeLists 16 points.now.list cap lists → OnErr result (AppendsPrefix (S.held sink.old) (S.held sink.new) (summary_text seed (length points.now.list) P cap (summary_of points.now.list cap P lists))) }
+    ensures cause { HasCause (S.faults sink.old) (S.faults sink.new) result }
+{
+    let summary = Summary::of(points.list.points(), field);
+    let text = summary_text(seed, P as u64, cap, &summary);
+    put(sink, text.as_bytes())
+}
