@@ -23,7 +23,7 @@ pub record IsRadiusOf (points : List Point) (cap P : ℕ) (tree : TreeModel) (fi
   pub radius_is : HasTarget points (square_of tree n) → radius ≡ pos (local_radius points cap P field (square_of tree n))
   pub empty : (HasTarget points (square_of tree n) → ⊥) → radius ≡ pos 0
 
--- the tree and its lists are those of some points, and the weights those of its cells
+-- the tree and its lists are those of some points within their limits, and the weights those of its cells
 pub record AreWeightsOfTree (P : ℕ) (tree : TreeModel) (lists : EntryLists) (weights : List ℤ) : Type 0 where
   pub points : List Point
   pub tree_is : IsTreeWithLists points tree lists

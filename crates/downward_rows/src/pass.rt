@@ -39,7 +39,8 @@ pub fn downward_pass<const P: usize>(
     ensures translations { work.new.translations ≡ work.old.translations + (sum_by (λ list. length list) lists.now.v + count_by (λ n. nat_lt 0 n && (node_of tree.now n).has_target) (range_with_len 0 (size tree.now))) }
     ensures pairs { work.new.pairs ≡ work.old.pairs }
 {
-    for n in 0..tree.cells().len() {
+    let count = tree.cells().len();
+    for n in 0..count {
         fill_row(tree, lists, points, kernel, up, n, rows, work);
     }
 }
