@@ -1,5 +1,5 @@
 -- How large the boxes of rows in one slice are.
-use Rattle.std.proofs.Common.{ℕ, ◌≡◌, ◌+◌, ◌*◌, ◌^◌, ◌/◌, ◌%◌, ◌<◌, ◌≤◌, ℤ, List, length, get_or, sym, ap, subst, ◌∙◌, arith}
+use Rattle.std.proofs.Common.{ℕ, ◌≡◌, ◌+◌, ◌*◌, ◌^◌, ◌/◌, ◌%◌, ◌<◌, ℤ, List, length, get_or, ap, subst, ◌∙◌, arith}
 use Rattle.std.specs.Prelude.{All}
 use Rattle.std.proofs.lemmas.List.{get_or_default}
 use mathlib.Core.Logic.{⊎_elim}
@@ -12,7 +12,7 @@ use Rattle.particle_text.specs.declared.Point.{Point}
 use Rattle.quadtree.specs.TreeModel.{TreeModel, size}
 use Rattle.row_recursions.specs.Sizes.{RowWithin}
 use Rattle.tree_field.specs.Lists.{TreeLists}
-use Rattle.tree_rows.specs.FieldRows.{AreFieldRows, AreLocalRowsTo, AreMultipoleRows, AreRadiiTo, HasMultipoleRows, IsFieldOf}
+use Rattle.tree_rows.specs.FieldRows.{AreFieldRows, IsFieldOf}
 use Rattle.tree_rows.specs.FlatRows.{row_at}
 use Rattle.tree_rows.specs.Trees.{IsTreeOfPoints}
 use Rattle.downward_rows.proofs.FieldSizes.{some_field, multipole_small, local_small}

@@ -6,6 +6,8 @@
 mod field;
 mod rows;
 mod solving;
+#[cfg(test)]
+mod tests;
 
 pub use field::Field;
 pub use quadtree::TreeFault as SolveFault;

@@ -21,13 +21,13 @@ returns-clause-field g c =
       lists_are = c.in-Ok.ensures.lists;
       up_are = c.in_ok-up.ensures.rows.for_each c.args.cap c.requires.tree;
       over = λ lists given.
-      let is : IsFieldOf points c.args.cap c.args.tree lists = record { is_tree = c.requires.tree; lists_are = given } in
-      let work = work_of_tree c.args.tree c.in-Ok.lists points c.args.cap lists inside c.requires.tree c.in-Ok.ensures.lists given in
-      record {
-        local_are = c.in_ok-local.ensures.local c.args.cap lists is;
-        radii_are = c.in_ok-radii.ensures.radii points c.args.cap lists inside is (subst (AreWeights points g.row.P c.args.tree) (sym c.deref-2.ensures.value) c.in_ok-weights.ensures.weights);
-        values_are = c.in_ok-values.ensures.values c.args.cap lists is;
-        translations_are = three _ _ _ _ _ _ _ _ _ work.translations_are (sources_counted c.args.tree points c.args.cap inside c.requires.tree) c.new-work.ensures.translations c.in_ok-up.ensures.translations c.in_ok-local.ensures.translations c.in_ok-values.ensures.translations c.translations.ensures;
-        pairs_are = counted _ _ _ _ _ _ c.new-work.ensures.pairs c.in_ok-up.ensures.pairs c.in_ok-local.ensures.pairs (c.in_ok-values.ensures.pairs c.args.cap lists is) c.pairs.ensures
-      }
+          let is : IsFieldOf points c.args.cap c.args.tree lists = record { is_tree = c.requires.tree; lists_are = given } in
+          let work = work_of_tree c.args.tree c.in-Ok.lists points c.args.cap lists inside c.requires.tree c.in-Ok.ensures.lists given in
+          record {
+            local_are = c.in_ok-local.ensures.local c.args.cap lists is;
+            radii_are = c.in_ok-radii.ensures.radii points c.args.cap lists inside is (subst (AreWeights points g.row.P c.args.tree) (sym c.deref-2.ensures.value) c.in_ok-weights.ensures.weights);
+            values_are = c.in_ok-values.ensures.values c.args.cap lists is;
+            translations_are = three _ _ _ _ _ _ _ _ _ work.translations_are (sources_counted c.args.tree points c.args.cap inside c.requires.tree) c.new-work.ensures.translations c.in_ok-up.ensures.translations c.in_ok-local.ensures.translations c.in_ok-values.ensures.translations c.translations.ensures;
+            pairs_are = counted _ _ _ _ _ _ c.new-work.ensures.pairs c.in_ok-up.ensures.pairs c.in_ok-local.ensures.pairs (c.in_ok-values.ensures.pairs c.args.cap lists is) c.pairs.ensures;
+          };
     }
