@@ -202,7 +202,8 @@ fn text_of(alloc: Global, lines: &[(u32, &str)]) -> Result<Vec<u8>, Fail> {
 }
 
 /// The order, the lines of the points, those of the targets in the report, and the last line but one.
-struct Tree<'a> {
+#[derive(Clone, Copy)]
+struct Example<'a> {
     order: &'a str,
     points: [(u32, &'a str); 2],
     targets: (u32, &'a str),
@@ -213,7 +214,7 @@ struct Tree<'a> {
 fn trees(rt: HostRuntime) -> Result<(), Fail> {
     let table = [
         // A tree of 18 cells, with a U entry.
-        Tree {
+        Example {
             order: "8",
             points: [(8, "charge 0 0 1\n"), (1, "target 1 0\n")],
             targets: (
@@ -223,7 +224,7 @@ fn trees(rt: HostRuntime) -> Result<(), Fail> {
             work: "work translations 32 pairs 8\n",
         },
         // One V entry.
-        Tree {
+        Example {
             order: "4",
             points: [(9, "charge 0 0 1\n"), (9, "target 2 0\n")],
             targets: (
@@ -233,7 +234,7 @@ fn trees(rt: HostRuntime) -> Result<(), Fail> {
             work: "work translations 33 pairs 0\n",
         },
         // One U entry, of cells beside each other, and of cells that meet at a corner on every level.
-        Tree {
+        Example {
             order: "4",
             points: [(9, "charge 0 0 1\n"), (9, "target 1 0\n")],
             targets: (
@@ -242,7 +243,7 @@ fn trees(rt: HostRuntime) -> Result<(), Fail> {
             ),
             work: "work translations 32 pairs 81\n",
         },
-        Tree {
+        Example {
             order: "4",
             points: [(9, "charge -1 -1 1\n"), (9, "target 0 0\n")],
             targets: (
@@ -252,7 +253,7 @@ fn trees(rt: HostRuntime) -> Result<(), Fail> {
             work: "work translations 32 pairs 81\n",
         },
         // One W entry, and one X entry.
-        Tree {
+        Example {
             order: "4",
             points: [(9, "charge 0 0 1\n"), (1, "target 8 0\n")],
             targets: (
@@ -261,7 +262,7 @@ fn trees(rt: HostRuntime) -> Result<(), Fail> {
             ),
             work: "work translations 29 pairs 0\n",
         },
-        Tree {
+        Example {
             order: "4",
             points: [(1, "charge 8 0 1\n"), (9, "target 0 0\n")],
             targets: (
@@ -272,22 +273,22 @@ fn trees(rt: HostRuntime) -> Result<(), Fail> {
         },
     ];
     let alloc = rt.alloc();
-    for tree in table {
+    for example in table {
         let text = text_of(
             alloc,
-            &[(1, "fmm 1 field\n"), tree.points[0], tree.points[1]],
+            &[(1, "fmm 1 field\n"), example.points[0], example.points[1]],
         )?;
-        let head = format!(in alloc; "fmm report 1 field order {} cap 8\n", tree.order)?;
+        let head = format!(in alloc; "fmm report 1 field order {} cap 8\n", example.order)?;
         let report = text_of(
             alloc,
             &[
                 (1, head.as_str()),
-                tree.targets,
-                (1, tree.work),
+                example.targets,
+                (1, example.work),
                 (1, "end\n"),
             ],
         )?;
-        let words = ["solve", tree.order, "8", "-"];
+        let words = ["solve", example.order, "8", "-"];
         expect(&rt, alloc, &words, &text, SURE, Status::Done, &report)?;
     }
     Ok(())
