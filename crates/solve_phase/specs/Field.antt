@@ -1,11 +1,12 @@
 -- The field of a list of points, as a solve keeps it.
-use Rattle.std.specs.Prelude.{ℕ, ◌≡◌, ◌^◌, ℤ, pos, List, map}
+use Rattle.std.specs.Prelude.{ℕ, ◌≡◌, ◌+◌, ◌*◌, ◌≤◌, ◌^◌, ℤ, pos, List, length, map, sum_by}
 use Rattle.std.specs.List.{AllZip}
 use Rattle.exact_math.specs.Ends.{BoxEndsContain}
 use Rattle.complex_box.specs.Box.{box_ends}
 use Rattle.complex_box.specs.declared.CBox.{CBox}
 use Rattle.cell_lists.specs.Lists.{AreLists}
 use Rattle.cell_lists.specs.declared.entry_lists.EntryLists.{EntryLists}
+use Rattle.cert_text.specs.declared.Letter.TheVariants.{V}
 use Rattle.near_field.specs.DirectSum.{direct_sum}
 use Rattle.particle_text.specs.Points.{place}
 use Rattle.particle_text.specs.declared.Point.{Point}
@@ -41,12 +42,13 @@ kept f = record {
   pairs = f.pairs;
 }
 
--- local rows, radii, boxes of the targets and counts are those of the field over these lists
+-- Local rows, radii, boxes of the targets and counts are those of the field over these lists. So the translations are at most the V entries and twice the cells.
 pub record IsFieldOver (points : List Point) (cap P : ℕ) (lists : TreeLists) (f : FieldParts) : Type 0 where
   pub local_are : AreLocalRowsTo points cap P f.tree lists f.local (size f.tree)
   pub radii_are : AreRadiiTo points cap P f.tree lists f.radii (size f.tree)
   pub values_are : map box_ends f.values ≡ target_boxes points cap P lists 16
   pub translations_are : f.translations ≡ translations points lists
+  pub few : f.translations ≤ sum_by (λ b. length (lists.entries V b)) lists.cells + 2 * length lists.cells
   pub pairs_are : f.pairs ≡ pairs points lists
 
 -- the field of the points with a leaf capacity at an order, which is over the lists of their tree

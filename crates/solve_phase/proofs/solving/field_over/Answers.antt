@@ -1,6 +1,8 @@
-use Rattle.std.proofs.Common.{ℕ, ◌≡◌, ◌+◌, refl, sym, subst, arith}
+use Rattle.std.proofs.Common.{ℕ, ◌≡◌, ◌+◌, ◌*◌, ◌≤◌, length, refl, sym, subst, arith}
+use Rattle.std.specs.Prelude.{sum_by}
+use Rattle.cert_text.specs.declared.Letter.TheVariants.{V}
 use Rattle.quadtree.proofs.Limits.{in_grid}
-use Rattle.tree_field.proofs.Work.{sources_counted, work_of_tree}
+use Rattle.tree_field.proofs.Work.{sources_counted, work_of_tree, translations_are_few}
 use Rattle.tree_rows.specs.FieldRows.{AreWeights, IsFieldOf}
 use Rattle.solve_phase.proofs.solving.field_over.Goals as goal
 
@@ -23,11 +25,13 @@ returns-clause-field g c =
       over = λ lists given.
           let is : IsFieldOf points c.args.cap c.args.tree lists = record { is_tree = c.requires.tree; lists_are = given } in
           let work = work_of_tree c.args.tree c.in-Ok.lists points c.args.cap lists inside c.requires.tree c.in-Ok.ensures.lists given in
+          let made = three _ _ _ _ _ _ _ _ _ work.translations_are (sources_counted c.args.tree points c.args.cap inside c.requires.tree) c.new-work.ensures.translations c.in_ok-up.ensures.translations c.in_ok-local.ensures.translations c.in_ok-values.ensures.translations c.translations.ensures in
           record {
             local_are = c.in_ok-local.ensures.local c.args.cap lists is;
             radii_are = c.in_ok-radii.ensures.radii points c.args.cap lists inside is (subst (AreWeights points g.row.P c.args.tree) (sym c.deref-2.ensures.value) c.in_ok-weights.ensures.weights);
             values_are = c.in_ok-values.ensures.values c.args.cap lists is;
-            translations_are = three _ _ _ _ _ _ _ _ _ work.translations_are (sources_counted c.args.tree points c.args.cap inside c.requires.tree) c.new-work.ensures.translations c.in_ok-up.ensures.translations c.in_ok-local.ensures.translations c.in_ok-values.ensures.translations c.translations.ensures;
+            translations_are = made;
+            few = subst (λ n. n ≤ sum_by (λ b. length (lists.entries V b)) lists.cells + 2 * length lists.cells) (sym made) (translations_are_few points lists);
             pairs_are = counted _ _ _ _ _ _ c.new-work.ensures.pairs c.in_ok-up.ensures.pairs c.in_ok-local.ensures.pairs (c.in_ok-values.ensures.pairs c.args.cap lists is) c.pairs.ensures;
           };
     }
