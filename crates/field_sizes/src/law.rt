@@ -7,9 +7,8 @@ pub fn entries_share_no_source()
     ensures { EntriesShareNoSource }
 {}
 
-/// How large the field is where the points weigh at most 2^32 together, in units of 2^-40. A multipole row is at most as large as its
-/// sources weigh. A level adds to a local row at most half as much again as all sources weigh for its V entries, and as much as they weigh
-/// for its X entries; a value is at most `P` times as large as its row.
+/// How large the field is where the points weigh at most 2^32 together, in units of 2^-40: ends of multipole rows are at most 2^74 in size,
+/// those of local rows 2^82, radii 2^80, and ends of boxes 2^84. The weight of a cell is at most that of all points.
 pub fn field_is_bounded()
     ensures weights { WeightSizes }
     ensures rows { RowSizes }

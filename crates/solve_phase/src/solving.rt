@@ -61,8 +61,12 @@ fn field_over<const P: usize>(
 /// The field of a list of points with a leaf capacity, at the order `P`. Each row is made once, level by level, and each box of a target then
 /// contains the direct sum at that target.
 ///
-/// The list is within the limits of its text, `P` is one of the orders, and the capacity is 8 to 1024. Where more than 4,096 points stand at one
-/// place, `Crowded` has the first such place by column and row; otherwise, where the tree has more than 65,536 cells, it is `Cells`.
+/// Conditions: the list is within the limits of its text, `P` is one of the orders, and the capacity is 8 to 1024.
+///
+/// # Errors
+///
+/// Where more than 4,096 points stand at one place, `Crowded` has the first such place by column and row, and how many they are; otherwise, where
+/// the tree has more than 65,536 cells, it is `Cells`. `Memory` is want of memory.
 pub fn solve<const P: usize>(
     alloc: Global,
     points: &Points,

@@ -24,10 +24,12 @@ use quadtree::Tree;
 /// Writes the box of each target, in the order of the list.
 ///
 /// Where rows and radii are those of the field, the boxes are those of the field, contain the exact sums at the targets, and have no end
-/// larger than 2^84. The pairs of `work` are raised by those of the U entries of all cells. Conditions: the tree and its lists are those of
-/// the points, which are within their limits; `positions` are those of the targets; both slices of rows have `P` boxes for each cell,
-/// all ends of multipole rows are at most 2^80 in size and those of local rows 2^90; there are a weight and a radius of 0 to 2^90 for each
-/// cell, and a box for each target; and the count of pairs is below 2^61.
+/// larger than 2^84. The pairs of `work` are raised by those of the U entries of all cells.
+///
+/// Conditions: `P` is one of the orders; the tree and its lists are those of the points, which are within their limits; `positions` are those
+/// of the targets; both slices of rows have `P` boxes for each cell, all ends of multipole rows are at most 2^80 in size and those of local
+/// rows 2^90; the weights are those of the cells at the order `P`; there is a radius of 0 to 2^90 for each cell and a box for each target; and
+/// the count of pairs is below 2^61.
 pub fn value_pass<const P: usize>(
     tree: &Tree,
     lists: &EntryLists,

@@ -85,7 +85,7 @@ fn value_in<const P: usize>(
     value.add(far.add(near)).widen(lost)
 }
 
-/// The box of the k-th point, a target, from the multipole rows `up`, the local rows `local`, the total weight of the sources of each cell
+/// The box at the place of the k-th point, which is a target's box where the point is one, from the multipole rows `up`, the local rows `local`, the total weight of the sources of each cell
 /// and the radius of the local row of the point's leaf.
 ///
 /// Where the multipole rows of the leaf's W entries, the leaf's local row, its radius and the weights are those of the field, the box is that

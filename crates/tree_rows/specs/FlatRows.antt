@@ -16,7 +16,7 @@ AreSameRows P m n = (k : ℕ) → k < P → m k ≡ n k
 abbrev pub weight_at : List ℤ → ℕ → ℕ
 weight_at weights n = unsigned_abs (slice_index_or weights n (pos 0))
 
--- what a weight may be: the greatest total of a list
+-- what a weight may be: 0 to the greatest total of a list
 pub record IsWeight (w : ℤ) : Type 0 where
   pub least : pos 0 ≤ℤ w
   pub most : w ≤ℤ pos (2 ^ 32)
