@@ -1,6 +1,7 @@
 //! The program: its words, and the top call that does all that it does.
 #![tactic(auto)]
 
+mod commands;
 mod refusals;
 mod samples;
 mod solve;
@@ -10,7 +11,8 @@ mod tests;
 mod top;
 mod words;
 
+pub use commands::{Opening, plan};
 pub use point_sample::sample_points;
 pub use status::Status;
 pub use top::run;
-pub use words::{Opening, Words, plan};
+pub use words::Words;

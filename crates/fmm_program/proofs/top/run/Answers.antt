@@ -1,6 +1,6 @@
 use Rattle.std.proofs.Common.{subst}
 use Rattle.fmm_program.specs.Answers.{HasDepth}
-use Rattle.fmm_program.proofs.Commands.{one_capacity}
+use Rattle.fmm_program.proofs.WordForms.{one_capacity}
 use Rattle.fmm_program.proofs.Complete.{completes, told}
 use Rattle.fmm_program.proofs.Certified.{certified_came, certified_ends}
 use Rattle.fmm_program.proofs.top.run.Goals as goal
