@@ -22,9 +22,16 @@ five_words (v ∷ w ∷ x ∷ y ∷ []) a b c d e n p q r s t = absurd (omega ar
 five_words (v ∷ w ∷ x ∷ y ∷ z ∷ []) a b c d e n p q r s t = cc
 five_words (v ∷ w ∷ x ∷ y ∷ z ∷ u ∷ rest) a b c d e n p q r s t = absurd (omega arith)
 
--- the words of one form have one capacity
-pub one_capacity : (words : List (List ℕ)) (order cap other limit : ℕ) (file rest : List ℕ) → IsSolve words order cap file → IsSolve words other limit rest → cap ≡ limit
-one_capacity words order cap other limit file rest p q =
-    let e = sym p.words_are ∙ q.words_are in
-    let same : p.cap_word ≡ q.cap_word = cc in
-    sym p.spells_cap.value ∙ ap (value_after 0) same ∙ q.spells_cap.value
+-- the words of one form have one order and one capacity
+module _ (words : List (List ℕ)) (order cap other limit : ℕ) (file rest : List ℕ) (p : IsSolve words order cap file) (q : IsSolve words other limit rest) where
+  pub one_order : order ≡ other
+  one_order =
+      let e = sym p.words_are ∙ q.words_are in
+      let same : p.order_word ≡ q.order_word = cc in
+      sym p.spells_order.value ∙ ap (value_after 0) same ∙ q.spells_order.value
+
+  pub one_capacity : cap ≡ limit
+  one_capacity =
+      let e = sym p.words_are ∙ q.words_are in
+      let same : p.cap_word ≡ q.cap_word = cc in
+      sym p.spells_cap.value ∙ ap (value_after 0) same ∙ q.spells_cap.value
