@@ -20,7 +20,6 @@ use Rattle.tree_field.proofs.Work.{translations_are_few}
 use Rattle.tree_field.specs.Field.{targets, target_box}
 use Rattle.tree_field.specs.Lists.{TreeLists}
 use Rattle.fmm_program.specs.Answers.{IsCertified, IsReported, LineContains, SolveEnds}
-use Rattle.fmm_program.specs.Forms.{IsSolve}
 use Rattle.fmm_program.specs.declared.status.Status.{Status}
 use Rattle.fmm_program.specs.declared.status.Status.TheVariants.{Done}
 
@@ -56,18 +55,17 @@ certified order cap input out is_order s =
     }
 
 -- what a run of `solve` that was carried out wrote
-pub certified_ends : (words : List (List ℕ)) (order cap : ℕ) (file : List ℕ) (status : Status) (left before after : Option (List ℕ)) → IsSolve words order cap file → status ≡ Done
-    → IfSome left (λ input. SolveEnds order cap input status before after)
-    → IfSome left (λ input. (order : ℕ) × (cap : ℕ) × (file : List ℕ) × (bytes : List ℕ) × IsSolve words order cap file × IsCertified order cap input bytes × Appends before after bytes)
-certified_ends words order cap file status None before after form done ends = tt
-certified_ends words order cap file status (Some input) before after form done ends =
+pub certified_ends : (order cap : ℕ) (status : Status) (left before after : Option (List ℕ)) → IsOrder order → status ≡ Done
+    → IfSome left (λ input. SolveEnds order cap input status before after) → IfSome left (λ input. (bytes : List ℕ) × IsCertified order cap input bytes × Appends before after bytes)
+certified_ends order cap status None before after is_order done ends = tt
+certified_ends order cap status (Some input) before after is_order done ends =
     let e = subst (λ s. SolveEnds order cap input s before after) done ends in
-    (order, cap, file, e.0, form, certified order cap input e.0 form.is_order e.1, e.2)
+    (e.0, certified order cap input e.0 is_order e.1, e.2)
 
 -- the same of the bytes that came, where the source tells nothing
-pub certified_came : (words : List (List ℕ)) (order cap : ℕ) (file : List ℕ) (status : Status) (left rest before after : Option (List ℕ)) → IsSolve words order cap file → status ≡ Done
+pub certified_came : (order cap : ℕ) (status : Status) (left rest before after : Option (List ℕ)) → IsOrder order → status ≡ Done
     → (input : List ℕ) × Consumes left rest input × SolveEnds order cap input status before after
-    → (order : ℕ) × (cap : ℕ) × (file : List ℕ) × (input : List ℕ) × (bytes : List ℕ) × IsSolve words order cap file × Consumes left rest input × IsCertified order cap input bytes × Appends before after bytes
-certified_came words order cap file status left rest before after form done came =
+    → (input : List ℕ) × (bytes : List ℕ) × Consumes left rest input × IsCertified order cap input bytes × Appends before after bytes
+certified_came order cap status left rest before after is_order done came =
     let e = subst (λ s. SolveEnds order cap came.0 s before after) done came.2 in
-    (order, cap, file, came.0, e.0, form, came.1, certified order cap came.0 e.0 form.is_order e.1, e.2)
+    (came.0, e.0, came.1, certified order cap came.0 e.0 is_order e.1, e.2)

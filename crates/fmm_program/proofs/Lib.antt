@@ -1,5 +1,5 @@
 pub mod Certified
-pub mod Commands
 pub mod Complete
 pub mod RunEnds
-mod SampleWords
+mod SampleRuns
+mod WordForms

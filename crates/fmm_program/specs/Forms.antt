@@ -1,9 +1,12 @@
 -- The forms of the command line.
-use Rattle.std.specs.Prelude.{ℕ, ◌≡◌, ◌≢◌, List, [], ◌∷◌, codes}
+use Rattle.std.specs.Prelude.{ℕ, ◌≡◌, ◌≢◌, ◌⊎◌, List, [], ◌∷◌, codes}
 use Rattle.exact_math.specs.Orders.{IsOrder, IsCapacity}
 use Rattle.number_text.specs.Numbers.{IsUint}
-use Rattle.fmm_program.specs.declared.words.Opening.{Opening}
-use Rattle.fmm_program.specs.declared.words.Opening.TheVariants.{Nothing, SolveInput, SolveFile}
+use Rattle.fmm_program.specs.Samples.{IsSample, IsNoSample}
+use Rattle.fmm_program.specs.declared.commands.Command.{Command}
+use Rattle.fmm_program.specs.declared.commands.Command.TheVariants.{Solve, Sample}
+use Rattle.fmm_program.specs.declared.commands.Opening.{Opening}
+use Rattle.fmm_program.specs.declared.commands.Opening.TheVariants.{Nothing, SolveInput, SolveFile}
 
 -- the words are `solve ORDER CAP FILE`
 pub record IsSolve (words : List (List ℕ)) (order cap : ℕ) (file : List ℕ) : Type 0 where
@@ -15,12 +18,22 @@ pub record IsSolve (words : List (List ℕ)) (order cap : ℕ) (file : List ℕ)
   pub is_order : IsOrder order
   pub is_capacity : IsCapacity cap
 
+-- the words ask for no solve
+abbrev pub IsNoSolve : List (List ℕ) → Type 0
+IsNoSolve words = (order cap : ℕ) (file : List ℕ) → IsSolve words order cap file → ⊥
+
 -- the words are of no form
-abbrev pub IsUsage : List (List ℕ) → Type 0
-IsUsage words = (order cap : ℕ) (file : List ℕ) → IsSolve words order cap file → ⊥
+pub record IsUsage (words : List (List ℕ)) : Type 0 where
+  pub no_solve : IsNoSolve words
+  pub no_sample : IsNoSample words
+
+-- the words ask for this command
+abbrev pub Asks : List (List ℕ) → Command → Type 0
+Asks words (Solve c) = IsSolve words c.order c.cap c.file.now
+Asks words (Sample c) = IsSample words c.seed c.count c.order c.cap
 
 -- what is to be opened for these words
 abbrev pub Opens : List (List ℕ) → Opening → Type 0
-Opens words Nothing = IsUsage words
+Opens words Nothing = IsUsage words ⊎ ((seed : ℕ) × (n : ℕ) × (order : ℕ) × (cap : ℕ) × IsSample words seed n order cap)
 Opens words SolveInput = (order : ℕ) × (cap : ℕ) × IsSolve words order cap (codes "-")
 Opens words (SolveFile file) = (order : ℕ) × (cap : ℕ) × (file.now ≢ codes "-") × IsSolve words order cap file.now

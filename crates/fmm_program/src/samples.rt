@@ -1,8 +1,20 @@
-//! The words that ask for a sample.
-ghost use Rattle.std.specs.Prelude.{◌≡◌, IfSome, IfNone};
+//! The command `sample`.
+ghost use Rattle.std.specs.Prelude.{◌≡◌, ℕ, ◌≤◌, IfSome, IfNone};
+ghost use Rattle.exact_math.specs.Orders.{IsCapacity, IsOrder};
+ghost use Rattle.io_ports.specs.Faults.{Rose};
+ghost use Rattle.particle_text.specs.Limits.{WithinLimits, most_points};
+ghost use Rattle.point_sample.specs.Sample.{sample_list};
+ghost use Rattle.fmm_program.specs.SampleAnswers.{SampleEnds};
 ghost use Rattle.fmm_program.specs.Samples.{IsSample, IsNoSample};
 
+use crate::refusals::refuse_depth;
+use crate::status::Status;
 use crate::words::{Words, capacity_of, number_in, order_of};
+use io_ports::Sink;
+use particle_text::Points;
+use point_sample::sample_points;
+use sample_summary::write_summary;
+use std::alloc::Global;
 
 /// The greatest number of points of a sample.
 const MOST_POINTS: u32 = 65_536;
@@ -34,4 +46,51 @@ pub(crate) fn asked_sample(words: &Words) -> Option<SampleCommand>
         order,
         cap,
     })
+}
+
+/// Solves the points of a sample at the order `P`, and writes the summary of their field or the line that refuses them.
+fn summarize<const P: usize, O: Sink>(
+    alloc: Global,
+    seed: u32,
+    points: &Points,
+    cap: u32,
+    out: &mut O,
+) -> Status
+    requires list { WithinLimits points.now.mode points.now.list }
+    requires order { IsOrder P }
+    requires cap { IsCapacity cap }
+    ensures ends { (n : ℕ) → points.now.list ≡ sample_list seed n → SampleEnds seed n P cap result (O.held out.old) (O.held out.new) }
+    ensures cause { result ≡ Status.WriteFault → Rose (O.faults out.old) (O.faults out.new) }
+{
+    match solve_phase::solve::<P>(alloc, points, cap) {
+        Ok(field) => match write_summary(seed, points, cap, &field, out) {
+            Ok(()) => Status::Done,
+            Err(_) => Status::WriteFault,
+        },
+        Err(fault) => refuse_depth(fault, out),
+    }
+}
+
+/// Makes the points of a sample, and writes the summary of their field or the line that refuses them. It reads nothing.
+///
+/// The sink gets all that goes out with the answer; after a write fault it took a prefix of that, and after want of
+/// memory nothing.
+pub(crate) fn sample<O: Sink>(alloc: Global, command: SampleCommand, out: &mut O) -> Status
+    requires count { command.count ≤ most_points }
+    requires order { IsOrder command.order }
+    requires cap { IsCapacity command.cap }
+    ensures ends { SampleEnds command.seed command.count command.order command.cap result (O.held out.old) (O.held out.new) }
+    ensures write { result ≡ Status.WriteFault → Rose (O.faults out.old) (O.faults out.new) }
+{
+    let seed = command.seed;
+    let cap = command.cap;
+    let Ok(points) = sample_points(alloc, seed, command.count) else {
+        return Status::Memory;
+    };
+    match command.order {
+        4 => summarize::<4, O>(alloc, seed, &points, cap, out),
+        8 => summarize::<8, O>(alloc, seed, &points, cap, out),
+        16 => summarize::<16, O>(alloc, seed, &points, cap, out),
+        _ => summarize::<24, O>(alloc, seed, &points, cap, out),
+    }
 }

@@ -1,4 +1,4 @@
-//! Worked examples through the top call, with ports in memory.
+//! Worked examples of one leaf through the top call, with ports in memory, and what the examples of trees and samples share.
 ghost use Rattle.std.specs.Prelude.{◌<◌};
 
 use crate::{Opening, Status, Words, plan, run};
@@ -8,7 +8,7 @@ use std::process::Abort;
 use std::test::Fail;
 
 /// A list of these words.
-fn words_of(alloc: Global, words: &[&str]) -> Result<Words, Fail> {
+pub(crate) fn words_of(alloc: Global, words: &[&str]) -> Result<Words, Fail> {
     let mut list = Words::new(alloc);
     for word in words {
         list.push(alloc, word)?;
@@ -18,21 +18,21 @@ fn words_of(alloc: Global, words: &[&str]) -> Result<Words, Fail> {
 
 /// The ports of a run: the most that one read gives and one write takes, and the numbers of those that fail.
 #[derive(Clone, Copy)]
-struct Ports<'a> {
+pub(crate) struct Ports<'a> {
     step: usize,
     failing_reads: &'a [u64],
     failing_writes: &'a [u64],
 }
 
 /// Ports that never fail.
-const SURE: Ports<'static> = Ports {
+pub(crate) const SURE: Ports<'static> = Ports {
     step: 4096,
     failing_reads: &[],
     failing_writes: &[],
 };
 
 /// Runs the words on a text, and compares how it ended and what it wrote. Nothing is read or written beside that.
-fn expect(
+pub(crate) fn expect(
     rt: &impl Abort,
     alloc: Global,
     words: &[&str],
@@ -65,7 +65,7 @@ fn expect(
     Ok(())
 }
 
-const SOLVE: [&str; 4] = ["solve", "8", "8", "-"];
+pub(crate) const SOLVE: [&str; 4] = ["solve", "8", "8", "-"];
 
 const SOLVE_WIDE: [&str; 4] = ["solve", "8", "1024", "-"];
 
@@ -190,160 +190,6 @@ fn weights(rt: HostRuntime) -> Result<(), Fail> {
     )
 }
 
-/// A text of these lines, each as often as its number says.
-fn text_of(alloc: Global, lines: &[(u32, &str)]) -> Result<Vec<u8>, Fail> {
-    let mut text = Vec::new(alloc);
-    for (count, line) in lines {
-        for _ in 0..*count {
-            text.extend_from_slice(line.as_bytes())?;
-        }
-    }
-    Ok(text)
-}
-
-/// The order, the lines of the points, those of the targets in the report, and the last line but one.
-#[derive(Clone, Copy)]
-struct Example<'a> {
-    order: &'a str,
-    points: [(u32, &'a str); 2],
-    targets: (u32, &'a str),
-    work: &'a str,
-}
-
-#[test]
-fn trees(rt: HostRuntime) -> Result<(), Fail> {
-    let table = [
-        // A tree of 18 cells, with a U entry.
-        Example {
-            order: "8",
-            points: [(8, "charge 0 0 1\n"), (1, "target 1 0\n")],
-            targets: (
-                1,
-                "target 1 0 re 8.000000000000 8.000000000000 im 0.000000000000 0.000000000000\n",
-            ),
-            work: "work translations 32 pairs 8\n",
-        },
-        // One V entry.
-        Example {
-            order: "4",
-            points: [(9, "charge 0 0 1\n"), (9, "target 2 0\n")],
-            targets: (
-                9,
-                "target 2 0 re 3.012748644177 6.268501355823 im -1.452095105823 1.803657605823\n",
-            ),
-            work: "work translations 33 pairs 0\n",
-        },
-        // One U entry, of cells beside each other, and of cells that meet at a corner on every level.
-        Example {
-            order: "4",
-            points: [(9, "charge 0 0 1\n"), (9, "target 1 0\n")],
-            targets: (
-                9,
-                "target 1 0 re 9.000000000000 9.000000000000 im 0.000000000000 0.000000000000\n",
-            ),
-            work: "work translations 32 pairs 81\n",
-        },
-        Example {
-            order: "4",
-            points: [(9, "charge -1 -1 1\n"), (9, "target 0 0\n")],
-            targets: (
-                9,
-                "target 0 0 re 4.500000000000 4.500000000000 im -4.500000000000 -4.500000000000\n",
-            ),
-            work: "work translations 32 pairs 81\n",
-        },
-        // One W entry, and one X entry.
-        Example {
-            order: "4",
-            points: [(9, "charge 0 0 1\n"), (1, "target 8 0\n")],
-            targets: (
-                1,
-                "target 8 0 re 1.025715944355 1.249484055645 im -0.068684055645 0.155084055645\n",
-            ),
-            work: "work translations 29 pairs 0\n",
-        },
-        Example {
-            order: "4",
-            points: [(1, "charge 8 0 1\n"), (9, "target 0 0\n")],
-            targets: (
-                9,
-                "target 0 0 re -0.138831561744 -0.113968438256 im -0.017231561744 0.007631561745\n",
-            ),
-            work: "work translations 29 pairs 0\n",
-        },
-    ];
-    let alloc = rt.alloc();
-    for example in table {
-        let text = text_of(
-            alloc,
-            &[(1, "fmm 1 field\n"), example.points[0], example.points[1]],
-        )?;
-        let head = format!(in alloc; "fmm report 1 field order {} cap 8\n", example.order)?;
-        let report = text_of(
-            alloc,
-            &[
-                (1, head.as_str()),
-                example.targets,
-                (1, example.work),
-                (1, "end\n"),
-            ],
-        )?;
-        let words = ["solve", example.order, "8", "-"];
-        expect(&rt, alloc, &words, &text, SURE, Status::Done, &report)?;
-    }
-    Ok(())
-}
-
-#[test]
-fn crowded_places(rt: HostRuntime) -> Result<(), Fail> {
-    let alloc = rt.alloc();
-    let text = text_of(alloc, &[(1, "fmm 1 field\n"), (4097, "charge 0 0 1\n")])?;
-    let line = b"refused depth crowded cell 16 32768 32768 points 4097\n";
-    expect(&rt, alloc, &SOLVE, &text, SURE, Status::Refused, line)?;
-    // As many as a place may have, in a tree of 17 cells.
-    let text = text_of(
-        alloc,
-        &[
-            (1, "fmm 1 field\n"),
-            (4095, "charge 0 0 1\n"),
-            (1, "target 0 0\n"),
-        ],
-    )?;
-    let report =
-        b"fmm report 1 field order 8 cap 8\ntarget 0 0 re 0.000000000000 0.000000000000 im 0.000000000000 0.000000000000\nwork translations 32 pairs 0\nend\n";
-    expect(&rt, alloc, &SOLVE, &text, SURE, Status::Done, report)
-}
-
-/// Nine charges and seven targets at each of 64 times 64 places: as many points as a list may have.
-fn full_list(alloc: Global) -> Result<Vec<u8>, Fail> {
-    let mut text = Vec::from_slice(alloc, b"fmm 1 field\n")?;
-    for i in 0..64u16 {
-        for j in 0..64u16 {
-            let x = 1024 * i32::from(i) - 32_768;
-            let y = 1024 * i32::from(j) - 32_768;
-            let charge = format!(in alloc; "charge {x} {y} 1\n")?;
-            for _ in 0..9 {
-                text.extend_from_slice(charge.as_bytes())?;
-            }
-            for east in [512u16, 256, 128, 64, 32, 16, 8] {
-                let target = format!(in alloc; "target {} {y}\n", x + i32::from(east))?;
-                text.extend_from_slice(target.as_bytes())?;
-            }
-        }
-    }
-    Ok(text)
-}
-
-#[test]
-fn many(rt: HostRuntime) -> Result<(), Fail> {
-    let mut text = full_list(rt.alloc())?;
-    let line = b"refused depth cells\n";
-    expect(&rt, rt.alloc(), &SOLVE, &text, SURE, Status::Refused, line)?;
-    text.extend_from_slice(b"target 0 0\n")?;
-    let line = b"refused line 65538 many\n";
-    expect(&rt, rt.alloc(), &SOLVE, &text, SURE, Status::Refused, line)
-}
-
 #[test]
 fn long(rt: HostRuntime) -> Result<(), Fail> {
     // One byte more than an input may have.
@@ -433,13 +279,16 @@ fn broken_ports(rt: HostRuntime) -> Result<(), Fail> {
 fn usage(rt: HostRuntime) -> Result<(), Fail> {
     let line =
         b"usage: fmm solve ORDER CAP FILE [WORKERS] | check FILE | session ORDER CAP | sample SEED N ORDER CAP [WORKERS]\n";
-    let table: [&[&str]; 7] = [
+    let table: [&[&str]; 10] = [
         &["solve", "5", "8", "-"],
         &["solve", "8", "7", "-"],
         &["solve", "8", "8", "-", "65"],
         &["check", "-"],
         &["solve", "08", "8", "-"],
         &["solve", "8", "8"],
+        &["sample", "0", "0", "8", "32"],
+        &["sample", "4294967296", "2", "8", "32"],
+        &["sample", "0", "2", "8", "32", "1"],
         &[],
     ];
     for words in table {

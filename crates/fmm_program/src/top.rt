@@ -4,10 +4,14 @@ ghost use Rattle.std.specs.Io.KnownBytes.{Appends, Consumes};
 ghost use Rattle.io_ports.specs.Faults.{Rose};
 ghost use Rattle.fmm_program.specs.Answers.{HasDepth, IsCertified, SolveEnds, UsageEnds, most_input};
 ghost use Rattle.fmm_program.specs.Forms.{IsSolve, IsUsage};
+ghost use Rattle.fmm_program.specs.SampleAnswers.{HasSampleDepth, SampleEnds};
+ghost use Rattle.fmm_program.specs.Samples.{IsSample};
 
+use crate::commands::{Command, asked};
+use crate::samples::sample;
 use crate::solve::solve;
 use crate::status::Status;
-use crate::words::{Words, asked};
+use crate::words::Words;
 use io_ports::{Sink, Source, put};
 use std::alloc::Global;
 
@@ -16,8 +20,9 @@ const USAGE: &[u8] =
 
 /// Does all that the program does: carries out the command that the words ask for.
 ///
-/// `solve ORDER CAP FILE` reads `points` to its end and writes the report to `out`. Words of no form get the usage
-/// line, and nothing is read. `cert_in` and `cert_out` are for commands to come, and stay as they are.
+/// `solve ORDER CAP FILE` reads `points` to its end and writes the report to `out`. `sample SEED N ORDER CAP` makes its
+/// points, reads nothing, and writes the summary of their field to `out`. Words of no form get the usage line, and
+/// nothing is read. `cert_in` and `cert_out` are for commands to come, and stay as they are.
 pub fn run<A: Source, B: Source, O: Sink, C: Sink>(
     alloc: Global,
     words: &Words,
@@ -27,11 +32,11 @@ pub fn run<A: Source, B: Source, O: Sink, C: Sink>(
     cert_out: &mut C,
 ) -> Status
     // The certified solve.
-    ensures certified { result ≡ Status.Done → IfSome (A.left points.old) (λ input. (order : ℕ) × (cap : ℕ) × (file : List ℕ) × (bytes : List ℕ) × IsSolve words.now order cap file
-        × IsCertified order cap input bytes × Appends (O.held out.old) (O.held out.new) bytes) }
-    ensures certified_came { result ≡ Status.Done → (order : ℕ) × (cap : ℕ) × (file : List ℕ) × (input : List ℕ) × (bytes : List ℕ) × IsSolve words.now order cap file
-        × Consumes (A.left points.old) (A.left points.new) input × IsCertified order cap input bytes × Appends (O.held out.old) (O.held out.new) bytes }
-    ensures whole { result ≡ Status.Done → IfSome (A.left points.old) (λ _. A.left points.new ≡ Some []) }
+    ensures certified { (order cap : ℕ) (file : List ℕ) → IsSolve words.now order cap file → result ≡ Status.Done
+        → IfSome (A.left points.old) (λ input. (bytes : List ℕ) × IsCertified order cap input bytes × Appends (O.held out.old) (O.held out.new) bytes) }
+    ensures certified_came { (order cap : ℕ) (file : List ℕ) → IsSolve words.now order cap file → result ≡ Status.Done
+        → (input : List ℕ) × (bytes : List ℕ) × Consumes (A.left points.old) (A.left points.new) input × IsCertified order cap input bytes × Appends (O.held out.old) (O.held out.new) bytes }
+    ensures whole { (order cap : ℕ) (file : List ℕ) → IsSolve words.now order cap file → result ≡ Status.Done → IfSome (A.left points.old) (λ _. A.left points.new ≡ Some []) }
 
     // Each answer, and what goes out with it.
     ensures solve { (order cap : ℕ) (file : List ℕ) → IsSolve words.now order cap file
@@ -40,6 +45,9 @@ pub fn run<A: Source, B: Source, O: Sink, C: Sink>(
         → (input : List ℕ) × Consumes (A.left points.old) (A.left points.new) input × SolveEnds order cap input result (O.held out.old) (O.held out.new) }
     ensures complete { (order cap : ℕ) (file input : List ℕ) → IsSolve words.now order cap file → A.left points.old ≡ Some input → HasDepth cap input
         → (Rose (A.faults points.old) (A.faults points.new) → ⊥) → (Rose (O.faults out.old) (O.faults out.new) → ⊥) → (result ≡ Status.Done) ⊎ (result ≡ Status.Memory) }
+    ensures sample { (seed n order cap : ℕ) → IsSample words.now seed n order cap → SampleEnds seed n order cap result (O.held out.old) (O.held out.new) × (points.new ≡ points.old) }
+    ensures sample_complete { (seed n order cap : ℕ) → IsSample words.now seed n order cap → HasSampleDepth seed n cap
+        → (Rose (O.faults out.old) (O.faults out.new) → ⊥) → (result ≡ Status.Done) ⊎ (result ≡ Status.Memory) }
     ensures usage { IsUsage words.now → UsageEnds result (O.held out.old) (O.held out.new) × (points.new ≡ points.old) }
     ensures usage_only { result ≡ Status.Usage → IsUsage words.now }
     ensures rejected { result ≡ Status.Rejected → ⊥ }
@@ -56,7 +64,8 @@ pub fn run<A: Source, B: Source, O: Sink, C: Sink>(
     ensures cert_out { cert_out.new ≡ cert_out.old }
 {
     match asked(words) {
-        Some(command) => solve(alloc, command.order, command.cap, points, out),
+        Some(Command::Solve(command)) => solve(alloc, command.order, command.cap, points, out),
+        Some(Command::Sample(command)) => sample(alloc, command, out),
         None => match put(out, USAGE) {
             Ok(()) => Status::Usage,
             Err(_) => Status::WriteFault,

@@ -1,8 +1,8 @@
-//! The words of the command line, and what they ask for.
-ghost use Rattle.std.specs.Prelude.{◌≡◌, ℕ, ◌+◌, ◌<◌, ◌≤◌, List, [], ◌∷◌, ◌++◌, length, slice_get, codes, decimal, ◌≢◌, IfSome, IfNone, OnOk, OnErr, Some, None};
+//! The words of the command line, and the solve that they ask for.
+ghost use Rattle.std.specs.Prelude.{◌≡◌, ℕ, ◌+◌, ◌<◌, ◌≤◌, List, [], ◌∷◌, ◌++◌, length, slice_get, IfSome, IfNone, OnOk, OnErr, Some, None};
 ghost use Rattle.exact_math.specs.Orders.{IsOrder, IsCapacity};
 ghost use Rattle.number_text.specs.Numbers.{IsUint};
-ghost use Rattle.fmm_program.specs.Forms.{IsSolve, IsUsage, Opens};
+ghost use Rattle.fmm_program.specs.Forms.{IsSolve, IsNoSolve};
 
 use io_ports::Memory;
 use number_text::read_uint;
@@ -64,17 +64,6 @@ impl Words {
     }
 }
 
-/// What is to be opened before the run.
-#[derive(Clone, Copy, Debug, PartialEq, Eq)]
-pub enum Opening<'a> {
-    /// No file: the words are of no form.
-    Nothing,
-    /// The points come from standard input.
-    SolveInput,
-    /// The points come from this file.
-    SolveFile { file: &'a str },
-}
-
 /// The command `solve ORDER CAP FILE`.
 #[derive(Clone, Copy, Debug, PartialEq, Eq)]
 pub(crate) struct SolveCommand<'a> {
@@ -115,10 +104,10 @@ pub(crate) fn capacity_of(word: &str) -> Option<u32>
     number_in(word, 8, 1024)
 }
 
-/// The command that the words ask for; `None` where they are of no form.
-pub(crate) fn asked(words: &Words) -> Option<SolveCommand<'_>>
+/// The solve that the words ask for; `None` where they ask for none.
+pub(crate) fn asked_solve(words: &Words) -> Option<SolveCommand<'_>>
     ensures some { IfSome result (λ c. IsSolve words.now c.order c.cap c.file.now) }
-    ensures none { IfNone result (IsUsage words.now) }
+    ensures none { IfNone result (IsNoSolve words.now) }
 {
     if words.count() != 4 || words.word(0) != "solve" {
         return None;
@@ -127,20 +116,4 @@ pub(crate) fn asked(words: &Words) -> Option<SolveCommand<'_>>
     let cap = capacity_of(words.word(2))?;
     let file = words.word(3);
     Some(SolveCommand { order, cap, file })
-}
-
-/// What is to be opened for these words. It takes no memory.
-///
-/// `Nothing` exactly where they are of no form; a FILE `-` is standard input.
-pub fn plan(words: &Words) -> Opening<'_>
-    ensures { Opens words.now result }
-{
-    let Some(command) = asked(words) else {
-        return Opening::Nothing;
-    };
-    if command.file == "-" {
-        Opening::SolveInput
-    } else {
-        Opening::SolveFile { file: command.file }
-    }
 }

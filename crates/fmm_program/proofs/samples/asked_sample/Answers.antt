@@ -1,7 +1,7 @@
 use Rattle.std.proofs.Common.{◌≡◌, sym, ap, ◌∙◌, codes, Some, arith}
 use Rattle.std.proofs.lemmas.Bool.{not-false}
 use Rattle.std.specs.Cmp.Lexicographic.{bytes_decides}
-use Rattle.fmm_program.proofs.SampleWords.{five_words}
+use Rattle.fmm_program.proofs.WordForms.{five_words}
 use Rattle.fmm_program.proofs.samples.asked_sample.Goals as goal
 
 pub returns-clause-some : goal.returns-clause-some

@@ -1,8 +1,8 @@
 use Rattle.std.proofs.Common.{◌≡◌, sym, ap, ◌∙◌, codes, Some}
 use Rattle.std.proofs.lemmas.Bool.{not-false}
 use Rattle.std.specs.Cmp.Lexicographic.{bytes_decides}
-use Rattle.fmm_program.proofs.Commands.{four_words}
-use Rattle.fmm_program.proofs.words.asked.Goals as goal
+use Rattle.fmm_program.proofs.WordForms.{four_words}
+use Rattle.fmm_program.proofs.words.asked_solve.Goals as goal
 
 pub returns-clause-some : goal.returns-clause-some
 returns-clause-some c =
