@@ -4,7 +4,6 @@ use Rattle.std.proofs.lemmas.List.Elements.{recursion_from_All}
 use Rattle.std.specs.Io.KnownBytes.{Appends, Consumes}
 use Rattle.std.specs.List.{AllZip, AllByRecursion}
 use Rattle.std.specs.declared.option.Option.{Option}
-use Rattle.cell_lists.proofs.OneEntry.{each_pair_has_one_entry}
 use Rattle.exact_math.specs.Ends.{BoxEndsContain}
 use Rattle.exact_math.specs.Orders.{IsOrder}
 use Rattle.field_report.proofs.Bounds.{CountsContain-box}
@@ -19,6 +18,7 @@ use Rattle.tree_field.proofs.Whole.{field_contains}
 use Rattle.tree_field.proofs.Work.{translations_are_few}
 use Rattle.tree_field.specs.Field.{targets, target_box}
 use Rattle.tree_field.specs.Lists.{TreeLists}
+use Rattle.fmm_program.proofs.OneListEntry.{one_list_entry}
 use Rattle.fmm_program.specs.Answers.{IsCertified, IsReported, LineContains, SolveEnds}
 use Rattle.fmm_program.specs.declared.status.Status.{Status}
 use Rattle.fmm_program.specs.declared.status.Status.TheVariants.{Done}
@@ -50,7 +50,7 @@ certified order cap input out is_order s =
       lines = map (field_line s.mode s.points cap order s.lists) (targets s.points);
       report = s.report;
       contain = lines_contain s.mode s.points cap order s.lists (targets s.points) (recursion_from_All _ (targets s.points) boxes);
-      one_entry = λ target source both. each_pair_has_one_entry 16 s.points cap target source (omega arith) inside both;
+      one_entry = one_list_entry s.points cap s.lists inside s.lists_are;
       few = translations_are_few s.points s.lists;
     }
 

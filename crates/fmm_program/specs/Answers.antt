@@ -1,9 +1,10 @@
 -- What a run answers, and what it writes.
-use Rattle.std.specs.Prelude.{ℕ, ◌+◌, ◌*◌, ◌<◌, ◌≤◌, ◌≡◌, ◌⊎◌, List, ◌++◌, length, codes, decimal, sum_by}
+use Rattle.std.specs.Prelude.{ℕ, ◌+◌, ◌*◌, ◌<◌, ◌≤◌, ◌≡◌, ◌⊎◌, List, ◌++◌, length, codes, decimal, sum_by, Contains}
 use Rattle.std.specs.List.{AllZip}
 use Rattle.std.specs.Io.KnownBytes.{Appends}
 use Rattle.std.specs.declared.option.Option.{Option}
-use Rattle.cell_lists.specs.Entries.{HasOneEntry, IsTargetAndSource}
+use Rattle.cell_lists.specs.Entries.{Accounts, IsTargetAndSource}
+use Rattle.cert_text.specs.declared.Letter.{Letter}
 use Rattle.cell_name.specs.Cell.{square}
 use Rattle.cell_name.specs.Square.{Square}
 use Rattle.cert_text.specs.declared.Letter.TheVariants.{V}
@@ -144,6 +145,16 @@ pub record LineContains (mode : Mode) (points : List Point) (t : Point) (line : 
   pub y : line.y ≡ t.y
   pub sum : CountsContain mode line.counts (direct_sum (place t) points)
 
+-- exactly one entry of the lists accounts for a target and a source
+pub record HasOneListEntry (lists : TreeLists) (target source : Point) : Type 0 where
+  pub letter : Letter
+  pub b : Square
+  pub c : Square
+  pub in_tree : Contains lists.cells b
+  pub listed : Contains (lists.entries letter b) c
+  pub accounts : Accounts b c target source
+  pub no_other : (letter' : Letter) (b' c' : Square) → Contains lists.cells b' → Contains (lists.entries letter' b') c' → Accounts b' c' target source → (letter' ≡ letter) × (b' ≡ b) × (c' ≡ c)
+
 -- The input is within its limit and spells points, and the bytes are a report with one line for each target, in order, whose counts contain the exact direct sum.
 -- Of the lists of the tree exactly one entry accounts for each target and source, and the counts of work are theirs.
 pub record IsCertified (order cap : ℕ) (input out : List ℕ) : Type 0 where
@@ -156,7 +167,7 @@ pub record IsCertified (order cap : ℕ) (input out : List ℕ) : Type 0 where
   pub lines : List TargetLine
   pub report : out ≡ report_text mode order cap lines (translations points lists) (pairs points lists)
   pub contain : AllZip (LineContains mode points) (targets points) lines
-  pub one_entry : (target source : Point) → IsTargetAndSource points target source → HasOneEntry 16 points cap target source
+  pub one_entry : (target source : Point) → IsTargetAndSource points target source → HasOneListEntry lists target source
   pub few : translations points lists ≤ sum_by (λ b. length (lists.entries V b)) lists.cells + 2 * length lists.cells
 
 -- what `out` took with one of the lines of refusal
