@@ -2,7 +2,7 @@
 pub mod Children
 pub mod Counts
 pub mod Points
-pub mod Sizes
+pub mod RowFrom
 pub mod Slices
 pub mod Totals
 pub mod Trees

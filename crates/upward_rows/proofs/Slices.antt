@@ -54,8 +54,7 @@ module _ (P n : ℕ) (front back row : List CBox) (whole : length front ≡ (n +
 pub part_row : (P n m : ℕ) (rows behind : List CBox) → ((j : ℕ) (d : CBox) → get_or behind j d ≡ get_or rows ((n + 1) * P + j) d) → n < m → (k : ℕ) → row_at P behind (m - (n + 1)) k ≡ row_at P rows m k
 part_row P n m rows behind each lt k = ap box_ends (each ((m - (n + 1)) * P + k) zero_cbox) ∙ ap (row_of rows) (from_next m n P k lt)
 
-pub row_behind : (P n m : ℕ) (behind cells : List CBox) → cells ≡ between ((m - n - 1) * P) ((m - n - 1) * P + P) behind → (k : ℕ) → k < P → row_of cells k ≡ row_at P behind (m - (n + 1)) k
-row_behind P n m behind cells e k lt =
+pub row_behind : (P j : ℕ) (behind cells : List CBox) → cells ≡ between (j * P) (j * P + P) behind → (k : ℕ) → k < P → row_of cells k ≡ row_at P behind j k
+row_behind P j behind cells e k lt =
     ap (λ l. row_of l k) e
-    ∙ ap box_ends (get_or-between behind ((m - n - 1) * P) ((m - n - 1) * P + P) k zero_cbox (omega arith))
-    ∙ ap (λ j. row_of behind (j * P + k)) (let d : m - n - 1 ≡ m - (n + 1) = omega arith in d)
+    ∙ ap box_ends (get_or-between behind (j * P) (j * P + P) k zero_cbox (omega arith))

@@ -1,2 +1,2 @@
--- What the contracts cite: which boxes stay, and how many shifts the rows take.
+-- What the contracts cite: what a row is made of, which boxes stay, and how many shifts the rows take.
 pub mod Upward

@@ -1,13 +1,22 @@
--- What making the multipole rows of a tree's cells leaves as it was, and how many shifts it takes.
+-- What a cell's multipole row is made of, which rows stay as they were, and how many shifts it takes.
 use Rattle.std.specs.Prelude.{ℕ, ◌≡◌, ◌+◌, ◌*◌, ◌≤◌, ◌<◌, Bool, ◌&&◌, nat_lt, cond, List}
 use Rattle.std.specs.List.{count_by}
+use Rattle.exact_math.specs.Ends.{BoxEnds}
 use Rattle.cell_name.specs.Square.{Square}
 use Rattle.complex_box.specs.Rows.{at}
 use Rattle.complex_box.specs.declared.CBox.{CBox}
 use Rattle.particle_text.specs.declared.Point.{Point}
 use Rattle.quadtree.specs.Splitting.{quarters}
 use Rattle.quadtree.specs.TreeModel.{TreeModel, square_of, node_of}
-use Rattle.tree_field.specs.Field.{has_source}
+use Rattle.row_recursions.specs.Rows.{shifted_up}
+use Rattle.soundness.specs.Computed.{total_row}
+use Rattle.soundness.specs.Squares.{quadrant}
+use Rattle.tree_field.specs.Field.{has_source, leaf_row}
+use Rattle.tree_field.specs.Program.{source_children}
+
+-- the row of the cell n, from the rows of its quarters: of a leaf the sum of the moments of its sources, of another cell the sum of the rows of its quarters that have a source, shifted up
+abbrev pub row_from : TreeModel → List Point → (ℕ → ℕ → BoxEnds) → ℕ → ℕ → BoxEnds
+row_from tree points rows n = cond (node_of tree n).is_leaf (leaf_row points (square_of tree n)) (total_row (λ m. shifted_up (rows m) (quadrant (square_of tree m))) (source_children tree n))
 
 -- no box but those of the row of the cell n has changed
 pub record OthersStay (P n : ℕ) (old new : List CBox) : Type 0 where

@@ -9,7 +9,7 @@ ghost use Rattle.tree_field.specs.Program.{source_children};
 ghost use Rattle.tree_rows.specs.FieldRows.{AreMultipoleRowsOf};
 ghost use Rattle.tree_rows.specs.FlatRows.{row_at, AreSameRows};
 ghost use Rattle.tree_rows.specs.Trees.{IsTreeOfPoints};
-ghost use Rattle.upward_rows.specs.Upward.{OthersStay, shifts_into};
+ghost use Rattle.upward_rows.specs.Upward.{OthersStay, row_from, shifts_into};
 
 use crate::quarters::{quadrant, quarter_with_source};
 use crate::sources::sum_sources;
@@ -18,25 +18,36 @@ use multipole_shift::shift_up;
 use particle_text::Point;
 use quadtree::Tree;
 
-/// Makes the row of cell `n` from its sources or from the rows of its quarters that have a source. `behind` begins with the row of cell
-/// `n + 1`.
-fn sum_row<const P: usize>(
+/// Makes the row of cell `n`: of a leaf the sum of the moments of its sources, of another cell the sum of the rows of its quarters that have a
+/// source, shifted up, which raises the translations by one each. A cell without a source gets zeros. `behind` has `P` boxes for each cell from
+/// the cell `first` on, and is only read. Where the rows of those quarters are the multipole rows of the field, the row of the cell is too.
+///
+/// Conditions: `P` is one of the orders, the tree is that of the points, which are within the limits, `n` is below `first` and `first` is at most
+/// the count of the cells, the quarters of `n` that have a source stand at `first` or behind it, their rows have ends of at most 2^74 in size,
+/// the row of `n` has `P` boxes, and the count of translations is below 2^62.
+pub fn sum_row<const P: usize>(
     tree: &Tree,
     points: &[Point],
     n: usize,
+    first: usize,
     behind: &[CBox],
     row: &mut [CBox],
     work: &mut Work,
 )
     requires order { IsOrder P }
     requires tree { IsTreeOfPoints points.now tree.now }
-    requires cell { n < size tree.now }
-    requires whole { length behind.now ≡ (size tree.now - (n + 1)) * P }
-    requires small { All (λ m. RowWithin P (2 ^ 74) (row_at P behind.now (m - (n + 1)))) (source_children tree.now n) }
+    requires cell { n < first }
+    requires first { first ≤ size tree.now }
+    requires whole { length behind.now ≡ (size tree.now - first) * P }
+    requires children { All (λ m. first ≤ m) (source_children tree.now n) }
+    requires small { All (λ m. RowWithin P (2 ^ 74) (row_at P behind.now (m - first))) (source_children tree.now n) }
     requires len { length row.old ≡ P }
     requires room { work.old.translations < 2 ^ 62 }
-    ensures row { (cap : ℕ) → IsTreeOf 16 tree.now points.now cap → ((m : ℕ) → Contains (source_children tree.now n) m → AreSameRows P (row_at P behind.now (m - (n + 1))) (multipole_row points.now cap (square_of tree.now m))) → AreSameRows P (row_of row.new) (multipole_row points.now cap (square_of tree.now n)) }
+    ensures made { AreSameRows P (row_of row.new) (row_from tree.now points.now (λ m. row_at P behind.now (m - first)) n) }
+    ensures row { (cap : ℕ) → IsTreeOf 16 tree.now points.now cap → ((m : ℕ) → Contains (source_children tree.now n) m → AreSameRows P (row_at P behind.now (m - first)) (multipole_row points.now cap (square_of tree.now m))) → AreSameRows P (row_of row.new) (multipole_row points.now cap (square_of tree.now n)) }
+    ensures small { (cap : ℕ) → IsTreeOf 16 tree.now points.now cap → ((m : ℕ) → Contains (source_children tree.now n) m → AreSameRows P (row_at P behind.now (m - first)) (multipole_row points.now cap (square_of tree.now m))) → RowWithin P (2 ^ 74) (row_of row.new) }
     ensures translations { work.new.translations ≡ work.old.translations + shifts_into points.now tree.now n }
+    ensures few { work.new.translations ≤ work.old.translations + 4 }
     ensures pairs { work.new.pairs ≡ work.old.pairs }
 {
     if tree.is_leaf(n) {
@@ -45,12 +56,9 @@ fn sum_row<const P: usize>(
         clear(row);
         for k in 0..4usize {
             let q = quadrant(k);
-            match quarter_with_source(tree, n, q) {
-                Some(m) => {
-                    let start = (m - n - 1) * P;
-                    shift_up::<P>(Row::new(&behind[start..start + P]), q, row, work);
-                }
-                None => {}
+            if let Some(m) = quarter_with_source(tree, n, q) {
+                let start = (m - first) * P;
+                shift_up::<P>(Row::new(&behind[start..start + P]), q, row, work);
             }
         }
     }
@@ -85,5 +93,5 @@ pub fn fill_row<const P: usize>(
     ensures pairs { work.new.pairs ≡ work.old.pairs }
 {
     let (front, behind) = rows.split_at_mut((n + 1) * P);
-    sum_row::<P>(tree, points, n, behind, &mut front[n * P..], work);
+    sum_row::<P>(tree, points, n, n + 1, behind, &mut front[n * P..], work);
 }

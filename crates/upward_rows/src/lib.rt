@@ -11,5 +11,5 @@ mod sources;
 #[cfg(test)]
 mod tests;
 
-pub use fill::fill_row;
+pub use fill::{fill_row, sum_row};
 pub use pass::upward_pass;

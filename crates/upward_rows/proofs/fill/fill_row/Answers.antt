@@ -1,20 +1,16 @@
 -- The row stands in its place, and the rows behind it are read where they stand.
-use Rattle.std.proofs.Common.{◌+◌, ◌-◌, ◌^◌, length, sym, subst, ◌∙◌, arith}
+use Rattle.std.proofs.Common.{◌+◌, ◌-◌, ◌^◌, ◌≤◌, length, sym, subst, ◌∙◌, arith}
 use Rattle.std.proofs.lemmas.List.Elements.{All-contains}
 use Rattle.exact_math.specs.Ends.{BoxEndsWithin}
-use Rattle.quadtree.specs.TreeModel.{size, square_of}
+use Rattle.quadtree.specs.TreeModel.{size}
 use Rattle.row_recursions.specs.Sizes.{RowWithin}
 use Rattle.row_recursions.proofs.RowSizes.{order_small}
-use Rattle.tree_field.specs.Field.{multipole_row}
 use Rattle.tree_field.specs.Program.{source_children}
 use Rattle.tree_field.proofs.Members.{All-from_members}
 use Rattle.tree_rows.specs.FlatRows.{row_at}
 use Rattle.upward_rows.proofs.Children.{tree_is, child_behind}
-use Rattle.upward_rows.proofs.Counts.{shifts_few}
-use Rattle.field_sizes.proofs.MultipoleSizes.{multipole_row-light}
+use Rattle.upward_rows.proofs.RowFrom.{row_small}
 use Rattle.upward_rows.proofs.Slices.{rest_length, part_length, own_row, part_row}
-use Rattle.field_sizes.proofs.RowTotals.{wider}
-use Rattle.upward_rows.proofs.Trees.{cell_is}
 use Rattle.upward_rows.proofs.fill.fill_row.Goals as goal
 
 pub sum_row-requires-clause-whole : goal.sum_row-requires-clause-whole
@@ -30,6 +26,12 @@ sum_row-requires-clause-small g c =
     All-from_members (λ m. RowWithin P (2 ^ 74) (row_at P back (m - (n + 1)))) (source_children tree n) (λ m listed k h.
     let child = child_behind tree (tree_is c.args.points.now tree c.requires.tree) n m listed in
     subst (BoxEndsWithin (2 ^ 74)) (sym (part_row P n m rows back c.split_at_mut-front.ensures.by_index.1 child.behind k)) (All-contains (λ m. RowWithin P (2 ^ 74) (row_at P rows m)) (source_children tree n) m c.requires.small listed k h))
+
+pub sum_row-requires-clause-children : goal.sum_row-requires-clause-children
+sum_row-requires-clause-children g c =
+    let n = c.args.n in
+    let tree = c.args.tree.now in
+    All-from_members (λ m. n + 1 ≤ m) (source_children tree n) (λ m listed. let child = child_behind tree (tree_is c.args.points.now tree c.requires.tree) n m listed in omega (arith, child.behind))
 
 pub sum_row-requires-clause-len : goal.sum_row-requires-clause-len
 sum_row-requires-clause-len g c = part_length g.row.P c.args.n c.split_at_mut-front.result.0.now c.split_at_mut-front.ensures.front_len
@@ -50,11 +52,5 @@ returns-clause-row g c = λ cap is rows k lt.
 
 pub returns-clause-small : goal.returns-clause-small
 returns-clause-small g c = λ cap is rows k lt.
-    let P = g.row.P in
-    let here = square_of c.args.tree.now c.args.n in
-    let cell = cell_is c.args.tree.now c.args.points.now cap is c.args.n c.requires.cell in
     subst (BoxEndsWithin (2 ^ 74)) (sym (returns-clause-row g c cap is rows k lt))
-    (wider P (2 ^ 72) (2 ^ 74) (multipole_row c.args.points.now cap here) (omega arith) (multipole_row-light P c.args.points.now cap here (omega (arith, order_small P c.requires.order)) (omega (arith, cell.of_grid, cell.level_in_grid)) c.requires.tree.light) k lt)
-
-pub returns-clause-few : goal.returns-clause-few
-returns-clause-few g c = omega (arith, c.sum_row.ensures.translations, shifts_few c.args.points.now c.args.tree.now c.args.n)
+    (row_small c.args.tree.now c.args.points.now c.requires.tree c.args.n c.requires.cell g.row.P cap (omega (arith, order_small g.row.P c.requires.order)) is k lt)
