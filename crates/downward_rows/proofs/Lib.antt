@@ -14,6 +14,5 @@ pub mod PairRows
 pub mod RadiiSoFar
 pub mod SameRows
 pub mod Totals
-pub mod Translations
 pub mod Trees
 pub mod ZeroRows

@@ -16,4 +16,4 @@ mod tests;
 
 pub use pass::downward_pass;
 pub use radius::{local_radius, radius_pass};
-pub use rows::fill_row;
+pub use rows::{fill_row, local_row};

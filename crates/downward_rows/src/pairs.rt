@@ -83,13 +83,13 @@ pub(crate) fn add_pairs<const P: usize>(
     requires pairs { All (IsPairAt tree.now b) list.now }
     requires short { length list.now ≤ 27 }
     requires rows { length up.now ≡ size tree.now * P }
-    requires row { (c : ℕ) → c < size tree.now → RowWithin P (2 ^ 80) (row_at P up.now c) }
+    requires row { All (λ c. RowWithin P (2 ^ 80) (row_at P up.now c)) list.now }
     requires len { length into.old ≡ P }
     requires sum { RowWithin P (2 ^ 90) (row_of into.old) }
     requires count { work.old.translations + 27 < 2 ^ 63 }
     ensures len { length into.new ≡ P }
     ensures adds { RowsAdd P (row_of into.old) (total_row (pair_row P tree.now up.now b) list.now) (row_of into.new) }
-    ensures size { (m n : ℕ) → ((c : ℕ) → c < size tree.now → RowWithin P (2 * m) (row_at P up.now c)) → RowWithin P n (row_of into.old) → RowWithin P (n + 81 * m) (row_of into.new) }
+    ensures size { (m n : ℕ) → All (λ c. RowWithin P (2 * m) (row_at P up.now c)) list.now → RowWithin P n (row_of into.old) → RowWithin P (n + 81 * m) (row_of into.new) }
     ensures translations { work.new.translations ≡ work.old.translations + length list.now }
     ensures pairs { work.new.pairs ≡ work.old.pairs }
 {

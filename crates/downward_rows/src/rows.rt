@@ -11,6 +11,7 @@ ghost use Rattle.tree_rows.specs.FieldRows.{IsFieldOf, AreMultipoleRowsOf, IsLoc
 ghost use Rattle.tree_rows.specs.FlatRows.{row_at, AreSameRows};
 ghost use Rattle.tree_rows.specs.Trees.{IsTreeWithLists};
 ghost use Rattle.downward_rows.specs.Entries.{HasFarEntries, row_from, far_weight};
+ghost use Rattle.downward_rows.specs.Rows.{IsLocalRowOf};
 ghost use Rattle.downward_rows.specs.Translations.{translations_at};
 
 use crate::far::add_far_cells;
@@ -39,13 +40,13 @@ fn fill_below<const P: usize>(
     requires below { 1 ≤ (square_of tree.now n).level }
     requires entries { HasFarEntries tree.now lists.now points.now n }
     requires rows { length up.now ≡ size tree.now * P }
-    requires multipoles { (c : ℕ) → c < size tree.now → RowWithin P (2 ^ 80) (row_at P up.now c) }
+    requires multipoles { All (λ c. RowWithin P (2 ^ 80) (row_at P up.now c)) (row lists.now.v n) }
     requires parent { RowWithin P (2 ^ 90) (row_of parent.cells.now) }
     requires len { length into.old ≡ P }
     requires count { work.old.translations + 28 < 2 ^ 63 }
     ensures len { length into.new ≡ P }
     ensures row { AreSameRows P (row_of into.new) (row_from P tree.now lists.now points.now up.now n (row_of parent.entry.cells.now)) }
-    ensures size { (p q : ℕ) → RowWithin P p (row_of parent.entry.cells.now) → ((c : ℕ) → c < size tree.now → RowWithin P (2 * q) (row_at P up.now c)) → RowWithin P (p + 81 * q + 2 ^ 40 * sum_by (far_weight tree.now points.now) (row lists.now.x n)) (row_of into.new) }
+    ensures size { (p q : ℕ) → RowWithin P p (row_of parent.entry.cells.now) → All (λ c. RowWithin P (2 * q) (row_at P up.now c)) (row lists.now.v n) → RowWithin P (p + 81 * q + 2 ^ 40 * sum_by (far_weight tree.now points.now) (row lists.now.x n)) (row_of into.new) }
     ensures translations { work.new.translations ≡ work.old.translations + (1 + length (row lists.now.v n)) }
     ensures pairs { work.new.pairs ≡ work.old.pairs }
 {
@@ -57,8 +58,15 @@ fn fill_below<const P: usize>(
     add_far_cells::<P>(tree, cell, points, lists.x_list(n), into);
 }
 
-/// Fills the row of a cell, where the rows of the cells before it stand in `above`.
-fn fill<const P: usize>(
+/// Makes the local row of cell `n` from its parent's, brought down, the rows of its V list, converted, and the sources of its X list. The
+/// root's row is zero, and so is that of a cell without a target. `above` begins with the rows of the first cells, the parent's among them.
+/// Where that and the multipole rows of the V list are those of the field, the row is too. The translations are raised by one for the parent
+/// and one for each V entry where the cell is below the root and has a target.
+///
+/// Conditions: `P` is one of the orders; the tree is one of the points, with its lists; there is a multipole row of `P` boxes for each cell;
+/// the ends of those of the V list are at most 2^80 in size and those of the parent's local row 2^90; `into` has `P` boxes; the count of
+/// translations has room for 28.
+pub fn local_row<const P: usize>(
     tree: &Tree,
     lists: &EntryLists,
     points: &[Point],
@@ -72,9 +80,9 @@ fn fill<const P: usize>(
     requires order { IsOrder P }
     requires number { n < size tree.now }
     requires tree { IsTreeWithLists points.now tree.now lists.now }
-    requires rows { length up.now ≡ size tree.now * P }
-    requires multipoles { (c : ℕ) → c < size tree.now → RowWithin P (2 ^ 80) (row_at P up.now c) }
-    requires above { length above.now ≡ n * P }
+    requires multipole_rows { length up.now ≡ size tree.now * P }
+    requires multipoles { All (λ c. RowWithin P (2 ^ 80) (row_at P up.now c)) (row lists.now.v n) }
+    requires above { 0 < n → (node_of tree.now n).parent * P + P ≤ length above.now }
     requires parent { 0 < n → RowWithin P (2 ^ 90) (row_at P above.now (node_of tree.now n).parent) }
     requires len { length into.old ≡ P }
     requires count { work.old.translations + 28 < 2 ^ 63 }
@@ -82,18 +90,18 @@ fn fill<const P: usize>(
     ensures row { 0 < n → IsTrue (node_of tree.now n).has_target → AreSameRows P (row_of into.new) (row_from P tree.now lists.now points.now up.now n (row_at P above.now (node_of tree.now n).parent)) }
     ensures root { n ≡ 0 → AreSameRows P (row_of into.new) (λ k. zero_box) }
     ensures empty { (IsTrue (node_of tree.now n).has_target → ⊥) → AreSameRows P (row_of into.new) (λ k. zero_box) }
-    ensures size { (p q : ℕ) → (0 < n → RowWithin P p (row_at P above.now (node_of tree.now n).parent)) → ((c : ℕ) → c < size tree.now → RowWithin P (2 * q) (row_at P up.now c)) → RowWithin P (p + 81 * q + 2 ^ 40 * sum_by (far_weight tree.now points.now) (row lists.now.x n)) (row_of into.new) }
+    ensures local { (cap : ℕ) (field : TreeLists) → IsFieldOf points.now cap tree.now field → AreMultipoleRowsOf points.now cap P tree.now up.now (row lists.now.v n) → (0 < n → IsLocalRow points.now cap P tree.now field above.now (node_of tree.now n).parent) → IsLocalRowOf points.now cap P tree.now field n (row_of into.new) }
+    ensures size { (p q : ℕ) → (0 < n → RowWithin P p (row_at P above.now (node_of tree.now n).parent)) → All (λ c. RowWithin P (2 * q) (row_at P up.now c)) (row lists.now.v n) → RowWithin P (p + 81 * q + 2 ^ 40 * sum_by (far_weight tree.now points.now) (row lists.now.x n)) (row_of into.new) }
     ensures translations { work.new.translations ≡ work.old.translations + translations_at tree.now lists.now n }
+    ensures few { work.new.translations ≤ work.old.translations + 28 }
     ensures pairs { work.new.pairs ≡ work.old.pairs }
 {
-    if n > 0 {
-        if tree.has_target(n) {
-            let parent = row_of_cell::<P>(above, tree.parent(n));
-            fill_below(tree, lists, points, kernel, up, n, parent, into, work);
-            return;
-        }
+    if n > 0 && tree.has_target(n) {
+        let parent = row_of_cell::<P>(above, tree.parent(n));
+        fill_below(tree, lists, points, kernel, up, n, parent, into, work);
+    } else {
+        clear(into);
     }
-    clear(into);
 }
 
 /// Fills the local row of cell `n` among the rows of all cells: from its parent's, brought down, the rows of its V list, converted, and the
@@ -128,6 +136,15 @@ pub fn fill_row<const P: usize>(
     ensures pairs { work.new.pairs ≡ work.old.pairs }
 {
     let (above, rest) = rows.split_at_mut(n * P);
-    let (into, _) = rest.split_at_mut(P);
-    fill(tree, lists, points, kernel, up, n, above, into, work);
+    local_row(
+        tree,
+        lists,
+        points,
+        kernel,
+        up,
+        n,
+        above,
+        &mut rest[..P],
+        work,
+    );
 }

@@ -28,7 +28,7 @@ add_pair-requires g c =
             (
               c.requires.rows,
               (
-                c.requires.row _ here.in_range,
+                c.requires.row c.loop-c.c-index 0 (omega arith),
                 (
                   c.loop-c.invariant.len,
                   (
@@ -48,7 +48,7 @@ loop-c-preserved g c = record {
   len = c.add_pair.ensures.len;
   adds = one_added g.row.P (pair_row g.row.P c.args.tree.now c.args.up.now c.args.b) c.args.list.now c.loop-c.c-index 0 (row_of c.args.into.now) (row_of c.loop-c.into) (row_of c.add_pair.new.into) (omega arith) c.loop-c.invariant.adds c.add_pair.ensures.adds;
   size = λ m n r h. row_wider g.row.P (n + 3 * m * c.loop-c.c-index + 3 * m) (n + 3 * m * (c.loop-c.c-index + 1)) (row_of c.add_pair.new.into) (omega arith)
-      (c.add_pair.ensures.size m (n + 3 * m * c.loop-c.c-index) (r _ (c.requires.pairs c.loop-c.c-index 0 (omega arith)).in_range) (c.loop-c.invariant.size m n r h));
+      (c.add_pair.ensures.size m (n + 3 * m * c.loop-c.c-index) (r c.loop-c.c-index 0 (omega arith)) (c.loop-c.invariant.size m n r h));
   translations = omega arith;
   pairs = omega arith;
 }
