@@ -4,4 +4,4 @@
 
 mod law;
 
-pub use law::multipole_rows_hold;
+pub use law::{local_rows_hold, multipole_rows_hold, values_hold};
