@@ -42,7 +42,7 @@ use Rattle.tree_field.specs.Lists.{TreeLists, AreTreeLists}
 use Rattle.tree_field.proofs.LocalRows.{local_row-root, local_row-below}
 use Rattle.tree_field.proofs.Members.{All-from_members}
 use Rattle.row_contents.specs.Contents.{LocalRowsHold}
-use Rattle.row_contents.specs.LocalFields.{sources_of, pair_terms, far_terms, entry_terms}
+use Rattle.row_contents.specs.Fields.{sources_of, pair_terms, far_terms, entry_terms}
 use Rattle.row_contents.proofs.Ancestors.{ancestor-self, ancestor-parent, sum_complex-same}
 use Rattle.row_contents.proofs.HeldFields.{HoldsField-same, HoldsField-list}
 use Rattle.row_contents.proofs.MultipoleContents.{multipole_rows_held}

@@ -15,7 +15,7 @@ use Rattle.tree_field.proofs.EachList.{each_list_has_tree}
 use Rattle.tree_field.proofs.Numbers.{number, cell_at, number_below, cell_of_number}
 use Rattle.tree_field.proofs.Whole.{rules_met}
 use Rattle.row_contents.specs.Contents.{MultipoleRowsHold}
-use Rattle.row_contents.specs.LocalFields.{sources_of}
+use Rattle.row_contents.specs.Fields.{sources_of}
 
 module _ (grid : ℕ) (points : List Point) (cap P : ℕ) where
   sources_back : (lists : TreeLists) (ps : List Point) → map source_in (map (leaf_source grid points cap P lists) ps) ≡ map source_of ps

@@ -15,7 +15,7 @@ use Rattle.row_recursions.specs.Rows.{multipole_value}
 use Rattle.soundness.specs.Squares.{offset}
 use Rattle.tree_field.specs.Field.{multipole_row, local_row, local_value_at, multipole_values_at}
 use Rattle.tree_field.specs.Lists.{TreeLists, AreTreeLists}
-use Rattle.row_contents.specs.LocalFields.{sources_of, multipole_terms, local_field}
+use Rattle.row_contents.specs.Fields.{sources_of, multipole_terms, local_field}
 
 -- the row of each cell of the tree: the moments of the sources in the cell
 abbrev pub MultipoleRowsHold : Type 0

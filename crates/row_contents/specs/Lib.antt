@@ -1,3 +1,3 @@
--- What contracts cite: the fields that local rows stand for, and what the rows and values of a tree contain.
+-- What contracts cite: the sums of cut terms that rows and values stand for, and what the rows and values of a tree contain.
 pub mod Contents
-pub mod LocalFields
+pub mod Fields

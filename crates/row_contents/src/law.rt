@@ -1,5 +1,5 @@
 //! The laws. Nothing here runs: each law is the contract of a function with an empty body.
-ghost use Rattle.row_contents.specs.Contents.{MultipoleRowsHold, LocalRowsHold, LocalValuesHold, MultipoleValuesHold};
+ghost use Rattle.row_contents.specs.Contents.{MultipoleRowsHold, LocalRowsHold, LocalValuesHold, MultipoleValuesHold, MultipoleSumsHold};
 
 /// The multipole row of each cell of the tree contains the moments of the sources in the cell about its centre.
 ///
@@ -18,9 +18,10 @@ pub fn local_rows_hold()
     ensures field { LocalRowsHold }
 {}
 
-/// The value of a local row at a place is that of its field, and the value of the multipole row of a W entry at a place in its leaf that
-/// of the cut terms of the sources in the entry's cell.
+/// The value of the local row of a cell at a place contains that of its field; the value of the multipole row of a W entry, at a place in
+/// its leaf, the cut terms of the sources in the entry's cell; and the sum of these values, the sum over all W entries of the leaf.
 pub fn values_hold()
     ensures local { LocalValuesHold }
     ensures multipole { MultipoleValuesHold }
+    ensures sum { MultipoleSumsHold }
 {}

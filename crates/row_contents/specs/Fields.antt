@@ -1,4 +1,4 @@
--- The fields that the local rows of a tree stand for: sums of the cut terms of the sources of entries.
+-- The sums of cut terms that the local rows and the values of a tree stand for, over the sources of entries.
 use Rattle.std.specs.Prelude.{ℕ, suc, List, map}
 use Rattle.exact_math.specs.Gaussian.{Gaussian}
 use Rattle.exact_math.specs.Ratio.{ComplexRatio, add_complex}
@@ -17,7 +17,7 @@ abbrev pub sources_of : List Point → Square → List Source
 sources_of points c = map source_of (sources_in points c)
 
 module _ (points : List Point) (P : ℕ) where
-  -- the cut terms of the sources of c at t: from a cell b of its level, from a far cell b, and from a far place
+  -- the cut terms at t of the sources in c: for t in a cell b of the level of c, for t in a cell b far from the sources, and for t far from c
   abbrev pub pair_terms : Square → Square → Gaussian → ComplexRatio
   pair_terms b c t = sum_terms (pair_cut P (side b) (sides_between b c) (doubled_centre b) (doubled_centre c) t) (sources_of points c)
 
@@ -28,10 +28,10 @@ module _ (points : List Point) (P : ℕ) where
   multipole_terms c t = sum_terms (multipole_cut P (doubled_centre c) t) (sources_of points c)
 
   module _ (lists : TreeLists) where
-    -- those of the V and of the X entries of a cell
+    -- those of the V and X entries of the cell
     abbrev pub entry_terms : Square → Gaussian → ComplexRatio
     entry_terms b t = add_complex (sum_terms (λ c. pair_terms b c t) (lists.entries V b)) (sum_terms (λ c. far_terms b c t) (lists.entries X b))
 
-    -- those of the entries of a cell and of all cells above it, from the root on
+    -- those of the V and X entries of the cell and of all cells above it, from the root on
     abbrev pub local_field : Square → Gaussian → ComplexRatio
     local_field b t = sum_complex (suc b.level) (λ level. entry_terms (ancestor b level) t)
