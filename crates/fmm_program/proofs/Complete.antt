@@ -20,7 +20,7 @@ module _ (order cap : ℕ) (input : List ℕ) (before after : Option (List ℕ))
       let e = (one_list input cells.mode depth.mode cells.points depth.points cells.spelled depth.spelled).points in
       depth.no_more (subst (λ (ps : List Point). HasMoreCells 16 ps cap most_cells) e cells.too_many.too_many)
 
-  pub completes : (status : Status) → SolveEnds order cap input status before after → (status ≡ ReadFault → ⊥) → (status ≡ WriteFault → ⊥) → (status ≡ Done) ⊎ (status ≡ Memory)
+  completes : (status : Status) → SolveEnds order cap input status before after → (status ≡ ReadFault → ⊥) → (status ≡ WriteFault → ⊥) → (status ≡ Done) ⊎ (status ≡ Memory)
   completes Done ends r w = inl refl
   completes Memory ends r w = inr refl
   completes Refused ends r w = absurd (refused ends)
@@ -29,6 +29,8 @@ module _ (order cap : ℕ) (input : List ℕ) (before after : Option (List ℕ))
   completes Usage ends r w = absurd ends.1
   completes Rejected ends r w = absurd ends.1
 
--- what a run says of an input that is told
-pub told : (P : List ℕ → Type 0) (left : Option (List ℕ)) (input : List ℕ) → left ≡ Some input → IfSome left P → P input
-told P left input e h = subst (λ o. IfSome o P) e h
+-- the same of an input that the source tells
+pub completes_told : (order cap : ℕ) (input : List ℕ) (left before after : Option (List ℕ)) (status : Status) → HasDepth cap input → left ≡ Some input → IfSome left (λ input. SolveEnds order cap input status before after)
+    → (status ≡ ReadFault → ⊥) → (status ≡ WriteFault → ⊥) → (status ≡ Done) ⊎ (status ≡ Memory)
+completes_told order cap input left before after status depth e ends =
+    completes order cap input before after depth status (subst (λ o. IfSome o (λ input. SolveEnds order cap input status before after)) e ends)

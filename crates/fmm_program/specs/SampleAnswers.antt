@@ -4,7 +4,6 @@ use Rattle.std.specs.Io.KnownBytes.{Appends}
 use Rattle.std.specs.declared.option.Option.{Option}
 use Rattle.cell_name.specs.Square.{Square}
 use Rattle.io_ports.specs.Bytes.{AppendsPrefix}
-use Rattle.particle_text.specs.declared.Point.{Point}
 use Rattle.point_sample.specs.Sample.{sample_list}
 use Rattle.quadtree.specs.Faults.{most_cells, HasMoreCells, HasTooManyCells, IsFirstCrowded, NoneIsCrowded}
 use Rattle.sample_summary.specs.Summary.{summary_of}
