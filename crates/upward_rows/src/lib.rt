@@ -13,3 +13,4 @@ mod tests;
 
 pub use fill::{fill_row, sum_row};
 pub use pass::upward_pass;
+pub use quarters::{quadrant, quarter_with_source};

@@ -8,7 +8,7 @@ use cell_name::Quadrant;
 use quadtree::Tree;
 
 /// The quadrants in the order of the cells: the west half before the east, and in each the south before the north.
-pub(crate) fn quadrant(k: usize) -> Quadrant
+pub fn quadrant(k: usize) -> Quadrant
     requires { k < 4 }
     ensures right { half_number result.right ≡ k / 2 }
     ensures top { half_number result.top ≡ k % 2 }
@@ -20,7 +20,7 @@ pub(crate) fn quadrant(k: usize) -> Quadrant
 }
 
 /// The number of a quarter of cell `n`, if it is in the tree and has a source.
-pub(crate) fn quarter_with_source(tree: &Tree, n: usize, q: Quadrant) -> Option<usize>
+pub fn quarter_with_source(tree: &Tree, n: usize, q: Quadrant) -> Option<usize>
     requires cell { n < size tree.now }
     requires level { (square_of tree.now n).level ≤ 15 }
     ensures { MatchOption result ((m : ℕ) → m < size tree.now → square_of tree.now m ≡ quarter (square_of tree.now n) q → (node_of tree.now m).has_source ≡ true → ⊥) (λ m. (m < size tree.now) × (square_of tree.now m ≡ quarter (square_of tree.now n) q) × ((node_of tree.now m).has_source ≡ true)) }

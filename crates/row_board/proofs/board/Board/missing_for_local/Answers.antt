@@ -1,0 +1,30 @@
+-- The parent's row first, then those of the V list.
+use Rattle.std.proofs.Common.{◌≡◌, ◌<◌, ◌∷◌, map, ap, ap₂, ◌∙◌, sym, subst, arith, lit<}
+use Rattle.std.specs.Prelude.{All, MatchOption}
+use Rattle.cert_text.specs.declared.Letter.TheVariants.{V}
+use Rattle.cell_lists.specs.Row.{row}
+use Rattle.quadtree.specs.TreeModel.{size, node_of}
+use Rattle.row_board.specs.Names.{AreFilled, IsFirstMissing}
+use Rattle.row_board.specs.Parts.{BoardParts}
+use Rattle.row_board.specs.declared.name.Name.{Name}
+use Rattle.row_board.specs.declared.name.Name.TheVariants.{Up, Local}
+use Rattle.row_board.proofs.Missing.{needs_below, listed, numbers}
+use Rattle.row_board.proofs.board.Board.missing_for_local.Goals as goal
+
+pub v_list-requires : goal.v_list-requires
+v_list-requires g c = let e = ap (λ (b : BoardParts). size b.tree) c.self.view_is in listed g.row.P _ c.self.invariant V c.args.n (omega (arith, e, c.requires))
+
+pub first_missing-requires : goal.first_missing-requires
+first_missing-requires g c =
+    let trees = ap (λ (b : BoardParts). size b.tree) c.self.view_is in
+    let n = c.args.n in
+    let lt : n < size c.self.inside.tree = omega (arith, trees, c.requires) in
+    let above = (c.self.invariant.is_tree.nodes_are n lt).parent_is.in_range in
+    (lit< tt, (omega (arith, trees, c.parent.ensures, above), subst (All (λ m. m < size c.args.self.now.tree)) (sym c.v_list.ensures) (λ k d h. omega (arith, trees, numbers g.row.P _ c.self.invariant V n lt k d h))))
+
+pub returns : goal.returns
+returns g c =
+    let n = c.args.n in
+    subst (λ names. MatchOption c.first_missing.result (AreFilled c.args.self.now names) (IsFirstMissing c.args.self.now names))
+    (ap₂ (λ m l. Local m ∷ map Up l) (c.parent.ensures ∙ ap (λ (b : BoardParts). (node_of b.tree n).parent) c.self.view_is) (c.v_list.ensures ∙ ap (λ (b : BoardParts). row b.lists.v n) c.self.view_is) ∙ sym (needs_below c.args.self.now n c.if-n-eq0.false))
+    c.first_missing.ensures

@@ -1,0 +1,17 @@
+-- What a full board holds, in whatever order it was filled.
+use Rattle.std.specs.Prelude.{ℕ, ◌≡◌, true, map}
+use Rattle.complex_box.specs.Box.{box_ends}
+use Rattle.tree_field.specs.Field.{target_boxes}
+use Rattle.tree_field.specs.Lists.{TreeLists, AreTreeLists}
+use Rattle.row_board.specs.Board.{IsBoard}
+use Rattle.row_board.specs.Names.{IsName, is_filled}
+use Rattle.row_board.specs.Parts.{BoardParts}
+use Rattle.row_board.specs.declared.name.Name.{Name}
+
+-- every place is filled
+abbrev pub IsFull : BoardParts → Type 0
+IsFull b = (name : Name) → IsName b name → is_filled b name ≡ true
+
+-- the boxes are those of the field, in the order of the list
+abbrev pub FullBoard : Type 0
+FullBoard = (P : ℕ) (b : BoardParts) (lists : TreeLists) → IsBoard P b → IsFull b → AreTreeLists 16 b.points b.cap lists → map box_ends b.values ≡ target_boxes b.points b.cap P lists 16

@@ -1,0 +1,88 @@
+//! The board.
+ghost use Rattle.std.specs.Prelude.{◌≡◌, ◌^◌, ◌<◌, pos, true, false, IsTrue, ◌↔◌, length, MatchOption, IfSome};
+ghost use Rattle.exact_math.specs.Ends.{BoxEndsContain};
+ghost use Rattle.complex_box.specs.Box.{box_ends};
+ghost use Rattle.complex_box.specs.Rows.{at};
+ghost use Rattle.near_field.specs.DirectSum.{direct_sum};
+ghost use Rattle.row_board.specs.Board.{IsBoard, IsOfField, target_place};
+ghost use Rattle.row_board.specs.Names.{IsName, is_filled};
+
+use crate::name::Name;
+use cell_lists::EntryLists;
+use complex_box::CBox;
+use kernel_table::Kernel;
+use particle_text::Point;
+use quadtree::Tree;
+use std::marker::Model;
+
+/// A board with a place for the multipole row of each cell with a source, the local row and the radius of each cell with a target, and the box of
+/// each target. Ends of boxes and radii count units of 2^-40.
+#[derive(Drop)]
+pub struct Board<const P: usize> {
+    pub(crate) cap: u32,
+    pub(crate) points: Vec<Point>,
+    pub(crate) tree: Tree,
+    pub(crate) lists: EntryLists,
+    pub(crate) kernel: Kernel<P>,
+    pub(crate) weights: Vec<i128>,
+    pub(crate) targets: Vec<u32>,
+    pub(crate) up: Vec<CBox>,
+    pub(crate) local: Vec<CBox>,
+    pub(crate) radii: Vec<i128>,
+    pub(crate) values: Vec<CBox>,
+    pub(crate) has_up: Vec<bool>,
+    pub(crate) has_local: Vec<bool>,
+    pub(crate) has_value: Vec<bool>,
+}
+
+impl<const P: usize> Model for Board<P> {
+    ghost use Rattle.row_board.specs.Parts.{BoardParts};
+
+    ghost Value = { BoardParts };
+
+    ghost use Rattle.row_board.specs.Inside.{parts, holds_board};
+
+    ghost view = { parts };
+
+    ghost invariant = { holds_board };
+}
+
+impl<const P: usize> Board<P> {
+    /// Whether there is a place of this name.
+    pub fn has(&self, name: Name) -> bool
+        ensures { IsTrue result ↔ IsName self.now name }
+    {
+        match name {
+            Name::Up(n) => n < self.tree.cells().len() && self.tree.has_source(n),
+            Name::Local(n) => n < self.tree.cells().len() && self.tree.has_target(n),
+            Name::Value(k) => k < self.targets.len(),
+        }
+    }
+
+    /// Whether the place of this name is filled.
+    pub fn filled(&self, name: Name) -> bool
+        ensures filled { result ≡ is_filled self.now name }
+        ensures board { IsBoard P self.now }
+    {
+        match name {
+            Name::Up(n) => n < self.has_up.len() && self.has_up[n],
+            Name::Local(n) => n < self.has_local.len() && self.has_local[n],
+            Name::Value(k) => k < self.has_value.len() && self.has_value[k],
+        }
+    }
+
+    /// The box of the k-th target, counted from 0, which contains the exact sum there; `None` where it isn't filled. Condition: there are more
+    /// than `k` targets.
+    pub fn value(&self, k: usize) -> Option<CBox>
+        requires { IsName self.now (Name.Value k) }
+        ensures value { MatchOption result (is_filled self.now (Name.Value k) ≡ false) (λ value. (is_filled self.now (Name.Value k) ≡ true) × (value ≡ at self.now.values k)) }
+        ensures field { IfSome result (λ value. IsOfField P self.now (Name.Value k)) }
+        ensures contains { IfSome result (λ value. BoxEndsContain (pos (2 ^ 40)) (box_ends value) (direct_sum (target_place self.now k) self.now.points)) }
+    {
+        if self.has_value[k] {
+            Some(self.values[k])
+        } else {
+            None
+        }
+    }
+}

@@ -1,0 +1,179 @@
+//! Filling a board.
+ghost use Rattle.std.specs.Prelude.{◌≡◌, ◌+◌, ◌^◌, ◌<◌, ◌≤◌, true, false, length, ◌∷◌, map, All, MatchOption, MatchResult, IfErr, IsOk, OnOk};
+ghost use Rattle.quadtree.specs.TreeModel.{size};
+ghost use Rattle.row_board.specs.Board.{IsBoard, IsOfField, OthersStay};
+ghost use Rattle.row_board.specs.Names.{IsName, is_filled, needs, AreFilled, IsFirstMissing};
+
+use crate::board::Board;
+use crate::name::{Name, NotReady};
+use crate::search::{first_unmarked, first_unmarked_quarter};
+use complex_box::Work;
+use downward_rows::local_radius;
+use target_values::target_value;
+
+impl<const P: usize> Board<P> {
+    /// The first of a local row and some multipole rows that is missing.
+    fn first_missing(&self, cell: usize, far: &[u32]) -> Option<Name>
+        requires cell { cell < size self.now.tree }
+        requires far { All (λ n. n < size self.now.tree) far.now }
+        ensures { MatchOption result (AreFilled self.now (Name.Local cell ∷ map Name.Up far.now)) (IsFirstMissing self.now (Name.Local cell ∷ map Name.Up far.now)) }
+    {
+        if !self.has_local[cell] {
+            return Some(Name::Local(cell));
+        }
+        match first_unmarked(&self.has_up, far) {
+            Some(n) => Some(Name::Up(n)),
+            None => None,
+        }
+    }
+
+    /// The first multipole row of a quarter of cell `n` that is missing.
+    fn missing_quarter(&self, n: usize) -> Option<Name>
+        requires { n < size self.now.tree }
+        ensures { MatchOption result (AreFilled self.now (needs self.now (Name.Up n))) (IsFirstMissing self.now (needs self.now (Name.Up n))) }
+    {
+        match first_unmarked_quarter(&self.tree, &self.has_up, n) {
+            Some(m) => Some(Name::Up(m)),
+            None => None,
+        }
+    }
+
+    /// The first row that the local row of cell `n` needs and that is missing.
+    fn missing_for_local(&self, n: usize) -> Option<Name>
+        requires { n < size self.now.tree }
+        ensures { MatchOption result (AreFilled self.now (needs self.now (Name.Local n))) (IsFirstMissing self.now (needs self.now (Name.Local n))) }
+    {
+        if n == 0 {
+            return None;
+        }
+        self.first_missing(self.tree.parent(n), self.lists.v_list(n))
+    }
+
+    /// The first row that the box of the k-th target needs and that is missing.
+    fn missing_for_value(&self, k: usize) -> Option<Name>
+        requires { k < length self.now.targets }
+        ensures { MatchOption result (AreFilled self.now (needs self.now (Name.Value k))) (IsFirstMissing self.now (needs self.now (Name.Value k))) }
+    {
+        let leaf = self.tree.leaf_of(self.targets[k] as usize);
+        self.first_missing(leaf, self.lists.w_list(leaf))
+    }
+
+    /// The first row that is needed and missing.
+    fn missing(&self, name: Name) -> Option<Name>
+        requires { IsName self.now name }
+        ensures { MatchOption result (AreFilled self.now (needs self.now name)) (IsFirstMissing self.now (needs self.now name)) }
+    {
+        match name {
+            Name::Up(n) => self.missing_quarter(n),
+            Name::Local(n) => self.missing_for_local(n),
+            Name::Value(k) => self.missing_for_value(k),
+        }
+    }
+
+    /// Fills a multipole row.
+    fn fill_up(&mut self, n: usize, work: &mut Work)
+        requires name { IsName self.old (Name.Up n) }
+        requires ready { AreFilled self.old (needs self.old (Name.Up n)) }
+        requires room { work.old.translations < 2 ^ 62 }
+        ensures filled { is_filled self.new (Name.Up n) ≡ true }
+        ensures row { IsOfField P self.new (Name.Up n) }
+        ensures board { IsBoard P self.new }
+        ensures others { OthersStay P (Name.Up n) self.old self.new }
+        ensures translations { work.new.translations ≤ work.old.translations + 28 }
+        ensures pairs { work.new.pairs ≡ work.old.pairs }
+    {
+        upward_rows::fill_row::<P>(&self.tree, &self.points, n, &mut self.up, work);
+        self.has_up[n] = true;
+    }
+
+    /// Fills a local row and its radius.
+    fn fill_local(&mut self, n: usize, work: &mut Work)
+        requires name { IsName self.old (Name.Local n) }
+        requires ready { AreFilled self.old (needs self.old (Name.Local n)) }
+        requires room { work.old.translations < 2 ^ 62 }
+        ensures filled { is_filled self.new (Name.Local n) ≡ true }
+        ensures row { IsOfField P self.new (Name.Local n) }
+        ensures board { IsBoard P self.new }
+        ensures others { OthersStay P (Name.Local n) self.old self.new }
+        ensures translations { work.new.translations ≤ work.old.translations + 28 }
+        ensures pairs { work.new.pairs ≡ work.old.pairs }
+    {
+        let parent = self.radii[self.tree.parent(n)];
+        self.radii[n] = local_radius(&self.tree, &self.lists, &self.weights, n, parent, P as u32);
+        downward_rows::fill_row::<P>(
+            &self.tree,
+            &self.lists,
+            &self.points,
+            &self.kernel,
+            &self.up,
+            n,
+            &mut self.local,
+            work,
+        );
+        self.has_local[n] = true;
+    }
+
+    /// Fills the box of a target.
+    fn fill_value(&mut self, k: usize, work: &mut Work)
+        requires name { IsName self.old (Name.Value k) }
+        requires ready { AreFilled self.old (needs self.old (Name.Value k)) }
+        requires room { work.old.pairs < 2 ^ 62 }
+        ensures filled { is_filled self.new (Name.Value k) ≡ true }
+        ensures row { IsOfField P self.new (Name.Value k) }
+        ensures board { IsBoard P self.new }
+        ensures others { OthersStay P (Name.Value k) self.old self.new }
+        ensures translations { work.new.translations ≡ work.old.translations }
+        ensures pairs { work.new.pairs ≤ work.old.pairs + length self.old.points }
+    {
+        let target = self.targets[k] as usize;
+        let radius = self.radii[self.tree.leaf_of(target)];
+        self.values[k] = target_value::<P>(
+            &self.tree,
+            &self.lists,
+            &self.points,
+            &self.up,
+            &self.local,
+            &self.weights,
+            radius,
+            target,
+            work,
+        );
+        self.has_value[k] = true;
+    }
+
+    /// Fills a place from those that it needs, and takes no memory. A place that is filled stays as it is, with no work done.
+    ///
+    /// A multipole row needs those of the cell's quarters that have a source; a local row its parent's, and then the multipole rows of its V
+    /// list, and the root's nothing; the box of a target the local row of its leaf, and then the multipole rows of the leaf's W list. Rows of
+    /// cells are needed in the order of the cells. Where one is missing, `NotReady` has the first, and board and work are as before.
+    ///
+    /// The translations are raised by at most 28, and the pairs by at most one for each point. Conditions: the board has the place, and
+    /// both counts of work are below 2^62.
+    pub fn fill(&mut self, name: Name, work: &mut Work) -> Result<(), NotReady>
+        requires name { IsName self.old name }
+        requires translations { work.old.translations < 2 ^ 62 }
+        requires pairs { work.old.pairs < 2 ^ 62 }
+        ensures stays { is_filled self.old name ≡ true → IsOk result × (self.new ≡ self.old) × (work.new ≡ work.old) }
+        ensures ready { is_filled self.old name ≡ false → MatchResult result (λ unit. AreFilled self.old (needs self.old name)) (λ e. IsFirstMissing self.old (needs self.old name) e.missing) }
+        ensures unchanged { IfErr result (λ e. (self.new ≡ self.old) × (work.new ≡ work.old)) }
+        ensures filled { OnOk result (is_filled self.new name ≡ true) }
+        ensures row { OnOk result (IsOfField P self.new name) }
+        ensures others { OthersStay P name self.old self.new }
+        ensures board { IsBoard P self.new }
+        ensures few_translations { work.new.translations ≤ work.old.translations + 28 }
+        ensures few_pairs { work.new.pairs ≤ work.old.pairs + length self.old.points }
+    {
+        if self.filled(name) {
+            return Ok(());
+        }
+        if let Some(missing) = self.missing(name) {
+            return Err(NotReady { missing });
+        }
+        match name {
+            Name::Up(n) => self.fill_up(n, work),
+            Name::Local(n) => self.fill_local(n, work),
+            Name::Value(k) => self.fill_value(k, work),
+        }
+        Ok(())
+    }
+}
