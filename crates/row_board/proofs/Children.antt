@@ -1,5 +1,5 @@
 -- The quarters of a cell that have a source, by their numbers.
-use Rattle.std.proofs.Common.{ℕ, ◌≡◌, ◌+◌, ◌/◌, ◌%◌, ◌<◌, ◌≤◌, inl, inr, List, [], ◌∷◌, ◌++◌, length, map, filter, drop, get_or, Bool, true, false, cond, ◌&&◌, refl, sym, ap, ◌∙◌, subst, arith, lit<, append_assoc, append-nil}
+use Rattle.std.proofs.Common.{ℕ, ◌≡◌, ◌+◌, ◌/◌, ◌%◌, ◌<◌, ◌≤◌, inl, inr, List, [], ◌∷◌, ◌++◌, map, filter, drop, Bool, true, false, cond, ◌&&◌, refl, sym, ap, ◌∙◌, subst, arith, lit<, append_assoc, append-nil}
 use Rattle.std.specs.Prelude.{◌==◌, nat_lt, Contains, slice_index_or}
 use Rattle.std.specs.List.{range_with_len}
 use Rattle.std.proofs.lemmas.Bool.{and_parts, and_from, cases_Bool, eqb-true, eq-eqb, ltb-true, lt-ltb}
@@ -13,7 +13,7 @@ use Rattle.cell_lists.proofs.CellNumbers.{same_number}
 use Rattle.cell_lists.proofs.TreeNumbers.{tree_cell_at}
 use Rattle.particle_text.specs.declared.Point.{Point}
 use Rattle.quadtree.specs.Splitting.{quarter, quarters}
-use Rattle.quadtree.specs.Tree.{AreInGrid, IsLeaf, IsTreeCell}
+use Rattle.quadtree.specs.Tree.{AreInGrid, IsLeaf}
 use Rattle.quadtree.specs.TreeModel.{TreeModel, size, squares, square_of, node_of, IsTreeOf}
 use Rattle.quadtree.proofs.Distinct.{Contains-filter, Contains-into_filter}
 use Rattle.quadtree.proofs.Parents.{IsTreeCell-below}

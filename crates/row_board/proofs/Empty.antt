@@ -1,5 +1,5 @@
 -- A board with no place filled.
-use Rattle.std.proofs.Common.{ℕ, ◌≡◌, ◌+◌, ◌*◌, ◌<◌, ◌≤◌, inl, inr, List, length, get_or, Bool, true, false, refl, sym, ◌∙◌, arith, ℤ, pos}
+use Rattle.std.proofs.Common.{ℕ, ◌≡◌, ◌+◌, ◌*◌, ◌≤◌, List, length, get_or, false, refl, sym, ◌∙◌, pos}
 use Rattle.std.specs.Prelude.{All}
 use Rattle.std.proofs.lemmas.Bool.{cases_lt, false≢true}
 use Rattle.std.proofs.lemmas.List.{get_or_past}
@@ -10,10 +10,10 @@ use Rattle.complex_box.specs.Rows.{AllZero, at, zero_cbox}
 use Rattle.complex_box.specs.declared.CBox.{CBox}
 use Rattle.quadtree.specs.TreeModel.{size}
 use Rattle.row_board.specs.Board.{IsBoard, IsZeroPlace}
-use Rattle.row_board.specs.Making.{IsGround, AreEmptyPlaces}
-use Rattle.row_board.specs.Names.{IsName, is_filled}
+use Rattle.row_board.specs.Making.{IsBasis, AreEmptyPlaces}
+use Rattle.row_board.specs.Names.{is_filled}
 use Rattle.row_board.specs.Parts.{BoardParts}
-use Rattle.row_board.specs.declared.making.Ground.{Ground}
+use Rattle.row_board.specs.declared.making.Basis.{Basis}
 use Rattle.row_board.specs.declared.making.Places.{Places}
 use Rattle.row_board.specs.declared.name.Name.{Name}
 use Rattle.row_board.specs.declared.name.Name.TheVariants.{Up, Local, Value}
@@ -28,7 +28,7 @@ zero_at xs h i = ⊎_elim (λ lt. h i zero_cbox lt) (λ ge. past ge) (cases_lt i
     past : length xs ≤ i → box_ends (at xs i) ≡ zero_box
     past ge = let e : at xs i ≡ zero_cbox = get_or_past xs i zero_cbox ge in rw e refl
 
-module _ (P : ℕ) (g : Ground P) (p : Places) (ground : IsGround P g.points.items g.cap g) (places : AreEmptyPlaces P (size g.tree) (length g.targets.items) p) where
+module _ (P : ℕ) (g : Basis P) (p : Places) (basis : IsBasis P g.points.items g.cap g) (places : AreEmptyPlaces P (size g.tree) (length g.targets.items) p) where
   abbrev pub joined : BoardParts
   joined = record {
     cap = g.cap;
@@ -58,13 +58,13 @@ module _ (P : ℕ) (g : Ground P) (p : Places) (ground : IsGround P g.points.ite
 
   pub empty_board : IsBoard P joined
   empty_board = record {
-    order = ground.order;
-    tree_is = ground.tree_is;
-    is_tree = ground.is_tree;
-    weight_each = ground.weight_each;
-    weights_are = ground.weights_are;
-    weights_small = ground.weights_small;
-    targets_are = ground.targets_are;
+    order = basis.order;
+    tree_is = basis.tree_is;
+    is_tree = basis.is_tree;
+    weight_each = basis.weight_each;
+    weights_are = basis.weights_are;
+    weights_small = basis.weights_small;
+    targets_are = basis.targets_are;
     up_rows = places.up_rows;
     local_rows = places.local_rows;
     radius_each = places.radius_each;

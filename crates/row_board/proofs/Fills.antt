@@ -5,13 +5,13 @@ use Rattle.std.proofs.lemmas.Bool.{cases_eq, false≢true}
 use Rattle.std.proofs.lemmas.List.{get_or-set_same, get_or-set_other, length-set}
 use mathlib.Core.Logic.{⊎_elim}
 use Rattle.complex_box.specs.Box.{box_ends}
-use Rattle.complex_box.specs.Rows.{at, zero_cbox}
+use Rattle.complex_box.specs.Rows.{zero_cbox}
 use Rattle.complex_box.specs.declared.CBox.{CBox}
-use Rattle.quadtree.specs.TreeModel.{size, square_of}
+use Rattle.quadtree.specs.TreeModel.{square_of}
 use Rattle.tree_field.specs.Field.{multipole_row, target_box}
 use Rattle.tree_field.specs.Lists.{TreeLists, AreTreeLists}
 use Rattle.tree_rows.specs.FlatRows.{row_at, AreSameRows}
-use Rattle.row_board.specs.Board.{IsBoard, IsLocalOf, IsZeroLocal, IsSameLocal, IsOfField, IsZeroPlace, IsSamePlace, OthersStay, target_place}
+use Rattle.row_board.specs.Board.{IsBoard, IsLocalOf, IsOfField, IsZeroPlace, IsSamePlace, OthersStay, target_place}
 use Rattle.row_board.specs.Names.{IsName, is_filled}
 use Rattle.row_board.specs.Parts.{BoardParts}
 use Rattle.row_board.specs.declared.name.Name.{Name}

@@ -1,5 +1,5 @@
 -- What the calls that make a row leave on a board.
-use Rattle.std.proofs.Common.{ℕ, ◌≡◌, ◌≢◌, ◌+◌, ◌*◌, ◌^◌, ◌<◌, ◌≤◌, inl, inr, List, ◌∷◌, length, get_or, map, true, false, refl, sym, ap, ◌∙◌, subst, arith, ℤ, pos}
+use Rattle.std.proofs.Common.{ℕ, ◌≡◌, ◌≢◌, ◌+◌, ◌*◌, ◌^◌, ◌<◌, ◌≤◌, inl, inr, List, length, get_or, map, true, sym, ap, ◌∙◌, subst, arith, ℤ, pos}
 use Rattle.std.proofs.Math.ListN.{set}
 use Rattle.std.proofs.Math.Nat.{mul-le-mul_right}
 use Rattle.std.specs.Prelude.{All, Contains}
@@ -9,7 +9,6 @@ use Rattle.std.proofs.lemmas.List.{get_or_default, get_or-set_same}
 use Rattle.std.proofs.lemmas.List.Elements.{All-contains, All-tail}
 use Rattle.exact_math.specs.Ends.{BoxEnds}
 use Rattle.complex_box.specs.Box.{box_ends}
-use Rattle.complex_box.specs.Rows.{at}
 use Rattle.complex_box.specs.declared.CBox.{CBox}
 use Rattle.cell_lists.proofs.CellNumbers.{first_level}
 use Rattle.cell_lists.specs.Row.{row}
@@ -30,7 +29,7 @@ use Rattle.tree_rows.specs.FieldRows.{IsFieldOf, IsLocalRow, AreMultipoleRowsOf,
 use Rattle.tree_rows.specs.FlatRows.{row_at, AreSameRows}
 use Rattle.row_recursions.specs.Sizes.{RowWithin}
 use Rattle.upward_rows.specs.Upward.{OthersStay as OtherRowsStay}
-use Rattle.row_board.specs.Board.{IsBoard, IsLocalOf, target_place}
+use Rattle.row_board.specs.Board.{IsBoard}
 use Rattle.row_board.specs.Names.{IsName, is_filled, needs, target_leaf, AreFilled}
 use Rattle.row_board.specs.Parts.{BoardParts}
 use Rattle.row_board.specs.declared.name.Name.TheVariants.{Up, Local, Value}

@@ -1,6 +1,6 @@
 -- What of the rows that are needed is missing.
-use Rattle.std.proofs.Common.{ℕ, ◌≡◌, ◌<◌, List, [], ◌∷◌, ◌++◌, length, get_or, map, Bool, cond, true, false, refl, sym, ap, ◌∙◌, arith}
-use Rattle.std.specs.Prelude.{◌==◌, All, Contains}
+use Rattle.std.proofs.Common.{ℕ, ◌≡◌, ◌<◌, List, [], ◌∷◌, length, get_or, map, Bool, cond, true, false, refl, sym, ap, ◌∙◌, arith}
+use Rattle.std.specs.Prelude.{All}
 use Rattle.std.proofs.lemmas.Bool.{ne_eqb}
 use Rattle.std.proofs.lemmas.List.{get_or_default, map-append}
 use Rattle.std.proofs.lemmas.List.Elements.{All-cons, All-contains, All-map}
@@ -16,7 +16,7 @@ use Rattle.row_board.specs.Names.{is_filled, needs, target_leaf, AreFilled, IsFi
 use Rattle.row_board.specs.Parts.{BoardParts}
 use Rattle.row_board.specs.Search.{AreMarked, IsFirstUnmarked}
 use Rattle.row_board.specs.declared.name.Name.{Name}
-use Rattle.row_board.specs.declared.name.Name.TheVariants.{Up, Local, Value}
+use Rattle.row_board.specs.declared.name.Name.TheVariants.{Up, Local}
 use Rattle.row_board.proofs.Sizes.{inside}
 
 module _ (b : BoardParts) where

@@ -1,5 +1,5 @@
 -- How large the rows of a board are: filled ones are as large as those of the field, and the others zero.
-use Rattle.std.proofs.Common.{ℕ, ◌≡◌, ◌+◌, ◌*◌, ◌/◌, ◌%◌, ◌^◌, ◌<◌, ◌≤◌, inl, inr, List, length, get_or, true, false, sym, ap, ◌∙◌, subst, arith, lit<, ℤ, pos, ◌≤ℤ◌, to_z, of_z, to_z-of_z, SFits}
+use Rattle.std.proofs.Common.{ℕ, ◌≡◌, ◌+◌, ◌*◌, ◌/◌, ◌%◌, ◌^◌, ◌<◌, ◌≤◌, List, length, get_or, sym, ap, ◌∙◌, subst, arith, lit<, ℤ, pos, ◌≤ℤ◌, to_z, of_z, to_z-of_z, SFits}
 use Rattle.std.specs.Int.{w128}
 use Rattle.std.specs.Prelude.{All}
 use Rattle.std.proofs.Math.Nat.{div-lt_iff_lt-mul}
@@ -11,10 +11,9 @@ use mathlib.Core.Logic.{⊎_elim}
 use Rattle.exact_math.specs.Ends.{BoxEnds, BoxEndsWithin, zero_box}
 use Rattle.exact_math.specs.Orders.{IsOrder}
 use Rattle.cell_lists.proofs.TreeNumbers.{tree_cell_at}
-use Rattle.complex_box.specs.Box.{box_ends, BoxWithin}
+use Rattle.complex_box.specs.Box.{BoxWithin}
 use Rattle.complex_box.specs.Rows.{at, zero_cbox}
 use Rattle.complex_box.specs.declared.CBox.{CBox}
-use Rattle.complex_box.proofs.Sizes.{box_wider}
 use Rattle.downward_rows.proofs.SameRows.{within_same}
 use Rattle.downward_rows.proofs.Totals.{row_wider}
 use Rattle.downward_rows.proofs.Trees.{some_tree}
@@ -34,7 +33,7 @@ use Rattle.tree_rows.specs.FlatRows.{row_at, AreSameRows}
 use Rattle.row_board.specs.Board.{IsBoard}
 use Rattle.row_board.specs.Names.{is_filled}
 use Rattle.row_board.specs.Parts.{BoardParts}
-use Rattle.row_board.specs.declared.name.Name.TheVariants.{Up, Local, Value}
+use Rattle.row_board.specs.declared.name.Name.TheVariants.{Up, Local}
 
 pub order_least : (P : ℕ) → IsOrder P → 2 ≤ P
 order_least P h = ⊎_elim (λ e. omega arith) (λ l. ⊎_elim (λ e. omega arith) (λ k. ⊎_elim (λ e. omega arith) (λ e. omega arith) k) l) h
@@ -70,7 +69,7 @@ module _ (P : ℕ) (b : BoardParts) (is : IsBoard P b) where
   pub some_field : (lists : TreeLists) × AreTreeLists 16 b.points b.cap lists
   some_field = each_list_has_tree 16 b.points b.cap (lit< tt) inside
 
-  limited : IsLimited b.points b.cap some_field.0
+  pub limited : IsLimited b.points b.cap some_field.0
   limited = record { in_grid = inside; light = is.tree_is.tree_is.light; lists_are = some_field.1 }
 
   rows_within : (n : ℕ) → n < size b.tree → RowsWithin b.points b.cap P some_field.0 (square_of b.tree n)

@@ -1,18 +1,19 @@
 -- The boxes of the targets of a board.
-use Rattle.std.proofs.Common.{ℕ, ◌≡◌, ◌^◌, ◌<◌, List, length, get_or, map, Bool, true, false, refl, sym, ap, ◌∙◌, subst, arith, pos}
+use Rattle.std.proofs.Common.{ℕ, ◌≡◌, ◌^◌, ◌<◌, length, get_or, map, Bool, true, false, sym, ap, ◌∙◌, subst, arith, pos}
 use Rattle.std.specs.Prelude.{Contains}
 use Rattle.std.proofs.lemmas.List.{get_or_default, get_or-map, length-map, same_lists}
 use Rattle.std.proofs.lemmas.List.Elements.{All-contains, Contains-get_or}
-use Rattle.exact_math.specs.Ends.{BoxEnds, BoxEndsContain}
+use Rattle.exact_math.specs.Ends.{BoxEnds, BoxEndsContain, BoxEndsWithin}
 use Rattle.complex_box.specs.Box.{box_ends}
 use Rattle.complex_box.specs.Rows.{at, zero_cbox}
+use Rattle.field_sizes.proofs.BoxSizes.{box_sizes}
+use Rattle.field_sizes.proofs.Disjoint.{entries_share_no_source}
 use Rattle.near_field.specs.DirectSum.{direct_sum}
 use Rattle.particle_text.specs.Points.{place}
 use Rattle.particle_text.specs.declared.Point.{Point}
 use Rattle.target_values.proofs.FieldBox.{boxes_contain}
 use Rattle.target_values.proofs.Positions.{targets_at}
 use Rattle.target_values.specs.Points.{point_at}
-use Rattle.target_values.specs.Targets.{target_positions}
 use Rattle.tree_field.proofs.Members.{Contains-into_map}
 use Rattle.tree_field.specs.Field.{targets, target_box, target_boxes}
 use Rattle.tree_field.specs.Lists.{TreeLists, AreTreeLists}
@@ -20,7 +21,7 @@ use Rattle.row_board.specs.Board.{IsBoard, target_place}
 use Rattle.row_board.specs.Names.{is_filled}
 use Rattle.row_board.specs.Parts.{BoardParts}
 use Rattle.row_board.specs.declared.name.Name.TheVariants.{Value}
-use Rattle.row_board.proofs.Sizes.{inside, some_field}
+use Rattle.row_board.proofs.Sizes.{inside, limited, some_field}
 
 module _ (P : ℕ) (b : BoardParts) (is : IsBoard P b) where
   -- a mark that was read
@@ -41,6 +42,13 @@ module _ (P : ℕ) (b : BoardParts) (is : IsBoard P b) where
       subst (λ e. BoxEndsContain (pos (2 ^ 40)) e (direct_sum (target_place b k) b.points)) (sym (is.filled (Value k) t lists are))
       (All-contains (λ p. BoxEndsContain (pos (2 ^ 40)) (target_box b.points b.cap P lists 16 (place p)) (direct_sum (place p) b.points)) (targets b.points) (point_at b.points (get_or b.targets k 0))
       (boxes_contain b.points b.cap P b.tree lists (inside P b is) is.order (record { is_tree = is.is_tree; lists_are = are })) (target_listed k lt))
+
+  pub value_small : (k : ℕ) → k < length b.targets → is_filled b (Value k) ≡ true → BoxEndsWithin (2 ^ 84) (box_ends (at b.values k))
+  value_small k lt t =
+      let lists : TreeLists = (some_field P b is).0 in
+      let are : AreTreeLists 16 b.points b.cap lists = (some_field P b is).1 in
+      subst (BoxEndsWithin (2 ^ 84)) (sym (is.filled (Value k) t lists are))
+      (All-contains (λ p. BoxEndsWithin (2 ^ 84) (target_box b.points b.cap P lists 16 (place p))) (targets b.points) (point_at b.points (get_or b.targets k 0)) (box_sizes entries_share_no_source b.points b.cap P lists is.order (limited P b is)) (target_listed k lt))
 
   pub values_are : (lists : TreeLists) → AreTreeLists 16 b.points b.cap lists → ((k : ℕ) → k < length b.targets → is_filled b (Value k) ≡ true) → map box_ends b.values ≡ target_boxes b.points b.cap P lists 16
   values_are lists are full =

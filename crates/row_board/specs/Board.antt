@@ -1,5 +1,5 @@
 -- What the places of a board hold: filled places hold what the field has, and the others zero.
-use Rattle.std.specs.Prelude.{ℕ, ◌*◌, ◌≡◌, ◌≢◌, true, false, pos, List, length, All, slice_index_or}
+use Rattle.std.specs.Prelude.{ℕ, ◌*◌, ◌≡◌, ◌≢◌, true, false, pos, length, All, slice_index_or}
 use Rattle.exact_math.specs.Ends.{zero_box}
 use Rattle.exact_math.specs.Gaussian.{Gaussian}
 use Rattle.exact_math.specs.Orders.{IsOrder}

@@ -8,11 +8,11 @@ use Rattle.target_values.specs.Targets.{target_positions}
 use Rattle.tree_rows.specs.FieldRows.{AreWeights}
 use Rattle.tree_rows.specs.FlatRows.{IsWeight}
 use Rattle.tree_rows.specs.Trees.{IsTreeWithLists}
-use Rattle.row_board.specs.declared.making.Ground.{Ground}
+use Rattle.row_board.specs.declared.making.Basis.{Basis}
 use Rattle.row_board.specs.declared.making.Places.{Places}
 
 -- the points with their tree, its lists and weights, and the positions of the targets
-pub record IsGround (P : ℕ) (points : List Point) (cap : ℕ) (g : Ground P) : Type 0 where
+pub record IsBasis (P : ℕ) (points : List Point) (cap : ℕ) (g : Basis P) : Type 0 where
   pub order : IsOrder P
   pub cap_is : g.cap ≡ cap
   pub points_are : g.points.items ≡ points

@@ -1,6 +1,6 @@
 //! The board.
 ghost use Rattle.std.specs.Prelude.{◌≡◌, ◌^◌, ◌<◌, pos, true, false, IsTrue, ◌↔◌, length, MatchOption, IfSome};
-ghost use Rattle.exact_math.specs.Ends.{BoxEndsContain};
+ghost use Rattle.exact_math.specs.Ends.{BoxEndsContain, BoxEndsWithin};
 ghost use Rattle.complex_box.specs.Box.{box_ends};
 ghost use Rattle.complex_box.specs.Rows.{at};
 ghost use Rattle.near_field.specs.DirectSum.{direct_sum};
@@ -77,6 +77,7 @@ impl<const P: usize> Board<P> {
         requires { IsName self.now (Name.Value k) }
         ensures value { MatchOption result (is_filled self.now (Name.Value k) ≡ false) (λ value. (is_filled self.now (Name.Value k) ≡ true) × (value ≡ at self.now.values k)) }
         ensures field { IfSome result (λ value. IsOfField P self.now (Name.Value k)) }
+        ensures size { IfSome result (λ value. BoxEndsWithin (2 ^ 84) (box_ends value)) }
         ensures contains { IfSome result (λ value. BoxEndsContain (pos (2 ^ 40)) (box_ends value) (direct_sum (target_place self.now k) self.now.points)) }
     {
         if self.has_value[k] {

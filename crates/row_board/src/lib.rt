@@ -9,6 +9,8 @@ mod law;
 mod making;
 mod name;
 mod search;
+#[cfg(test)]
+mod tests;
 
 pub use board::Board;
 pub use law::full_board;

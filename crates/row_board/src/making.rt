@@ -9,7 +9,7 @@ ghost use Rattle.tree_rows.specs.FieldRows.{AreWeights};
 ghost use Rattle.tree_rows.specs.FlatRows.{IsWeight};
 ghost use Rattle.tree_rows.specs.Trees.{IsTreeOfPoints};
 ghost use Rattle.row_board.specs.Board.{IsBoard};
-ghost use Rattle.row_board.specs.Making.{IsGround, AreEmptyPlaces};
+ghost use Rattle.row_board.specs.Making.{IsBasis, AreEmptyPlaces};
 ghost use Rattle.row_board.specs.Names.{is_filled};
 ghost use Rattle.row_board.specs.declared.name.Name.{Name};
 
@@ -71,7 +71,7 @@ fn weights_of(
 
 /// What a board stands on.
 #[derive(Drop)]
-struct Ground<const P: usize> {
+struct Basis<const P: usize> {
     cap: u32,
     points: Vec<Point>,
     tree: Tree,
@@ -81,15 +81,15 @@ struct Ground<const P: usize> {
     targets: Vec<u32>,
 }
 
-impl<const P: usize> Ground<P> {
+impl<const P: usize> Basis<P> {
     /// The points of a tree, its lists and weights, the kernel and the positions of the targets.
-    fn over(alloc: Global, points: &[Point], cap: u32, tree: Tree) -> Result<Ground<P>, AllocError>
+    fn over(alloc: Global, points: &[Point], cap: u32, tree: Tree) -> Result<Basis<P>, AllocError>
         requires order { IsOrder P }
         requires range { All InRange points.now }
         requires few { length points.now ≤ most_points }
         requires light { total_weight points.now ≤ most_weight }
         requires tree { IsTreeOf 16 tree points.now cap }
-        ensures { IfOk result (λ ground. IsGround P points.now cap ground) }
+        ensures { IfOk result (λ basis. IsBasis P points.now cap basis) }
     {
         let Ok(lists) = lists(alloc, &tree) else {
             return Err(AllocError);
@@ -100,7 +100,7 @@ impl<const P: usize> Ground<P> {
         let weights = weights_of(alloc, &tree, points, P as u32)?;
         let targets = target_positions(alloc, points)?;
         let points = Vec::from_slice(alloc, points)?;
-        Ok(Ground {
+        Ok(Basis {
             cap,
             points,
             tree,
@@ -184,29 +184,29 @@ impl<const P: usize> Board<P> {
         ensures cap { IfOk result (λ board. board.cap ≡ cap) }
         ensures empty { IfOk result (λ board. (name : Name) → is_filled board name ≡ false) }
     {
-        let ground = Ground::<P>::over(alloc, points, cap, tree)?;
-        let cells = ground.tree.cells().len();
-        let places = Places::empty(alloc, P, cells, ground.targets.len())?;
-        Ok(Board::joined(ground, places))
+        let basis = Basis::<P>::over(alloc, points, cap, tree)?;
+        let cells = basis.tree.cells().len();
+        let places = Places::empty(alloc, P, cells, basis.targets.len())?;
+        Ok(Board::joined(basis, places))
     }
 
-    /// The board of empty places on a ground.
-    fn joined(ground: Ground<P>, places: Places) -> Board<P>
-        requires ground { IsGround P ground.points.items ground.cap ground }
-        requires places { AreEmptyPlaces P (size ground.tree) (length ground.targets.items) places }
+    /// The board of empty places on a basis.
+    fn joined(basis: Basis<P>, places: Places) -> Board<P>
+        requires basis { IsBasis P basis.points.items basis.cap basis }
+        requires places { AreEmptyPlaces P (size basis.tree) (length basis.targets.items) places }
         ensures board { IsBoard P result }
-        ensures points { result.points ≡ ground.entry.points.items }
-        ensures cap { result.cap ≡ ground.entry.cap }
+        ensures points { result.points ≡ basis.entry.points.items }
+        ensures cap { result.cap ≡ basis.entry.cap }
         ensures empty { (name : Name) → is_filled result name ≡ false }
     {
         Board {
-            cap: ground.cap,
-            points: ground.points,
-            tree: ground.tree,
-            lists: ground.lists,
-            kernel: ground.kernel,
-            weights: ground.weights,
-            targets: ground.targets,
+            cap: basis.cap,
+            points: basis.points,
+            tree: basis.tree,
+            lists: basis.lists,
+            kernel: basis.kernel,
+            weights: basis.weights,
+            targets: basis.targets,
             up: places.up,
             local: places.local,
             radii: places.radii,

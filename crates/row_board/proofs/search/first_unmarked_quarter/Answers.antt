@@ -1,6 +1,5 @@
 -- One quarter more.
-use Rattle.std.proofs.Common.{◌≡◌, sym, ◌∙◌, subst, ap, arith}
-use Rattle.std.specs.Prelude.{slice_index_or, true, false}
+use Rattle.std.proofs.Common.{sym, ◌∙◌, subst, arith}
 use Rattle.row_board.specs.Search.{AreMarked}
 use Rattle.row_board.proofs.Children.{leaf_has_none, seen_none, seen_without, seen_marked, seen_first, seen_all}
 use Rattle.row_board.proofs.search.first_unmarked_quarter.Goals as goal

@@ -1,16 +1,16 @@
 -- The parent's radius, and what the local row and its radius leave.
-use Rattle.std.proofs.Common.{◌≡◌, ◌<◌, ◌≤◌, ◌^◌, ◌∙◌, length, get_or, true, sym, ap, subst, arith, lit<, ℤ, pos, ◌+ℤ◌, ◌≤ℤ◌, to_z, of_z, to_z-of_z, SFits}
+use Rattle.std.proofs.Common.{◌≡◌, ◌^◌, ◌∙◌, length, get_or, true, sym, ap, subst, arith, lit<, ℤ, pos, ◌+ℤ◌, ◌≤ℤ◌, to_z, of_z, to_z-of_z, SFits}
 use Rattle.std.proofs.Math.ListN.{set}
 use Rattle.std.proofs.lemmas.Int.{ints}
 use Rattle.std.proofs.lemmas.List.{with_items_is}
 use Rattle.std.specs.Int.{w128}
-use Rattle.std.specs.Prelude.{All, List}
+use Rattle.std.specs.Prelude.{List}
 use Rattle.std.specs.Vec.{with_items}
 use Rattle.complex_box.specs.declared.CBox.{CBox}
 use Rattle.cell_lists.specs.Row.{row}
 use Rattle.downward_rows.proofs.Totals.{row_wider}
 use Rattle.particle_text.specs.declared.Point.{Point}
-use Rattle.quadtree.specs.TreeModel.{size, node_of}
+use Rattle.quadtree.specs.TreeModel.{node_of}
 use Rattle.row_recursions.specs.Sizes.{RowWithin}
 use Rattle.tree_rows.specs.FlatRows.{row_at}
 use Rattle.tree_rows.specs.Trees.{IsTreeWithLists}

@@ -1,5 +1,5 @@
 -- What the multipole row leaves.
-use Rattle.std.proofs.Common.{◌≡◌, ◌^◌, ◌∙◌, length, true, sym, ap, subst, arith}
+use Rattle.std.proofs.Common.{◌^◌, ◌∙◌, length, true, sym, ap, subst}
 use Rattle.std.proofs.Math.ListN.{set}
 use Rattle.std.proofs.lemmas.List.{with_items_is}
 use Rattle.std.specs.Prelude.{All, List}

@@ -1,11 +1,10 @@
 -- The target's leaf, its row and radius, and what the box leaves.
-use Rattle.std.proofs.Common.{◌≡◌, ◌<◌, ◌≤◌, ◌^◌, ◌∙◌, length, true, sym, ap, subst, arith, ℤ, pos, ◌≤ℤ◌, to_z, of_z}
+use Rattle.std.proofs.Common.{◌<◌, ◌^◌, length, true, sym, ap, subst, arith, pos, ◌≤ℤ◌}
 use Rattle.std.proofs.Math.ListN.{set}
 use Rattle.std.proofs.lemmas.Int.{ints}
-use Rattle.std.specs.Int.{w128}
 use Rattle.std.specs.Prelude.{All}
 use Rattle.complex_box.specs.Box.{BoxWithin}
-use Rattle.quadtree.specs.TreeModel.{size, leaf_of}
+use Rattle.quadtree.specs.TreeModel.{leaf_of}
 use Rattle.row_board.specs.Names.{IsName, needs, AreFilled}
 use Rattle.row_board.specs.Parts.{BoardParts}
 use Rattle.row_board.specs.declared.name.Name.TheVariants.{Value}

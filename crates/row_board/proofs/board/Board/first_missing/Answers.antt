@@ -1,6 +1,5 @@
 -- The local row first, then the multipole rows.
-use Rattle.std.proofs.Common.{◌≡◌, map, false, true, ap, ◌∙◌, subst}
-use Rattle.row_board.specs.Names.{is_filled}
+use Rattle.std.proofs.Common.{map, ap, ◌∙◌, subst}
 use Rattle.row_board.specs.Parts.{BoardParts}
 use Rattle.row_board.specs.Search.{AreMarked, IsFirstUnmarked}
 use Rattle.row_board.specs.declared.name.Name.TheVariants.{Up, Local}

@@ -1,12 +1,11 @@
 -- The parent's row first, then those of the V list.
-use Rattle.std.proofs.Common.{◌≡◌, ◌<◌, ◌∷◌, map, ap, ap₂, ◌∙◌, sym, subst, arith, lit<}
+use Rattle.std.proofs.Common.{◌<◌, ◌∷◌, map, ap, ap₂, ◌∙◌, sym, subst, arith, lit<}
 use Rattle.std.specs.Prelude.{All, MatchOption}
 use Rattle.cert_text.specs.declared.Letter.TheVariants.{V}
 use Rattle.cell_lists.specs.Row.{row}
 use Rattle.quadtree.specs.TreeModel.{size, node_of}
 use Rattle.row_board.specs.Names.{AreFilled, IsFirstMissing}
 use Rattle.row_board.specs.Parts.{BoardParts}
-use Rattle.row_board.specs.declared.name.Name.{Name}
 use Rattle.row_board.specs.declared.name.Name.TheVariants.{Up, Local}
 use Rattle.row_board.proofs.Missing.{needs_below, listed, numbers}
 use Rattle.row_board.proofs.board.Board.missing_for_local.Goals as goal

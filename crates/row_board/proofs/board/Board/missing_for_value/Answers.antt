@@ -1,6 +1,6 @@
 -- The leaf's row first, then those of its W list.
-use Rattle.std.proofs.Common.{◌≡◌, ◌<◌, length, ap, ◌∙◌, sym, subst, arith, lit<}
-use Rattle.std.specs.Prelude.{All, MatchOption}
+use Rattle.std.proofs.Common.{◌<◌, length, ap, sym, subst, arith, lit<}
+use Rattle.std.specs.Prelude.{All}
 use Rattle.cert_text.specs.declared.Letter.TheVariants.{W}
 use Rattle.quadtree.specs.TreeModel.{size, leaf_of}
 use Rattle.row_board.specs.Parts.{BoardParts}

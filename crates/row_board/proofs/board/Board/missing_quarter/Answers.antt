@@ -1,5 +1,5 @@
 -- A quarter's row is missing where its mark is.
-use Rattle.std.proofs.Common.{◌≡◌, ap, ◌∙◌, length, subst, arith}
+use Rattle.std.proofs.Common.{ap, ◌∙◌, length, subst, arith}
 use Rattle.quadtree.specs.TreeModel.{size}
 use Rattle.tree_field.specs.Program.{source_children}
 use Rattle.row_board.specs.Parts.{BoardParts}
