@@ -79,6 +79,7 @@ impl<const P: usize> Board<P> {
         ensures row { IsOfField P self.new (Name.Up n) }
         ensures board { IsBoard P self.new }
         ensures others { OthersStay P (Name.Up n) self.old self.new }
+        ensures least { work.old.translations ≤ work.new.translations }
         ensures translations { work.new.translations ≤ work.old.translations + 28 }
         ensures pairs { work.new.pairs ≡ work.old.pairs }
     {
@@ -95,6 +96,7 @@ impl<const P: usize> Board<P> {
         ensures row { IsOfField P self.new (Name.Local n) }
         ensures board { IsBoard P self.new }
         ensures others { OthersStay P (Name.Local n) self.old self.new }
+        ensures least { work.old.translations ≤ work.new.translations }
         ensures translations { work.new.translations ≤ work.old.translations + 28 }
         ensures pairs { work.new.pairs ≡ work.old.pairs }
     {
@@ -123,6 +125,7 @@ impl<const P: usize> Board<P> {
         ensures board { IsBoard P self.new }
         ensures others { OthersStay P (Name.Value k) self.old self.new }
         ensures translations { work.new.translations ≡ work.old.translations }
+        ensures least { work.old.pairs ≤ work.new.pairs }
         ensures pairs { work.new.pairs ≤ work.old.pairs + length self.old.points }
     {
         let target = self.targets[k] as usize;
@@ -160,6 +163,7 @@ impl<const P: usize> Board<P> {
         ensures row { OnOk result (IsOfField P self.new name) }
         ensures others { OthersStay P name self.old self.new }
         ensures board { IsBoard P self.new }
+        ensures more { (work.old.translations ≤ work.new.translations) × (work.old.pairs ≤ work.new.pairs) }
         ensures few_translations { work.new.translations ≤ work.old.translations + 28 }
         ensures few_pairs { work.new.pairs ≤ work.old.pairs + length self.old.points }
     {
