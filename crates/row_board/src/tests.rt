@@ -30,17 +30,13 @@ fn missing(board: &mut Board<4>, name: Name) -> Option<Name> {
     }
 }
 
-/// The box of the target, as counts of 10^-12.
+/// The box of the target has these ends, in units of 2^-40.
 fn box_is(rt: &impl Abort, board: &Board<4>, re: (i128, i128), im: (i128, i128)) {
     assert!(rt; board.has(Name::Value(0)));
     match board.value(0) {
         Some(value) => {
-            let unit = 1 << 40;
-            let million_million = 1_000_000_000_000;
-            assert_eq!(rt; (value.re.lo * million_million).div_euclid(unit), re.0);
-            assert_eq!(rt; -(-value.re.hi * million_million).div_euclid(unit), re.1);
-            assert_eq!(rt; (value.im.lo * million_million).div_euclid(unit), im.0);
-            assert_eq!(rt; -(-value.im.hi * million_million).div_euclid(unit), im.1);
+            assert_eq!(rt; (value.re.lo, value.re.hi), re);
+            assert_eq!(rt; (value.im.lo, value.im.hi), im);
         }
         None => assert!(rt; false),
     }
@@ -65,8 +61,8 @@ fn rows_in_order(rt: HostRuntime) -> Result<(), Fail> {
     box_is(
         &rt,
         &board,
-        (1_025_715_944_355, 1_249_484_055_645),
-        (-68_684_055_645, 155_084_055_645),
+        (1_127_786_607_614, 1_373_822_247_902),
+        (-75_518_917_824, 170_516_722_464),
     );
     Ok(())
 }
@@ -86,8 +82,8 @@ fn rows_as_they_become_ready(rt: HostRuntime) -> Result<(), Fail> {
     box_is(
         &rt,
         &board,
-        (1_025_715_944_355, 1_249_484_055_645),
-        (-68_684_055_645, 155_084_055_645),
+        (1_127_786_607_614, 1_373_822_247_902),
+        (-75_518_917_824, 170_516_722_464),
     );
     Ok(())
 }
