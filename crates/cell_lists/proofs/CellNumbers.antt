@@ -4,7 +4,7 @@ use Rattle.std.specs.Prelude.{AllPairs, Contains, IsTrue, Bool, ◌↔◌, [], �
 use Rattle.std.proofs.lemmas.List.Elements.{Contains-get_or, Contains-push}
 use Rattle.std.proofs.lemmas.Bool.{cases_lt}
 use Rattle.std.proofs.lemmas.List.{get_or_default, length-map}
-use Rattle.particle_text.specs.declared.Point.{Point}
+use Rattle.points.specs.declared.Point.{Point}
 use Rattle.cell_name.specs.Cell.{square}
 use Rattle.cell_name.specs.Order.{IsBefore}
 use Rattle.cell_name.specs.Square.{Square, root, parent, child, Touches}

@@ -4,8 +4,8 @@ use Rattle.std.proofs.Common.{ℕ, ◌≡◌, ◌+◌, ◌-◌, ◌<◌, ◌≤�
 use Rattle.std.proofs.lemmas.Bool.{cases_lt}
 use Rattle.cell_name.proofs.Levels.{above_le, StopsAt, stop_exists, stop_unique}
 use Rattle.cell_lists.specs.Cases.{IsCase, Both, letter_at}
-use Rattle.cert_text.specs.declared.Letter.{Letter}
-use Rattle.cert_text.specs.declared.Letter.TheVariants.{U, V, W, X}
+use Rattle.letters.specs.declared.Letter.{Letter}
+use Rattle.letters.specs.declared.Letter.TheVariants.{U, V, W, X}
 
 -- what is known of `T`: it passes to the level above on either side, and is decided
 pub record PassesUp (T : ℕ → ℕ → Type 0) : Type 0 where

@@ -2,7 +2,7 @@
 use Rattle.std.proofs.Common.{ℕ, ◌≡◌, ◌+◌, ◌-◌, ◌/◌, ◌^◌, ◌<◌, ◌≤◌, suc, arith, refl, sym, ap, ◌∙◌, subst, List}
 use Rattle.std.specs.Prelude.{Contains, ◌↔◌}
 use Rattle.std.proofs.lemmas.List.Elements.{All-contains}
-use Rattle.particle_text.specs.declared.Point.{Point}
+use Rattle.points.specs.declared.Point.{Point}
 use Rattle.cell_name.specs.Square.{Square, root, parent, ancestor, IsInGrid, Holds, Touches}
 use Rattle.cell_name.proofs.Quarters.{ancestor-square_at}
 use Rattle.cell_lists.specs.Walk.{AncestorsTouch}
@@ -10,8 +10,8 @@ use Rattle.std.proofs.Math.Nat.{div-eq_of_lt}
 use Rattle.cell_name.proofs.Cells.{same_square, Holds-square_at, square_at-unique, parent-square_at, square_at-root, Touches-refl, Touches-sym, Touches-part, IsPart-square_at, decide_touches}
 use Rattle.quadtree.specs.Tree.{IsTreeCell, IsLeaf, HasTarget, HasSource, AreInGrid}
 use Rattle.quadtree.proofs.LeafLevel.{cell_of, IsListed, IsLeafLevel, leaf_level_exists}
-use Rattle.cert_text.specs.declared.Letter.{Letter}
-use Rattle.cert_text.specs.declared.Letter.TheVariants.{U, V, W, X}
+use Rattle.letters.specs.declared.Letter.{Letter}
+use Rattle.letters.specs.declared.Letter.TheVariants.{U, V, W, X}
 use Rattle.cell_lists.specs.Entries.{IsPair, IsEntry, Accounts, NoOtherAccounts, IsTargetAndSource, EachPairHasOneEntry}
 use Rattle.cell_lists.specs.Cases.{IsCase}
 use Rattle.cell_lists.proofs.Descent.{PassesUp, case_exists, case_unique}

@@ -7,9 +7,9 @@ use Rattle.std.proofs.lemmas.List.{get_or_append_left}
 use Rattle.std.proofs.lemmas.List.Elements.{All-append, All-contains, Contains-append_left, Contains-get_or, Contains-push, Contains-push_cases}
 use Rattle.std.proofs.lemmas.List.Kept.{AllPairs-from_increasing}
 use Rattle.std.proofs.Math.Seq.{get_or-append_seam}
-use Rattle.particle_text.specs.declared.Point.{Point}
-use Rattle.cert_text.specs.declared.Letter.{Letter}
-use Rattle.cert_text.specs.declared.Letter.TheVariants.{U, V, W, X}
+use Rattle.points.specs.declared.Point.{Point}
+use Rattle.letters.specs.declared.Letter.{Letter}
+use Rattle.letters.specs.declared.Letter.TheVariants.{U, V, W, X}
 use Rattle.quadtree.specs.TreeModel.{TreeModel, size, square_of, node_of, IsTreeOf, IsTree}
 use Rattle.cell_name.proofs.Cells.{Touches-sym, Touches-parent}
 use Rattle.cell_lists.specs.declared.entry_lists.EntryLists.{EntryLists}

@@ -4,14 +4,14 @@ use Rattle.std.specs.Prelude.{ℤ, Contains, MatchOption, IsSome, IsTrue}
 use Rattle.std.proofs.lemmas.Int.{ints}
 use Rattle.std.proofs.lemmas.List.{get_or-map, length-map}
 use Rattle.std.proofs.lemmas.List.Elements.{All-get_or}
-use Rattle.particle_text.specs.declared.Point.{Point}
+use Rattle.points.specs.declared.Point.{Point}
 use Rattle.cell_name.specs.declared.cell.Cell.{Cell}
 use Rattle.cell_name.specs.Cell.{square}
 use Rattle.cell_name.specs.Square.{Square, root, half, ancestor, Holds}
 use Rattle.cell_name.proofs.Ancestors.{IsPart-ancestor}
 use Rattle.cell_name.proofs.Cells.{IsPart}
 use Rattle.cell_name.proofs.Levels.{above_le}
-use Rattle.cert_text.specs.declared.Letter.{Letter}
+use Rattle.letters.specs.declared.Letter.{Letter}
 use Rattle.quadtree.specs.Tree.{AreInGrid, IsTreeCell}
 use Rattle.quadtree.specs.TreeModel.{TreeModel, size, squares, square_of, node_of, IsTreeOf, IsTree}
 use Rattle.quadtree.proofs.LeafLevel.{InTreeAt, tree_above}

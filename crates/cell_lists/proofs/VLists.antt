@@ -6,11 +6,11 @@ use Rattle.std.proofs.lemmas.Int.{ints}
 use Rattle.std.proofs.lemmas.List.Elements.{Contains-get_or}
 use Rattle.std.proofs.lemmas.Nat.{pow_pos}
 use Rattle.std.proofs.Math.Nat.{mul-le-mul_right}
-use Rattle.particle_text.specs.declared.Point.{Point}
+use Rattle.points.specs.declared.Point.{Point}
 use Rattle.cell_name.specs.Order.{IsBefore}
 use Rattle.cell_name.specs.Square.{Square, side, half, parent, Touches}
 use Rattle.cell_name.proofs.Distances.{same_side}
-use Rattle.cert_text.specs.declared.Letter.TheVariants.{V}
+use Rattle.letters.specs.declared.Letter.TheVariants.{V}
 use Rattle.quadtree.specs.TreeModel.{TreeModel, size, square_of, IsTreeOf, IsTree}
 use Rattle.cell_lists.specs.Entries.{ComeApart}
 use Rattle.cell_lists.specs.Lists.{IsListOf, AreLists, VListsAreShort}

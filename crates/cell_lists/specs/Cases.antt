@@ -1,7 +1,7 @@
 -- Two chains of cells, one down to level `m` and one down to level `n`, and a relation `T` of their levels: where the letters stand.
 use Rattle.std.specs.Prelude.{ℕ, ◌≡◌, ◌-◌, ◌<◌, ◌≤◌, min, cond, ltb}
-use Rattle.cert_text.specs.declared.Letter.{Letter}
-use Rattle.cert_text.specs.declared.Letter.TheVariants.{U, V, W, X}
+use Rattle.letters.specs.declared.Letter.{Letter}
+use Rattle.letters.specs.declared.Letter.TheVariants.{U, V, W, X}
 
 -- both chains have ended, and `T` holds
 pub record IsUCase (T : ℕ → ℕ → Type 0) (m n k l : ℕ) : Type 0 where

@@ -1,11 +1,11 @@
 -- The entries of the four lists, as predicates over pairs of cells of the tree, and what an entry accounts for.
 use Rattle.std.specs.Prelude.{ℕ, ◌≡◌, ◌<◌, ◌≤◌, List, Contains}
-use Rattle.particle_text.specs.declared.Point.{Point}
-use Rattle.particle_text.specs.Points.{IsTarget, IsSource}
+use Rattle.points.specs.declared.Point.{Point}
+use Rattle.points.specs.Points.{IsTarget, IsSource}
 use Rattle.cell_name.specs.Square.{Square, parent, Holds, Touches}
 use Rattle.quadtree.specs.Tree.{IsTreeCell, IsLeaf, HasTarget, HasSource, AreInGrid}
-use Rattle.cert_text.specs.declared.Letter.{Letter}
-use Rattle.cert_text.specs.declared.Letter.TheVariants.{U, V, W, X}
+use Rattle.letters.specs.declared.Letter.{Letter}
+use Rattle.letters.specs.declared.Letter.TheVariants.{U, V, W, X}
 
 -- both are leaves and they touch; a leaf touches itself
 pub record IsUPair (grid : ℕ) (points : List Point) (cap : ℕ) (b c : Square) : Type 0 where

@@ -1,7 +1,7 @@
 -- The cells that a walk met are enough for the lists of a cell.
 use Rattle.std.specs.Prelude.{ℕ, ◌<◌, List, Contains}
 use Rattle.quadtree.specs.TreeModel.{TreeModel, size, square_of}
-use Rattle.cert_text.specs.declared.Letter.{Letter}
+use Rattle.letters.specs.declared.Letter.{Letter}
 use Rattle.cell_lists.specs.Entries.{IsEntry}
 use Rattle.cell_lists.specs.Numbers.{OfEachList}
 

@@ -1,6 +1,6 @@
 -- What holds of the lists that a tree was built of.
 use Rattle.std.specs.Prelude.{ℕ, List}
-use Rattle.particle_text.specs.declared.Point.{Point}
+use Rattle.points.specs.declared.Point.{Point}
 use Rattle.quadtree.specs.Tree.{AreInGrid}
 use Rattle.quadtree.specs.TreeModel.{TreeModel, IsTreeOf}
 

@@ -5,7 +5,7 @@ ghost use Rattle.cell_lists.specs.Lists.{lists_of};
 ghost use Rattle.cell_lists.specs.Row.{row};
 
 use crate::rows::Rows;
-use cert_text::Letter;
+use letters::Letter;
 
 /// The entries of the four lists: for each letter and each cell `b` the cells `c`, ascending.
 #[derive(Drop)]

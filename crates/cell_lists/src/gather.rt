@@ -12,7 +12,7 @@ use crate::entry_lists::EntryLists;
 use crate::pairs::is_entry;
 use crate::rows::Rows;
 use crate::search::{around, children_of, push_below, sort_once, touching};
-use cert_text::Letter;
+use letters::Letter;
 use io_ports::Memory;
 use quadtree::Tree;
 use smallvec::SmallVec;

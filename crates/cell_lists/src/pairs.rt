@@ -7,7 +7,7 @@ ghost use Rattle.cell_lists.specs.Numbers.{OfEachList};
 ghost use Rattle.quadtree.specs.TreeModel.{size, square_of};
 
 use cell_name::Cell;
-use cert_text::Letter;
+use letters::Letter;
 use quadtree::Tree;
 
 /// Whether cells of one level don't touch while their parents do.

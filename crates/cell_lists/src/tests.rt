@@ -1,11 +1,12 @@
 //! Lists worked by hand, of two places each.
 ghost use Rattle.std.specs.Prelude.{IfOk};
-ghost use Rattle.particle_text.specs.Limits.{WithinLimits};
+ghost use Rattle.points.specs.Limits.{WithinLimits};
 
 use crate::{first_apart, lists};
 use cell_name::Cell;
-use cert_text::{Entry, Letter};
-use particle_text::{Points, parse};
+use letters::{Entry, Letter};
+use particle_text::parse;
+use points::Points;
 use quadtree::Tree;
 use std::alloc::Global;
 use std::process::Abort;

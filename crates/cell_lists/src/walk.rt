@@ -7,11 +7,11 @@ ghost use Rattle.cell_lists.specs.Cases.{IsCase, letter_at};
 ghost use Rattle.cell_lists.specs.Entries.{Accounts, IsEntry, IsTargetAndSource, NoOtherAccounts};
 ghost use Rattle.cell_lists.specs.Numbers.{OfEachList};
 ghost use Rattle.cell_lists.specs.Walk.{AncestorsTouch, IsAncestor};
-ghost use Rattle.particle_text.specs.declared.Point.{Point};
+ghost use Rattle.points.specs.declared.Point.{Point};
 ghost use Rattle.quadtree.specs.TreeModel.{size, square_of, node_of};
 
 use cell_name::Cell;
-use cert_text::{Entry, Letter};
+use letters::{Entry, Letter};
 use quadtree::Tree;
 
 /// A letter, and the levels of the two cells of its entry.

@@ -15,10 +15,10 @@ use Rattle.cell_lists.specs.Entries.{IsEntry, IsVPair, IsWPair}
 use Rattle.cell_lists.specs.Lists.{IsListOf, lists_of}
 use Rattle.cell_lists.specs.Row.{row}
 use Rattle.cell_lists.specs.declared.entry_lists.EntryLists.{EntryLists}
-use Rattle.cert_text.specs.declared.Letter.{Letter}
-use Rattle.cert_text.specs.declared.Letter.TheVariants.{V, X}
-use Rattle.particle_text.specs.Limits.{InRange}
-use Rattle.particle_text.specs.declared.Point.{Point}
+use Rattle.letters.specs.declared.Letter.{Letter}
+use Rattle.letters.specs.declared.Letter.TheVariants.{V, X}
+use Rattle.points.specs.Limits.{InRange}
+use Rattle.points.specs.declared.Point.{Point}
 use Rattle.quadtree.proofs.Distinct.{Contains-filter}
 use Rattle.quadtree.proofs.Limits.{in_grid}
 use Rattle.quadtree.specs.Members.{holds_position, holds_point, members_of}

@@ -3,8 +3,8 @@ use Rattle.std.proofs.Common.{ℕ, ◌≡◌, ◌<◌, List, length, get_or, Som
 use Rattle.std.specs.Prelude.{slice_get}
 use Rattle.std.proofs.lemmas.Option.{slice_get-get_or}
 use Rattle.cell_name.specs.Square.{Square}
-use Rattle.particle_text.specs.declared.Kind.TheVariants.{Charge}
-use Rattle.particle_text.specs.declared.Point.{Point}
+use Rattle.points.specs.declared.Kind.TheVariants.{Charge}
+use Rattle.points.specs.declared.Point.{Point}
 use Rattle.soundness.specs.Computed.{far_coefficients_in}
 use Rattle.downward_rows.specs.Entries.{far_row_at, far_of}
 

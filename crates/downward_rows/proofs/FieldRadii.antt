@@ -10,9 +10,9 @@ use Rattle.cell_lists.proofs.CellNumbers.{first_level}
 use Rattle.cell_lists.specs.Lists.{IsListOf, AreLists, lists_of}
 use Rattle.cell_lists.specs.Row.{row}
 use Rattle.cell_lists.specs.declared.entry_lists.EntryLists.{EntryLists}
-use Rattle.cert_text.specs.declared.Letter.{Letter}
-use Rattle.cert_text.specs.declared.Letter.TheVariants.{V, X}
-use Rattle.particle_text.specs.declared.Point.{Point}
+use Rattle.letters.specs.declared.Letter.{Letter}
+use Rattle.letters.specs.declared.Letter.TheVariants.{V, X}
+use Rattle.points.specs.declared.Point.{Point}
 use Rattle.quadtree.specs.Tree.{AreInGrid}
 use Rattle.quadtree.specs.TreeModel.{TreeModel, size, square_of, node_of, IsTree}
 use Rattle.tree_field.proofs.LocalRows.{local_radius-root, local_radius-below}

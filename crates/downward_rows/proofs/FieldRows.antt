@@ -11,15 +11,14 @@ use Rattle.cell_name.specs.Square.{Square, side, holds_test, parent}
 use Rattle.cell_lists.specs.Lists.{AreLists}
 use Rattle.cell_lists.specs.Row.{row}
 use Rattle.cell_lists.specs.declared.entry_lists.EntryLists.{EntryLists}
-use Rattle.cert_text.specs.declared.Letter.TheVariants.{V, X}
+use Rattle.letters.specs.declared.Letter.TheVariants.{V, X}
 use Rattle.complex_box.specs.declared.CBox.{CBox}
 use Rattle.kernel_table.specs.Kernel.{kernel_entry}
 use Rattle.local_expansion.proofs.FarSources.{no_coefficients}
-use Rattle.near_field.specs.DirectSum.{is_source}
-use Rattle.particle_text.specs.declared.Kind.{Kind}
-use Rattle.particle_text.specs.declared.Kind.TheVariants.{Charge, Dipole, Vortex, Target}
-use Rattle.particle_text.specs.declared.Point.{Point}
-use Rattle.particle_text.specs.Points.{place, pole, dipole}
+use Rattle.points.specs.Points.{is_source, place, pole, dipole}
+use Rattle.points.specs.declared.Kind.{Kind}
+use Rattle.points.specs.declared.Kind.TheVariants.{Charge, Dipole, Vortex, Target}
+use Rattle.points.specs.declared.Point.{Point}
 use Rattle.quadtree.proofs.Distinct.{Contains-into_filter}
 use Rattle.quadtree.specs.Members.{holds_point, holds_position, members_of}
 use Rattle.quadtree.specs.Tree.{AreInGrid}

@@ -10,7 +10,7 @@ use Rattle.cell_lists.proofs.TreeNumbers.{tree_cell_at}
 use Rattle.complex_box.specs.declared.CBox.{CBox}
 use Rattle.field_sizes.proofs.Bounds.{rows_within, radii_within}
 use Rattle.field_sizes.specs.Sizes.{IsLimited, RowsWithin}
-use Rattle.particle_text.specs.declared.Point.{Point}
+use Rattle.points.specs.declared.Point.{Point}
 use Rattle.quadtree.proofs.Limits.{in_grid}
 use Rattle.quadtree.specs.Tree.{HasTarget}
 use Rattle.quadtree.specs.TreeModel.{TreeModel, size, square_of, node_of}

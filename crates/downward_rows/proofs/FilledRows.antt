@@ -14,7 +14,7 @@ use Rattle.cell_lists.specs.declared.entry_lists.EntryLists.{EntryLists}
 use Rattle.complex_box.specs.Rows.{AllZero}
 use Rattle.complex_box.specs.declared.CBox.{CBox}
 use Rattle.local_shift.proofs.Sums.{nothing_at}
-use Rattle.particle_text.specs.declared.Point.{Point}
+use Rattle.points.specs.declared.Point.{Point}
 use Rattle.quadtree.proofs.Limits.{in_grid}
 use Rattle.quadtree.specs.Tree.{HasTarget}
 use Rattle.quadtree.specs.TreeModel.{TreeModel, size, square_of, node_of}

@@ -7,7 +7,7 @@ use Rattle.std.proofs.lemmas.List.{get_or_default}
 use Rattle.exact_math.specs.Orders.{IsOrder}
 use Rattle.cell_lists.proofs.CellNumbers.{parent_before}
 use Rattle.cell_lists.specs.declared.entry_lists.EntryLists.{EntryLists}
-use Rattle.particle_text.specs.declared.Point.{Point}
+use Rattle.points.specs.declared.Point.{Point}
 use Rattle.quadtree.proofs.Limits.{in_grid}
 use Rattle.quadtree.specs.Tree.{AreInGrid}
 use Rattle.quadtree.specs.TreeModel.{TreeModel, size, node_of}

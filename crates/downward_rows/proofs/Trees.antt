@@ -3,7 +3,7 @@ use Rattle.std.proofs.Common.{ℕ, ◌<◌, ◌≤◌, List, sym, subst}
 use Rattle.cell_name.proofs.Cells.{Holds-parent}
 use Rattle.cell_name.specs.Square.{Square, parent}
 use Rattle.cell_lists.proofs.CellNumbers.{level_positive, parent_before, level_in_grid}
-use Rattle.particle_text.specs.declared.Point.{Point}
+use Rattle.points.specs.declared.Point.{Point}
 use Rattle.quadtree.proofs.Limits.{in_grid}
 use Rattle.quadtree.specs.Tree.{HasTarget}
 use Rattle.quadtree.specs.TreeModel.{TreeModel, size, square_of, node_of, IsTree}

@@ -1,7 +1,7 @@
 -- What entries can lose by truncation, from the weights of all cells, and the radius of a cell.
 use Rattle.std.specs.Prelude.{ℕ, ◌*◌, ◌≡◌, ℤ, pos, List}
 use Rattle.cell_lists.specs.declared.entry_lists.EntryLists.{EntryLists}
-use Rattle.particle_text.specs.declared.Point.{Point}
+use Rattle.points.specs.declared.Point.{Point}
 use Rattle.quadtree.specs.Tree.{HasTarget}
 use Rattle.quadtree.specs.TreeModel.{TreeModel, square_of}
 use Rattle.tree_field.specs.Field.{local_radius}

@@ -1,7 +1,7 @@
 -- The row of one cell, by itself.
 use Rattle.std.specs.Prelude.{ℕ, List}
 use Rattle.exact_math.specs.Ends.{BoxEnds, zero_box}
-use Rattle.particle_text.specs.declared.Point.{Point}
+use Rattle.points.specs.declared.Point.{Point}
 use Rattle.quadtree.specs.Tree.{HasTarget}
 use Rattle.quadtree.specs.TreeModel.{TreeModel, square_of}
 use Rattle.tree_field.specs.Field.{local_row}

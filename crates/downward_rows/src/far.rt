@@ -11,7 +11,7 @@ ghost use Rattle.downward_rows.specs.Entries.{IsFarPosition, IsFarCell, far_row_
 use cell_name::Cell;
 use complex_box::CBox;
 use local_expansion::add_far_source;
-use particle_text::Point;
+use points::Point;
 use quadtree::Tree;
 
 /// Adds what the point at a position adds to the row of a cell that is far from it.

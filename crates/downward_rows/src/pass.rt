@@ -11,7 +11,7 @@ use crate::rows::fill_row;
 use cell_lists::EntryLists;
 use complex_box::{CBox, Work};
 use kernel_table::Kernel;
-use particle_text::Point;
+use points::Point;
 use quadtree::Tree;
 
 /// Fills the local rows of all cells, from the first to the last. The translations are raised by one for each V entry and one for each cell

@@ -2,7 +2,7 @@
 ghost use Rattle.std.specs.Prelude.{◌≡◌, ℕ, ◌+◌, ◌^◌, ◌≤◌, ◌<◌, pos, ◌≤ℤ◌, ◌+ℤ◌, unsigned_abs, length, sum_by, All, List, slice_index_or};
 ghost use Rattle.exact_math.specs.Orders.{IsOrder};
 ghost use Rattle.cell_lists.specs.Lists.{AreLists};
-ghost use Rattle.particle_text.specs.declared.Point.{Point};
+ghost use Rattle.points.specs.declared.Point.{Point};
 ghost use Rattle.quadtree.specs.Tree.{AreInGrid};
 ghost use Rattle.quadtree.specs.TreeModel.{IsTree, size, node_of};
 ghost use Rattle.tree_field.specs.Lists.{TreeLists};

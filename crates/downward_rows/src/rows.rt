@@ -20,7 +20,7 @@ use cell_lists::EntryLists;
 use complex_box::{CBox, Row, Work, clear};
 use kernel_table::Kernel;
 use local_shift::shift_down;
-use particle_text::Point;
+use points::Point;
 use quadtree::Tree;
 
 /// Fills the row of a cell below the root from its parent's.

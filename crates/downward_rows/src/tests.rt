@@ -1,14 +1,15 @@
 //! Rows and radii that are known from elsewhere: of a cell of side 4 that sees one far charge, and of one of side 1 beside nine charges.
 ghost use Rattle.std.specs.Prelude.{◌≡◌, ◌≤◌, ◌*◌, IfOk, length};
 ghost use Rattle.complex_box.specs.Rows.{AllZero};
-ghost use Rattle.particle_text.specs.Limits.{WithinLimits};
+ghost use Rattle.points.specs.Limits.{WithinLimits};
 ghost use Rattle.tree_rows.specs.Trees.{IsTreeOfPoints, IsTreeWithLists};
 
 use super::{fill_row, local_radius, radius_pass};
 use cell_lists::{EntryLists, lists};
 use complex_box::{CBox, Work};
 use kernel_table::Kernel;
-use particle_text::{Point, Points, parse};
+use particle_text::parse;
+use points::{Point, Points};
 use quadtree::Tree;
 use std::alloc::Global;
 use std::process::Abort;

@@ -4,7 +4,7 @@
 
 ghost use Rattle.std.specs.Prelude.{◌≡◌, ◌≤◌, pos};
 ghost use Rattle.truncation.specs.Entries.{weight as source_weight};
-ghost use Rattle.particle_text.specs.Limits.{InRange};
+ghost use Rattle.points.specs.Limits.{InRange};
 ghost use Rattle.row_recursions.specs.Sources.{source_of};
 ghost use Rattle.error_ledger.specs.Weights.{weight_of};
 
@@ -13,7 +13,7 @@ mod ledger;
 mod tests;
 
 pub use ledger::Ledger;
-use particle_text::{Kind, Point};
+use points::{Kind, Point};
 
 /// The weight `abs(a) + 2 order abs(b)` of a point at an order, where `abs` of a complex number is `abs(re) + abs(im)`.
 /// Conditions: the point is in range, and `order` is 1 to 32.

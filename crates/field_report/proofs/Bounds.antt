@@ -10,8 +10,8 @@ use Rattle.exact_math.specs.Contains.{Contains}
 use Rattle.exact_math.specs.Ends.{BoxEnds, BoxEndsContain}
 use Rattle.exact_math.specs.Ratio.{Ratio, ComplexRatio, re_part, im_part}
 use Rattle.field_report.specs.Counts.{count_below, count_above, KeepsBound, CountsContain, target_counts}
-use Rattle.particle_text.specs.declared.Mode.{Mode}
-use Rattle.particle_text.specs.declared.Mode.TheVariants.{Field, Velocity}
+use Rattle.points.specs.declared.Mode.{Mode}
+use Rattle.points.specs.declared.Mode.TheVariants.{Field, Velocity}
 
 -- products of three, with the first factor in the second place, or in the third
 swapped : (a b c : ℤ) → a *ℤ (b *ℤ c) ≡ b *ℤ (a *ℤ c)

@@ -13,11 +13,10 @@ use Rattle.complex_box.specs.Box.{box_ends}
 use Rattle.complex_box.specs.Rows.{at, zero_cbox}
 use Rattle.complex_box.specs.declared.CBox.{CBox}
 use Rattle.io_ports.specs.Bytes.{AppendsPrefix}
-use Rattle.near_field.specs.DirectSum.{is_source}
-use Rattle.particle_text.specs.Limits.{InRange}
-use Rattle.particle_text.specs.Points.{place}
-use Rattle.particle_text.specs.declared.Mode.{Mode}
-use Rattle.particle_text.specs.declared.Point.{Point}
+use Rattle.points.specs.Points.{is_source, place}
+use Rattle.points.specs.Limits.{InRange}
+use Rattle.points.specs.declared.Mode.{Mode}
+use Rattle.points.specs.declared.Point.{Point}
 use Rattle.tree_field.specs.Field.{targets, target_box, target_boxes}
 use Rattle.tree_field.specs.Lists.{TreeLists, AreTreeLists}
 use Rattle.tree_field.specs.Work.{translations, pairs}

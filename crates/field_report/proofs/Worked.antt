@@ -2,18 +2,18 @@
 use Rattle.std.proofs.Common.{◌≡◌, refl, pos, negsuc, ℤ, ℕ, List, [], ◌∷◌, ◌++◌, codes}
 use Rattle.std.specs.Fmt.{digits}
 use Rattle.cell_name.specs.Square.{Square, root}
-use Rattle.cert_text.specs.declared.Letter.{Letter}
-use Rattle.cert_text.specs.declared.Letter.TheVariants.{U, V, W, X}
+use Rattle.letters.specs.declared.Letter.{Letter}
+use Rattle.letters.specs.declared.Letter.TheVariants.{U, V, W, X}
 use Rattle.exact_math.specs.Gaussian.{gaussian}
 use Rattle.near_field.specs.DirectSum.{direct_sum}
-use Rattle.particle_text.specs.declared.Kind.{Kind}
-use Rattle.particle_text.specs.declared.Kind.TheVariants.{Charge, Dipole, Vortex, Target}
-use Rattle.particle_text.specs.declared.Mode.TheVariants.{Field, Velocity}
-use Rattle.particle_text.specs.declared.Point.{Point}
+use Rattle.points.specs.declared.Kind.{Kind}
+use Rattle.points.specs.declared.Kind.TheVariants.{Charge, Dipole, Vortex, Target}
+use Rattle.points.specs.declared.Mode.TheVariants.{Field, Velocity}
+use Rattle.points.specs.declared.Point.{Point}
 use Rattle.row_recursions.specs.Rows.{local_round, local_value}
 use Rattle.tree_field.specs.Field.{leaf_below, local_at_level, radius_at_level}
 use Rattle.tree_field.specs.Lists.{TreeLists}
-use Rattle.field_report.specs.Decimals.{digits_in}
+use Rattle.line_text.specs.Decimals.{digits_in}
 use Rattle.field_report.specs.FieldText.{field_text}
 use Rattle.field_report.specs.Report.{line_feed}
 

@@ -4,8 +4,8 @@ use Rattle.exact_math.specs.Contains.{Contains}
 use Rattle.exact_math.specs.Ends.{Ends, BoxEnds, neg_ends}
 use Rattle.exact_math.specs.Ratio.{Ratio, ComplexRatio, re_part, im_part, neg_ratio}
 use Rattle.exact_math.specs.Rounding.{floor_div, ceil_div}
-use Rattle.particle_text.specs.declared.Mode.{Mode}
-use Rattle.particle_text.specs.declared.Mode.TheVariants.{Field, Velocity}
+use Rattle.points.specs.declared.Mode.{Mode}
+use Rattle.points.specs.declared.Mode.TheVariants.{Field, Velocity}
 
 -- an end in units of 2^-40 as a count of 10^-12, rounded down, and rounded up
 abbrev pub count_below : ℤ → ℤ

@@ -1,8 +1,8 @@
 -- The report of the field of a list of points.
 use Rattle.std.specs.Prelude.{ℕ, List, map, flat_map}
-use Rattle.particle_text.specs.Points.{place}
-use Rattle.particle_text.specs.declared.Mode.{Mode}
-use Rattle.particle_text.specs.declared.Point.{Point}
+use Rattle.points.specs.Points.{place}
+use Rattle.points.specs.declared.Mode.{Mode}
+use Rattle.points.specs.declared.Point.{Point}
 use Rattle.tree_field.specs.Field.{targets, target_box}
 use Rattle.tree_field.specs.Lists.{TreeLists}
 use Rattle.tree_field.specs.Work.{translations, pairs}

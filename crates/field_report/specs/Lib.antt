@@ -1,5 +1,4 @@
 -- What the contracts cite: counts, their decimals and the lines of a report.
 pub mod Counts
-pub mod Decimals
 pub mod FieldText
 pub mod Report

@@ -1,10 +1,10 @@
 -- The lines of a report.
 use Rattle.std.specs.Prelude.{ℕ, ℤ, List, [], ◌∷◌, ◌++◌, codes, decimal, flat_map}
 use Rattle.std.specs.Fmt.{signed_decimal}
-use Rattle.particle_text.specs.declared.Mode.{Mode}
-use Rattle.particle_text.specs.declared.Mode.TheVariants.{Field, Velocity}
+use Rattle.points.specs.declared.Mode.{Mode}
+use Rattle.points.specs.declared.Mode.TheVariants.{Field, Velocity}
 use Rattle.field_report.specs.Counts.{TargetCounts}
-use Rattle.field_report.specs.Decimals.{decimal_text}
+use Rattle.line_text.specs.Decimals.{decimal_text}
 
 -- a line feed
 abbrev pub line_feed : List ℕ

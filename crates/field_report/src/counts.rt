@@ -9,13 +9,11 @@ ghost use Rattle.fixed_interval.specs.Interval.{IntervalWithin, ends_of};
 ghost use Rattle.field_report.specs.Counts.{second_ends, count_below, count_above, KeepsBound};
 
 use fixed_interval::Interval;
-use particle_text::Mode;
+use line_text::ONE;
+use points::Mode;
 
 /// The bits of the unit of boxes.
 const UNIT_BITS: u32 = 40;
-
-/// How many counts make 1.
-pub(crate) const ONE: i128 = 1_000_000_000_000;
 
 /// `10^12 n / 2^40` rounded down, or rounded up where `up` is set: the count of an end `n` of a box.
 ///

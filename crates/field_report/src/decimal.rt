@@ -1,9 +1,9 @@
 //! Counts as decimals.
 ghost use Rattle.std.specs.Prelude.{◌≡◌, ℕ, ◌^◌, List};
 ghost use Rattle.exact_math.specs.Within.{Within};
-ghost use Rattle.field_report.specs.Decimals.{decimal_text};
+ghost use Rattle.line_text.specs.Decimals.{decimal_text};
 
-use crate::front::FrontText;
+use line_text::FrontText;
 use std::marker::Model;
 
 /// The decimal text of a count of 10^-12: `-` exactly where the count is negative, the whole part

@@ -5,9 +5,9 @@ ghost use Rattle.field_report.specs.Report.{head_line, last_lines, mode_word};
 ghost use Rattle.io_ports.specs.Bytes.{AppendsPrefix};
 ghost use Rattle.io_ports.specs.Faults.{HasCause};
 
-use crate::front::FrontText;
 use io_ports::{Sink, WriteFault, put};
-use particle_text::Mode;
+use line_text::FrontText;
+use points::Mode;
 
 // A first or last line grows from its end to its front, in at most this many bytes.
 const LINE: usize = 128;

@@ -4,15 +4,14 @@
 mod counts;
 mod decimal;
 mod ends;
-mod front;
 mod line;
 mod report;
 
 pub use counts::to_count;
 pub use decimal::Decimal;
 pub use ends::{write_end, write_head};
-pub use front::FrontText;
 pub use line::write_target;
+pub use line_text::FrontText;
 pub use report::write_report;
 
 #[cfg(test)]

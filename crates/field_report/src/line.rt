@@ -5,16 +5,16 @@ ghost use Rattle.complex_box.specs.Box.{BoxWithin, box_ends};
 ghost use Rattle.exact_math.specs.Ends.{BoxEndsContain};
 ghost use Rattle.exact_math.specs.Ratio.{ComplexRatio};
 ghost use Rattle.field_report.specs.Counts.{CountsContain, target_counts};
-ghost use Rattle.field_report.specs.Decimals.{decimal_text};
+ghost use Rattle.line_text.specs.Decimals.{decimal_text};
 ghost use Rattle.field_report.specs.Report.{first_word, second_word, line_of, target_line};
 ghost use Rattle.io_ports.specs.Bytes.{AppendsPrefix};
 ghost use Rattle.io_ports.specs.Faults.{HasCause};
 
 use crate::counts::{CountEnds, second_counts};
-use crate::front::FrontText;
 use complex_box::CBox;
 use io_ports::{Sink, WriteFault, put};
-use particle_text::Mode;
+use line_text::FrontText;
+use points::Mode;
 
 // The text of a line grows from its end to its front, in at most this many bytes.
 const LINE: usize = 256;

@@ -4,15 +4,15 @@ ghost use Rattle.std.specs.Io.KnownBytes.{Appends};
 ghost use Rattle.field_report.specs.FieldText.{field_text, target_text};
 ghost use Rattle.io_ports.specs.Bytes.{AppendsPrefix};
 ghost use Rattle.io_ports.specs.Faults.{HasCause};
-ghost use Rattle.near_field.specs.DirectSum.{is_source};
-ghost use Rattle.particle_text.specs.Limits.{InRange, WithinLimits};
+ghost use Rattle.points.specs.Points.{is_source};
+ghost use Rattle.points.specs.Limits.{InRange, WithinLimits};
 ghost use Rattle.solve_phase.specs.Field.{IsSolved, kept};
 ghost use Rattle.tree_field.specs.Lists.{TreeLists, AreTreeLists};
 
 use crate::ends::{write_end, write_head};
 use crate::line::write_target;
 use io_ports::{Sink, WriteFault};
-use particle_text::{Kind, Mode, Point, Points};
+use points::{Kind, Mode, Point, Points};
 use solve_phase::Field;
 
 // Whether a point is a target.

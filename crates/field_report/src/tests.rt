@@ -7,7 +7,7 @@ use super::*;
 use complex_box::CBox;
 use fixed_interval::Interval;
 use io_ports::{MemSink, WriteFault};
-use particle_text::Mode;
+use points::Mode;
 use std::test::Fail;
 
 #[test]

@@ -10,12 +10,12 @@ use Rattle.complex_box.proofs.Sizes.{box_wider, add_box_within, widen_box_within
 use Rattle.cell_name.specs.Square.{Square, side}
 use Rattle.cell_name.proofs.Cells.{Touches-sym}
 use Rattle.cell_lists.specs.Entries.{IsWPair}
-use Rattle.cert_text.specs.declared.Letter.TheVariants.{U, W}
+use Rattle.letters.specs.declared.Letter.TheVariants.{U, W}
 use Rattle.near_field.specs.Pair.{pair_box}
 use Rattle.near_field.proofs.PairSizes.{pair_box-within}
-use Rattle.particle_text.specs.declared.Point.{Point}
-use Rattle.particle_text.specs.Limits.{weight64, total_weight}
-use Rattle.particle_text.specs.Points.{place}
+use Rattle.points.specs.declared.Point.{Point}
+use Rattle.points.specs.Limits.{weight64, total_weight}
+use Rattle.points.specs.Points.{place}
 use Rattle.quadtree.specs.Tree.{IsLeaf}
 use Rattle.quadtree.proofs.Distinct.{Contains-filter}
 use Rattle.row_recursions.specs.Rows.{multipole_value}

@@ -6,7 +6,7 @@ use Rattle.std.proofs.lemmas.List.Elements.{Contains-get_or}
 use Rattle.std.proofs.lemmas.List.Filters.{sum_by-filter_both}
 use Rattle.cell_name.specs.Square.{Square, Holds}
 use Rattle.cell_name.proofs.HoldsTest.{Holds-from_test}
-use Rattle.particle_text.specs.declared.Point.{Point}
+use Rattle.points.specs.declared.Point.{Point}
 use Rattle.quadtree.proofs.Distinct.{Contains-filter}
 use Rattle.tree_field.specs.Field.{is_source_in, sources_in}
 

@@ -11,9 +11,9 @@ use Rattle.cell_name.proofs.HoldsTest.{Holds-from_test}
 use Rattle.cell_name.proofs.Order.{IsBefore-irrefl}
 use Rattle.cell_lists.specs.Entries.{IsEntry, IsTargetAndSource}
 use Rattle.cell_lists.proofs.OneEntry.{only_entry}
-use Rattle.cert_text.specs.declared.Letter.{Letter}
-use Rattle.near_field.specs.DirectSum.{is_source}
-use Rattle.particle_text.specs.declared.Point.{Point}
+use Rattle.letters.specs.declared.Letter.{Letter}
+use Rattle.points.specs.Points.{is_source}
+use Rattle.points.specs.declared.Point.{Point}
 use Rattle.quadtree.specs.Tree.{AreInGrid, IsTreeCell}
 use Rattle.tree_field.specs.Field.{is_source_in}
 use Rattle.tree_field.specs.Lists.{TreeLists, AreTreeLists}

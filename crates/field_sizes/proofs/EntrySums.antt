@@ -8,9 +8,9 @@ use Rattle.exact_math.specs.Ends.{BoxEnds, BoxEndsWithin}
 use Rattle.complex_box.proofs.Sizes.{box_wider}
 use Rattle.cell_name.specs.Square.{Square}
 use Rattle.cell_lists.specs.Entries.{IsEntry}
-use Rattle.cert_text.specs.declared.Letter.{Letter}
-use Rattle.particle_text.specs.declared.Point.{Point}
-use Rattle.particle_text.specs.Limits.{weight64, total_weight}
+use Rattle.letters.specs.declared.Letter.{Letter}
+use Rattle.points.specs.declared.Point.{Point}
+use Rattle.points.specs.Limits.{weight64, total_weight}
 use Rattle.quadtree.specs.Tree.{IsTreeCell}
 use Rattle.row_recursions.specs.Sizes.{RowWithin}
 use Rattle.soundness.specs.Computed.{total_box, total_row}

@@ -9,10 +9,11 @@ use Rattle.kernel_table.specs.Kernel.{IsKernelDistance, kernel_entry}
 use Rattle.cell_name.specs.Square.{Square, side, parent}
 use Rattle.cell_name.proofs.Cells.{Touches-sym}
 use Rattle.cell_lists.specs.Entries.{IsVPair, IsWPair}
-use Rattle.cert_text.specs.declared.Letter.TheVariants.{V, X}
-use Rattle.particle_text.specs.declared.Point.{Point}
-use Rattle.particle_text.specs.Limits.{weight64, total_weight, size_of_gaussian}
-use Rattle.particle_text.specs.Points.{place, pole, dipole}
+use Rattle.letters.specs.declared.Letter.TheVariants.{V, X}
+use Rattle.points.specs.declared.Point.{Point}
+use Rattle.points.specs.Limits.{weight64, total_weight}
+use Rattle.exact_math.specs.Sizes.{abs_gaussian}
+use Rattle.points.specs.Points.{place, pole, dipole}
 use Rattle.quadtree.specs.Tree.{IsTreeCell}
 use Rattle.quadtree.proofs.Parents.{IsTreeCell-parent}
 use Rattle.row_recursions.specs.Rows.{converted, shifted_down}
@@ -34,7 +35,7 @@ use Rattle.field_sizes.specs.Sizes.{EntriesShareNoSource, IsLimited, RowSizes}
 
 -- ---- far sources
 far_within : (P : ℕ) (b : Square) (p : Point) → P ≤ 32 → IsFarFrom b (place p) → RowWithin P (2 ^ 40 * weight64 p) (far_coefficients_in b p)
-far_within P b p few far l lt = box_wider _ (2 ^ 40 * weight64 p) _ (heavier (suc l) (size_of_gaussian (pole p.kind)) (size_of_gaussian (dipole p.kind)) (omega arith))
+far_within P b p few far l lt = box_wider _ (2 ^ 40 * weight64 p) _ (heavier (suc l) (abs_gaussian (pole p.kind)) (abs_gaussian (dipole p.kind)) (omega arith))
     (far_source_within (side b) (pole p.kind) (dipole p.kind) (offset b (place p)) l (power_positive (b.grid - b.level)) far)
 
 far_total : (P : ℕ) (b : Square) (xs : List Point) → P ≤ 32 → All (λ p. IsFarFrom b (place p)) xs → RowWithin P (2 ^ 40 * sum_by weight64 xs) (total_row (far_coefficients_in b) xs)

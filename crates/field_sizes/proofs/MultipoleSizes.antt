@@ -6,9 +6,10 @@ use Rattle.std.proofs.lemmas.List.Elements.{All-weaker, All-filter}
 use Rattle.exact_math.specs.Ends.{BoxEnds}
 use Rattle.complex_box.proofs.Sizes.{box_wider}
 use Rattle.cell_name.specs.Square.{Square, side}
-use Rattle.particle_text.specs.declared.Point.{Point}
-use Rattle.particle_text.specs.Limits.{weight64, total_weight, size_of_gaussian}
-use Rattle.particle_text.specs.Points.{place, pole, dipole}
+use Rattle.points.specs.declared.Point.{Point}
+use Rattle.points.specs.Limits.{weight64, total_weight}
+use Rattle.exact_math.specs.Sizes.{abs_gaussian}
+use Rattle.points.specs.Points.{place, pole, dipole}
 use Rattle.quadtree.specs.Splitting.{quarters}
 use Rattle.quadtree.proofs.TreeCells.{IsQuarter, quarters_are}
 use Rattle.row_recursions.specs.Rows.{shifted_up}
@@ -29,7 +30,7 @@ heavier k a b h = let m = mul-le-mul_right b h in omega arith
 
 -- the moments of a point in the cell
 moments_within : (P : ℕ) (c : Square) (p : Point) → P ≤ 64 → IsHeld c p → RowWithin P (2 ^ 40 * weight64 p) (moments_in c p)
-moments_within P c p few h k lt = box_wider _ (2 ^ 40 * weight64 p) _ (heavier k (size_of_gaussian (pole p.kind)) (size_of_gaussian (dipole p.kind)) (omega arith))
+moments_within P c p few h k lt = box_wider _ (2 ^ 40 * weight64 p) _ (heavier k (abs_gaussian (pole p.kind)) (abs_gaussian (dipole p.kind)) (omega arith))
     (source_moment_within (side c) (pole p.kind) (dipole p.kind) (offset c (place p)) k (power_positive (c.grid - c.level)) (held_places c p.x p.y h))
 
 pub sources_within : (P : ℕ) (c : Square) (xs : List Point) → P ≤ 64 → All (IsHeld c) xs → RowWithin P (2 ^ 40 * sum_by weight64 xs) (total_row (moments_in c) xs)

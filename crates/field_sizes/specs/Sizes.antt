@@ -3,10 +3,10 @@ use Rattle.std.specs.Prelude.{ℕ, ◌<◌, ◌≤◌, ◌^◌, List, All, sum_b
 use Rattle.exact_math.specs.Ends.{BoxEndsWithin}
 use Rattle.exact_math.specs.Orders.{IsOrder}
 use Rattle.cell_name.specs.Square.{Square}
-use Rattle.cert_text.specs.declared.Letter.{Letter}
-use Rattle.particle_text.specs.Limits.{most_weight, total_weight}
-use Rattle.particle_text.specs.Points.{place}
-use Rattle.particle_text.specs.declared.Point.{Point}
+use Rattle.letters.specs.declared.Letter.{Letter}
+use Rattle.points.specs.Limits.{most_weight, total_weight}
+use Rattle.points.specs.Points.{place}
+use Rattle.points.specs.declared.Point.{Point}
 use Rattle.quadtree.specs.Tree.{AreInGrid, IsTreeCell}
 use Rattle.row_recursions.specs.Sizes.{RowWithin}
 use Rattle.tree_field.specs.Field.{sources_in, targets, weight_in, multipole_row, local_row, local_radius, target_box}

@@ -9,9 +9,9 @@ use Rattle.exact_math.specs.Orders.{IsOrder}
 use Rattle.field_report.proofs.Bounds.{CountsContain-box}
 use Rattle.field_report.specs.FieldText.{field_line}
 use Rattle.near_field.specs.DirectSum.{direct_sum}
-use Rattle.particle_text.specs.Points.{place}
-use Rattle.particle_text.specs.declared.Mode.{Mode}
-use Rattle.particle_text.specs.declared.Point.{Point}
+use Rattle.points.specs.Points.{place}
+use Rattle.points.specs.declared.Mode.{Mode}
+use Rattle.points.specs.declared.Point.{Point}
 use Rattle.quadtree.proofs.Limits.{in_grid}
 use Rattle.quadtree.specs.Tree.{AreInGrid}
 use Rattle.tree_field.proofs.Whole.{field_contains}

@@ -3,7 +3,7 @@ use Rattle.std.proofs.Common.{◌≡◌, subst, sym, refl, arith, ℕ, ◌⊎◌
 use Rattle.std.specs.declared.option.Option.{Option}
 use Rattle.particle_text.proofs.OneFault.{never_both}
 use Rattle.particle_text.proofs.OneText.{one_list}
-use Rattle.particle_text.specs.declared.Point.{Point}
+use Rattle.points.specs.declared.Point.{Point}
 use Rattle.quadtree.specs.Faults.{most_cells, HasMoreCells, NoneIsCrowded}
 use Rattle.fmm_program.specs.Answers.{HasDepth, SolveEnds}
 use Rattle.fmm_program.specs.declared.status.Status.{Status}

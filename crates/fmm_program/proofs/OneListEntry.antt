@@ -4,7 +4,7 @@ use Rattle.std.specs.Prelude.{Contains}
 use Rattle.std.proofs.lemmas.List.Elements.{All-contains}
 use Rattle.cell_lists.specs.Entries.{IsEntry, IsTargetAndSource}
 use Rattle.cell_lists.proofs.OneEntry.{each_pair_has_one_entry, in_tree_of}
-use Rattle.particle_text.specs.declared.Point.{Point}
+use Rattle.points.specs.declared.Point.{Point}
 use Rattle.quadtree.specs.Tree.{AreInGrid, IsTreeCell}
 use Rattle.tree_field.specs.Lists.{TreeLists, AreTreeLists}
 use Rattle.fmm_program.specs.Answers.{HasOneListEntry}

@@ -7,8 +7,8 @@ use Rattle.field_report.specs.FieldText.{field_text}
 use Rattle.io_ports.specs.Bytes.{AppendsPrefix, GivesAll}
 use Rattle.particle_text.specs.Faults.{FirstFault}
 use Rattle.particle_text.specs.Text.{Spells}
-use Rattle.particle_text.specs.declared.Mode.{Mode}
-use Rattle.particle_text.specs.declared.Point.{Point}
+use Rattle.points.specs.declared.Mode.{Mode}
+use Rattle.points.specs.declared.Point.{Point}
 use Rattle.particle_text.specs.declared.TextKind.{TextKind}
 use Rattle.quadtree.proofs.Limits.{in_grid}
 use Rattle.quadtree.specs.Faults.{most_cells, HasMoreCells, IsFaultOf, NoneIsCrowded}

@@ -5,8 +5,8 @@ use Rattle.std.specs.Io.KnownBytes.{Appends}
 use Rattle.std.specs.declared.option.Option.{Option}
 use Rattle.cell_name.specs.Cell.{square}
 use Rattle.io_ports.specs.Bytes.{AppendsPrefix}
-use Rattle.particle_text.specs.Limits.{InRange}
-use Rattle.particle_text.specs.declared.Point.{Point}
+use Rattle.points.specs.Limits.{InRange}
+use Rattle.points.specs.declared.Point.{Point}
 use Rattle.point_sample.specs.Sample.{sample_list, sample_point}
 use Rattle.quadtree.proofs.Limits.{in_grid}
 use Rattle.quadtree.specs.Faults.{most_cells, HasMoreCells, IsFaultOf, NoneIsCrowded}

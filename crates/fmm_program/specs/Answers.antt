@@ -4,17 +4,17 @@ use Rattle.std.specs.List.{AllZip}
 use Rattle.std.specs.Io.KnownBytes.{Appends}
 use Rattle.std.specs.declared.option.Option.{Option}
 use Rattle.cell_lists.specs.Entries.{Accounts, IsTargetAndSource}
-use Rattle.cert_text.specs.declared.Letter.{Letter}
+use Rattle.letters.specs.declared.Letter.{Letter}
 use Rattle.cell_name.specs.Cell.{square}
 use Rattle.cell_name.specs.Square.{Square}
-use Rattle.cert_text.specs.declared.Letter.TheVariants.{V}
+use Rattle.letters.specs.declared.Letter.TheVariants.{V}
 use Rattle.io_ports.specs.Bytes.{AppendsPrefix}
 use Rattle.near_field.specs.DirectSum.{direct_sum}
 use Rattle.particle_text.specs.Faults.{FirstFault}
-use Rattle.particle_text.specs.Points.{place}
+use Rattle.points.specs.Points.{place}
 use Rattle.particle_text.specs.Text.{Spells}
-use Rattle.particle_text.specs.declared.Mode.{Mode}
-use Rattle.particle_text.specs.declared.Point.{Point}
+use Rattle.points.specs.declared.Mode.{Mode}
+use Rattle.points.specs.declared.Point.{Point}
 use Rattle.particle_text.specs.declared.TextKind.{TextKind}
 use Rattle.particle_text.specs.declared.TextKind.TheVariants.{Syntax, Range, Mixed, Many, Strength}
 use Rattle.quadtree.specs.Faults.{most_cells, HasMoreCells, HasTooManyCells, IsFirstCrowded, NoneIsCrowded}

@@ -2,7 +2,7 @@
 use Rattle.std.specs.Prelude.{ℕ, ◌≡◌, ◌^◌, ◌<◌, ◌≤◌, List, [], ◌∷◌, codes}
 use Rattle.exact_math.specs.Orders.{IsOrder, IsCapacity}
 use Rattle.number_text.specs.Numbers.{IsUint}
-use Rattle.particle_text.specs.Limits.{most_points}
+use Rattle.points.specs.Limits.{most_points}
 
 -- the words are `sample SEED N ORDER CAP`
 pub record IsSample (words : List (List ℕ)) (seed n order cap : ℕ) : Type 0 where

@@ -6,7 +6,7 @@ ghost use Rattle.fmm_program.specs.Answers.{DepthEnds, RefusalEnds, crowded_line
 
 use crate::status::Status;
 use cell_name::Cell;
-use field_report::FrontText;
+use line_text::FrontText;
 use io_ports::{Sink, put};
 use particle_text::TextKind;
 use solve_phase::SolveFault;

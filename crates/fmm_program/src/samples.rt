@@ -2,7 +2,7 @@
 ghost use Rattle.std.specs.Prelude.{◌≡◌, ℕ, ◌≤◌, IfSome, IfNone};
 ghost use Rattle.exact_math.specs.Orders.{IsCapacity, IsOrder};
 ghost use Rattle.io_ports.specs.Faults.{Rose};
-ghost use Rattle.particle_text.specs.Limits.{WithinLimits, most_points};
+ghost use Rattle.points.specs.Limits.{WithinLimits, most_points};
 ghost use Rattle.point_sample.specs.Sample.{sample_list};
 ghost use Rattle.fmm_program.specs.SampleAnswers.{SampleEnds};
 ghost use Rattle.fmm_program.specs.Samples.{IsSample, IsNoSample};
@@ -11,7 +11,7 @@ use crate::refusals::refuse_depth;
 use crate::status::Status;
 use crate::words::{Words, capacity_of, number_in, order_of};
 use io_ports::Sink;
-use particle_text::Points;
+use points::Points;
 use point_sample::sample_points;
 use sample_summary::write_summary;
 use std::alloc::Global;

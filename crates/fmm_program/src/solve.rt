@@ -4,7 +4,7 @@ ghost use Rattle.std.specs.Io.KnownBytes.{Appends, Consumes};
 ghost use Rattle.exact_math.specs.Orders.{IsCapacity, IsOrder};
 ghost use Rattle.io_ports.specs.Bytes.{AppendsPrefix};
 ghost use Rattle.io_ports.specs.Faults.{Rose};
-ghost use Rattle.particle_text.specs.Limits.{WithinLimits};
+ghost use Rattle.points.specs.Limits.{WithinLimits};
 ghost use Rattle.particle_text.specs.Text.{Spells};
 ghost use Rattle.fmm_program.specs.Answers.{IsSolveStatus, SolveEnds, most_input};
 
@@ -12,7 +12,8 @@ use crate::refusals::{refuse, refuse_depth, refuse_text};
 use crate::status::Status;
 use field_report::write_report;
 use io_ports::{InFault, Sink, Source, read_all};
-use particle_text::{ParseFault, Points, parse};
+use particle_text::{ParseFault, parse};
+use points::Points;
 use std::alloc::Global;
 
 /// The greatest number of bytes of an input.

@@ -6,14 +6,13 @@ use lib.IntN.{ℤ, pos}
 use Rattle.std.proofs.Common.{List, length, get_or, take, drop}
 use Rattle.std.proofs.lemmas.Int.{ints}
 use Rattle.std.proofs.lemmas.List.{get_or-take, get_or-drop, length-take-le, length-drop}
-use Rattle.exact_math.specs.Ends.{BoxEnds, BoxEndsWithin, BoxEndsContain, scale_box, quot_box}
+use Rattle.exact_math.specs.Ends.{BoxEnds, BoxEndsWithin, BoxEndsContain, scale_box, quot_box, BoxEndsNarrow}
 use Rattle.exact_math.specs.Binomials.{choose}
 use Rattle.exact_math.specs.Gaussian.{Gaussian}
 use Rattle.exact_math.specs.Orders.{IsOrder}
 use Rattle.complex_box.specs.Box.{box_ends}
 use Rattle.complex_box.specs.declared.CBox.{CBox}
 use Rattle.kernel_table.specs.Kernel.{IsKernelDistance, kernel_power, kernel_entry, alternate_box, kernel_fraction}
-use Rattle.exact_math.specs.Ends.{BoxEndsNarrow}
 use Rattle.kernel_table.specs.Table.{distance_at, IsKernelTable, IsKernelColumn}
 use Rattle.kernel_table.proofs.Contained.{kernel_entry_contains}
 use Rattle.kernel_table.proofs.Norms.{squares}

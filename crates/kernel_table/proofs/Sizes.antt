@@ -7,7 +7,7 @@ use lib.IntN.{ℤ, pos, negsuc, neg_ℤ, ◌+ℤ◌, ◌-ℤ◌, ◌*ℤ◌}
 use lib.Signed.{◌<ℤ◌, ◌≤ℤ◌}
 use Rattle.std.proofs.lemmas.Int.{ints, clamps}
 use Rattle.exact_math.specs.Contains.{Contains}
-use Rattle.exact_math.specs.Ends.{Ends, BoxEnds, add_ends, sub_ends, neg_ends, scale_ends, scale_box, quot_ends, EndsWithin, BoxEndsWithin}
+use Rattle.exact_math.specs.Ends.{Ends, BoxEnds, add_ends, sub_ends, neg_ends, scale_ends, scale_box, quot_ends, EndsWithin, BoxEndsWithin, EndsNarrow}
 use Rattle.exact_math.specs.Gaussian.{Gaussian, norm_gaussian}
 use Rattle.exact_math.specs.Ratio.{Ratio, ComplexRatio, mul_complex}
 use Rattle.exact_math.specs.Rounding.{floor_div}
@@ -21,7 +21,6 @@ use Rattle.exact_math.proofs.Enclosures.{floor_div_le}
 use Rattle.complex_box.specs.Box.{GscaleFits}
 use Rattle.kernel_table.specs.Kernel.{IsKernelDistance, kernel_power, kernel_entry, alternate_box}
 use Rattle.truncation.specs.CutTerms.{reciprocal}
-use Rattle.exact_math.specs.Ends.{EndsNarrow}
 use Rattle.kernel_table.proofs.Contained.{kernel_power_contains}
 use Rattle.kernel_table.proofs.PowersOfTwo.{two_power, power_positive, power_add, choose_le}
 use Rattle.kernel_table.proofs.Widths.{norm_count-is, norm_count≥4, widths, widths_le, kernel_power_narrow, floor_div_gt, at_most}

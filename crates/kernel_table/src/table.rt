@@ -1,10 +1,9 @@
 //! The table of the kernel's entries.
 ghost use Rattle.std.specs.Prelude.{◌≡◌, ◌+◌, ◌*◌, ◌^◌, ◌≤◌, ◌<◌, pos, length, vec_len, IfOk, OnOk};
-ghost use Rattle.exact_math.specs.Ends.{BoxEndsWithin, BoxEndsContain};
+ghost use Rattle.exact_math.specs.Ends.{BoxEndsWithin, BoxEndsContain, BoxEndsNarrow};
 ghost use Rattle.exact_math.specs.Orders.{IsOrder};
 ghost use Rattle.complex_box.specs.Box.{box_ends, number};
 ghost use Rattle.kernel_table.specs.Kernel.{IsKernelDistance, kernel_entry, kernel_fraction};
-ghost use Rattle.exact_math.specs.Ends.{BoxEndsNarrow};
 ghost use Rattle.kernel_table.specs.Table.{AreWays, IsKernelTable, IsKernelColumn};
 
 use crate::binomials::binomial;

@@ -5,7 +5,7 @@ use Rattle.cell_name.specs.Cell.{square}
 use Rattle.cell_name.specs.Square.{side, corner_x, corner_y, Holds}
 use Rattle.cell_name.specs.declared.cell.Cell.{Cell}
 use Rattle.cell_name.proofs.Cells.{inside_from_name}
-use Rattle.particle_text.specs.Limits.{InGrid, IsCoordinate}
+use Rattle.points.specs.Limits.{InGrid, IsCoordinate}
 
 -- they are in the grid
 between : (x c s : ℤ) → neg_ℤ (pos (2 ^ 15)) ≤ℤ c → (c +ℤ s) ≤ℤ pos (2 ^ 15) → c ≤ℤ x → x <ℤ (c +ℤ s) → IsCoordinate 16 x

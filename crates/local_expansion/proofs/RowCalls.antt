@@ -8,9 +8,10 @@ use Rattle.exact_math.specs.Orders.{IsOrder}
 use Rattle.exact_math.specs.Ratio.{ComplexRatio, add_complex}
 use Rattle.complex_box.proofs.Sizes.{box_wider}
 use Rattle.cell_name.specs.declared.cell.Cell.{Cell}
-use Rattle.particle_text.specs.Limits.{size_of_gaussian, weight64}
-use Rattle.particle_text.specs.Points.{place, pole, dipole}
-use Rattle.particle_text.specs.declared.Point.{Point}
+use Rattle.points.specs.Limits.{weight64}
+use Rattle.exact_math.specs.Sizes.{abs_gaussian}
+use Rattle.points.specs.Points.{place, pole, dipole}
+use Rattle.points.specs.declared.Point.{Point}
 use Rattle.truncation.specs.Entries.{local_cut}
 use Rattle.truncation.specs.Places.{GaussianBeyond, doubled_offset}
 use Rattle.row_recursions.specs.Cells.{side_of, centre_of, offset_from, far_coefficients_of}
@@ -47,7 +48,7 @@ module _ (P : ℕ) (c : Cell) (p : Point) (order : IsOrder P) (far : GaussianBey
   pub far_within : RowWithin P (2 ^ 40 * weight64 p) (far_coefficients_of c p)
   far_within l h =
       let few = order_small P order in
-      box_wider _ (2 ^ 40 * weight64 p) _ (heavier l (size_of_gaussian (pole p.kind)) (size_of_gaussian (dipole p.kind)) (omega arith))
+      box_wider _ (2 ^ 40 * weight64 p) _ (heavier l (abs_gaussian (pole p.kind)) (abs_gaussian (dipole p.kind)) (omega arith))
       (far_source_within (side_of c) (pole p.kind) (dipole p.kind) (offset_from c (place p)) l (side_positive c) far)
 
   -- it holds the cut term of the point's source

@@ -3,8 +3,8 @@ ghost use Rattle.std.specs.Prelude.{◌≡◌, suc, ◌*◌, ◌^◌, ◌≤◌,
 ghost use Rattle.exact_math.specs.Ends.{BoxEndsWithin, neg_box, scale_box};
 ghost use Rattle.truncation.specs.Places.{GaussianWithin, GaussianBeyond};
 ghost use Rattle.complex_box.specs.Box.{box_ends, number};
-ghost use Rattle.particle_text.specs.Limits.{InRange};
-ghost use Rattle.particle_text.specs.Points.{place};
+ghost use Rattle.points.specs.Limits.{InRange};
+ghost use Rattle.points.specs.Points.{place};
 ghost use Rattle.row_recursions.specs.Cells.{side_of, offset_from, far_coefficients_of};
 ghost use Rattle.row_recursions.specs.Rows.{row_of, RowsAdd};
 ghost use Rattle.row_recursions.specs.Sizes.{RowWithin};
@@ -12,7 +12,7 @@ ghost use Rattle.local_expansion.specs.FarPowers.{far_powers};
 
 use cell_name::Cell;
 use complex_box::{CBox, Gauss};
-use particle_text::{Kind, Point};
+use points::{Kind, Point};
 use row_recursions::{far_ratio, offset, side_bits, units};
 
 /// Adds the negatives of the powers after `first`.

@@ -2,14 +2,14 @@
 ghost use Rattle.std.specs.Prelude.{◌^◌, ◌≤ℤ◌};
 ghost use Rattle.exact_math.specs.Within.{Within};
 ghost use Rattle.complex_box.specs.Box.{BoxWithin};
-ghost use Rattle.particle_text.specs.Limits.{HasStrength};
+ghost use Rattle.points.specs.Limits.{HasStrength};
 
 use super::{add_far_source, at_local, convert};
 use cell_name::Cell;
 use complex_box::{CBox, Gauss, Row, Work};
 use fixed_interval::Interval;
 use kernel_table::Kernel;
-use particle_text::{Kind, Point};
+use points::{Kind, Point};
 use std::process::Abort;
 use std::test::Fail;
 

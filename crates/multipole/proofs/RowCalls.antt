@@ -9,9 +9,9 @@ use Rattle.complex_box.proofs.Sizes.{box_wider, add_box_within}
 use Rattle.cell_name.specs.Cell.{square}
 use Rattle.cell_name.specs.Square.{Holds}
 use Rattle.cell_name.specs.declared.cell.Cell.{Cell}
-use Rattle.particle_text.specs.Limits.{InRange, weight64}
-use Rattle.particle_text.specs.Points.{place, pole, dipole}
-use Rattle.particle_text.specs.declared.Point.{Point}
+use Rattle.points.specs.Limits.{InRange, weight64}
+use Rattle.points.specs.Points.{place, pole, dipole}
+use Rattle.points.specs.declared.Point.{Point}
 use Rattle.truncation.specs.Entries.{Source, multipole_cut}
 use Rattle.truncation.specs.Places.{GaussianBeyond, doubled_offset}
 use Rattle.row_recursions.specs.Cells.{side_of, centre_of, offset_from, moments_of}

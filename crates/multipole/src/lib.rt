@@ -15,7 +15,7 @@ ghost use Rattle.truncation.specs.Places.{GaussianBeyond};
 ghost use Rattle.complex_box.specs.Box.{box_ends};
 ghost use Rattle.cell_name.specs.Cell.{square};
 ghost use Rattle.cell_name.specs.Square.{Holds};
-ghost use Rattle.particle_text.specs.Limits.{InGrid, InRange, weight64};
+ghost use Rattle.points.specs.Limits.{InGrid, InRange, weight64};
 ghost use Rattle.row_recursions.specs.Cells.{side_of, centre_of, offset_from, moments_of};
 ghost use Rattle.row_recursions.specs.Moments.{HoldsMoments};
 ghost use Rattle.row_recursions.specs.Rows.{row_of, RowsAdd, HasPart, multipole_value};
@@ -30,7 +30,7 @@ mod values;
 use cell_name::Cell;
 use complex_box::{CBox, Row};
 use moments::fill_moments;
-use particle_text::Point;
+use points::Point;
 use row_recursions::{add_row, offset, side_bits, take_row};
 use values::value_at;
 

@@ -5,14 +5,14 @@ ghost use Rattle.truncation.specs.Places.{GaussianWithin};
 ghost use Rattle.complex_box.specs.Box.{box_ends, number};
 ghost use Rattle.cell_name.specs.Cell.{square};
 ghost use Rattle.cell_name.specs.Square.{Holds};
-ghost use Rattle.particle_text.specs.Limits.{InRange};
+ghost use Rattle.points.specs.Limits.{InRange};
 ghost use Rattle.row_recursions.specs.Cells.{moments_of};
 ghost use Rattle.row_recursions.specs.Rows.{row_of};
 ghost use Rattle.multipole.specs.Powers.{powers, slopes};
 
 use cell_name::Cell;
 use complex_box::{CBox, Gauss, clear};
-use particle_text::{Kind, Point};
+use points::{Kind, Point};
 use row_recursions::{offset, side_bits, units};
 
 /// The next power: times `o/2^shift`, rounded outward.

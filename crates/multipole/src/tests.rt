@@ -1,10 +1,10 @@
 //! Rows that are known from elsewhere: sources on the border of a cell go in and out again, and a far value.
-ghost use Rattle.particle_text.specs.Limits.{HasStrength};
+ghost use Rattle.points.specs.Limits.{HasStrength};
 
 use super::{add_source, at_multipole, take_source};
 use cell_name::Cell;
 use complex_box::{CBox, Row};
-use particle_text::{Kind, Point};
+use points::{Kind, Point};
 use std::process::Abort;
 
 fn is(rt: &impl Abort, got: CBox, re: (i128, i128), im: (i128, i128)) {

@@ -4,8 +4,8 @@ use Rattle.std.proofs.lemmas.Int.{ints}
 use Rattle.exact_math.specs.Ends.{BoxEnds, BoxEndsContain, BoxEndsNarrow, BoxEndsWithin, zero_box}
 use Rattle.exact_math.specs.Gaussian.{Gaussian, gaussian}
 use Rattle.exact_math.specs.Ratio.{ComplexRatio}
-use Rattle.particle_text.specs.Limits.{InGrid, InRange, weight64}
-use Rattle.particle_text.specs.declared.Point.{Point}
+use Rattle.points.specs.Limits.{InGrid, InRange, weight64}
+use Rattle.points.specs.declared.Point.{Point}
 use Rattle.near_field.specs.Pair.{is_at, outward, pair_box, term_at, term_of}
 use Rattle.near_field.proofs.PairContains.{distance_positive, term_denominator, pair_box-contains}
 use Rattle.near_field.proofs.PairSizes.{pair_box-narrow, pair_box-within}

@@ -9,11 +9,11 @@ use Rattle.exact_math.specs.Gaussian.{Gaussian, gaussian, sub_gaussian, norm_gau
 use Rattle.exact_math.specs.Ratio.{ComplexRatio, re_part, im_part}
 use Rattle.exact_math.proofs.Integers.{*-positive, *-nonneg}
 use Rattle.exact_math.proofs.Bridges.{contains-rounded}
-use Rattle.particle_text.specs.Points.{place}
-use Rattle.particle_text.specs.declared.Kind.{Kind}
-use Rattle.particle_text.specs.declared.Kind.TheVariants.{Charge, Dipole, Vortex, Target}
-use Rattle.particle_text.specs.declared.Point.{Point}
-use Rattle.near_field.specs.DirectSum.{is_source, acts_on}
+use Rattle.points.specs.Points.{place, is_source}
+use Rattle.points.specs.declared.Kind.{Kind}
+use Rattle.points.specs.declared.Kind.TheVariants.{Charge, Dipole, Vortex, Target}
+use Rattle.points.specs.declared.Point.{Point}
+use Rattle.near_field.specs.DirectSum.{acts_on}
 use Rattle.near_field.specs.Pair.{is_at, term_at, term_of, outward, pair_box}
 
 -- ---- the denominators are above 0

@@ -13,11 +13,12 @@ use Rattle.exact_math.proofs.Enclosures.{floor_div_le, ceil_div_ge}
 use Rattle.exact_math.proofs.Ring.{int_ring}
 use Rattle.exact_math.proofs.RingTactic.{int_quotes, ring1, ring2, ring3, ring4}
 use Rattle.exact_math.proofs.WholeSizes.{within-floor, within-ceil, floor_near}
-use Rattle.particle_text.specs.Limits.{weight64, size_of_gaussian}
-use Rattle.particle_text.specs.Points.{pole, dipole}
-use Rattle.particle_text.specs.declared.Kind.{Kind}
-use Rattle.particle_text.specs.declared.Kind.TheVariants.{Charge, Dipole, Vortex, Target}
-use Rattle.particle_text.specs.declared.Point.{Point}
+use Rattle.points.specs.Limits.{weight64}
+use Rattle.exact_math.specs.Sizes.{abs_gaussian}
+use Rattle.points.specs.Points.{pole, dipole}
+use Rattle.points.specs.declared.Kind.{Kind}
+use Rattle.points.specs.declared.Kind.TheVariants.{Charge, Dipole, Vortex, Target}
+use Rattle.points.specs.declared.Point.{Point}
 use Rattle.near_field.specs.Pair.{is_at, term_at, term_of, outward, pair_box}
 use Rattle.near_field.proofs.TermSizes.{pole_re, dipole_re, squared}
 use Rattle.near_field.proofs.PairContains.{distance_positive, term_denominator}
@@ -158,7 +159,7 @@ term_weaker : (l m : ℕ) (z : ComplexRatio) → pos 0 <ℤ z.denominator → l 
 term_weaker l m z h k w = record { re = bounded-weaker l m _ _ h k w.re; im = bounded-weaker l m _ _ h k w.im }
 
 abbrev weight_of : Kind → ℕ
-weight_of k = size_of_gaussian (pole k) + 64 * size_of_gaussian (dipole k)
+weight_of k = abs_gaussian (pole k) + 64 * abs_gaussian (dipole k)
 
 -- a term is at most the weight of its source in size
 pub term_bounded : (k : Kind) (x y : ℤ) → pos 0 <ℤ norm_gaussian (gaussian x y) → TermBounded (weight_of k) (term_at k (gaussian x y))

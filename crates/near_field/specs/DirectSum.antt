@@ -1,18 +1,10 @@
 -- The exact sum at a place: the quantity that every printed interval contains.
-use Rattle.std.specs.Prelude.{Bool, true, false, not, ◌&&◌, List, filter, fold}
+use Rattle.std.specs.Prelude.{Bool, not, ◌&&◌, List, filter, fold}
 use Rattle.exact_math.specs.Gaussian.{Gaussian}
 use Rattle.exact_math.specs.Ratio.{ComplexRatio, zero_complex, add_complex}
-use Rattle.particle_text.specs.declared.Kind.{Kind}
-use Rattle.particle_text.specs.declared.Kind.TheVariants.{Charge, Dipole, Vortex, Target}
-use Rattle.particle_text.specs.declared.Point.{Point}
+use Rattle.points.specs.declared.Point.{Point}
+use Rattle.points.specs.Points.{is_source}
 use Rattle.near_field.specs.Pair.{is_at, term_of}
-
--- a charge, a dipole or a vortex
-abbrev pub is_source : Kind → Bool
-is_source (Charge q) = true
-is_source (Dipole re im) = true
-is_source (Vortex g) = true
-is_source Target = false
 
 -- a source at another place than t
 abbrev pub acts_on : Gaussian → Point → Bool

@@ -2,24 +2,27 @@
 use Rattle.std.specs.Prelude.{pos, ◌*ℤ◌, Bool, ◌&&◌, if◌then◌else◌, ◌^◌}
 use Rattle.std.specs.Ordering.{int_eq}
 use Rattle.exact_math.specs.Ends.{BoxEnds, zero_box, point_box, quot_box}
-use Rattle.exact_math.specs.Gaussian.{Gaussian, sub_gaussian}
+use Rattle.exact_math.specs.Gaussian.{Gaussian, gaussian, sub_gaussian}
 use Rattle.exact_math.specs.Ratio.{ComplexRatio, zero_complex}
 use Rattle.exact_math.specs.Terms.{pole_term, dipole_term}
-use Rattle.particle_text.specs.declared.Kind.{Kind}
-use Rattle.particle_text.specs.declared.Kind.TheVariants.{Charge, Dipole, Vortex, Target}
-use Rattle.particle_text.specs.declared.Point.{Point}
-use Rattle.particle_text.specs.Points.{place, pole, dipole}
+use Rattle.points.specs.declared.Kind.{Kind}
+use Rattle.points.specs.declared.Strength.{Strength}
+use Rattle.points.specs.declared.Strength.TheVariants.{Pole, Dipole, Nothing}
+use Rattle.points.specs.declared.Point.{Point}
+use Rattle.points.specs.Points.{place, strength}
 
 -- whether the point is at the place t
 abbrev pub is_at : Gaussian → Point → Bool
 is_at t p = int_eq p.x t.re && int_eq p.y t.im
 
--- a/delta of a charge or a vortex, b/delta^2 of a dipole, nothing of a target
+-- a/delta of a pole, b/delta^2 of a dipole
+abbrev pub strength_term : Strength → Gaussian → ComplexRatio
+strength_term (Pole re im) delta = pole_term (gaussian re im) delta
+strength_term (Dipole re im) delta = dipole_term (gaussian re im) delta
+strength_term Nothing delta = zero_complex
+
 abbrev pub term_at : Kind → Gaussian → ComplexRatio
-term_at (Charge q) delta = pole_term (pole (Charge q)) delta
-term_at (Dipole re im) delta = dipole_term (dipole (Dipole re im)) delta
-term_at (Vortex g) delta = pole_term (pole (Vortex g)) delta
-term_at Target delta = zero_complex
+term_at k delta = strength_term (strength k) delta
 
 -- what the point contributes at t, a place other than its own; the distance is target minus source
 abbrev pub term_of : Gaussian → Point → ComplexRatio

@@ -5,7 +5,7 @@ ghost use Rattle.std.specs.Prelude.{◌≡◌, ℕ, ◌+◌, ◌*◌, ◌^◌, �
 ghost use Rattle.exact_math.specs.Ends.{BoxEndsContain, BoxEndsNarrow, BoxEndsWithin};
 ghost use Rattle.exact_math.specs.Gaussian.{gaussian, norm_gaussian};
 ghost use Rattle.complex_box.specs.Box.{box_ends};
-ghost use Rattle.particle_text.specs.Limits.{InGrid, InRange, weight64};
+ghost use Rattle.points.specs.Limits.{InGrid, InRange, weight64};
 ghost use Rattle.near_field.specs.Pair.{is_at, outward, pair_box, term_of};
 ghost use Rattle.near_field.specs.Term.{ratio_of};
 
@@ -14,7 +14,7 @@ mod term;
 mod tests;
 
 use complex_box::{CBox, Work};
-use particle_text::Point;
+use points::Point;
 use term::{contribution, enclosed};
 
 /// Whether the point is at the place `(x, y)`.

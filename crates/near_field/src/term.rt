@@ -2,14 +2,14 @@
 ghost use Rattle.std.specs.Prelude.{◌≡◌, ℕ, ◌*◌, ◌+◌, ◌^◌, ◌⊎◌, ◌≢◌, ℤ, pos, ◌+ℤ◌, ◌-ℤ◌, ◌*ℤ◌, ◌<ℤ◌, ◌≤ℤ◌};
 ghost use Rattle.exact_math.specs.Gaussian.{gaussian, norm_gaussian};
 ghost use Rattle.exact_math.specs.Within.{Within};
-ghost use Rattle.particle_text.specs.Limits.{InRange, weight64};
+ghost use Rattle.points.specs.Limits.{InRange, weight64};
 ghost use Rattle.exact_math.specs.Terms.{pole_term, dipole_term};
 ghost use Rattle.complex_box.specs.Box.{box_ends};
 ghost use Rattle.near_field.specs.Pair.{outward, term_at};
 ghost use Rattle.near_field.specs.Term.{ratio_of};
 
 use complex_box::CBox;
-use particle_text::{Kind, Point};
+use points::{Kind, Point};
 
 /// How many units a box counts in 1.
 const UNIT: i128 = 1_099_511_627_776;

@@ -1,7 +1,7 @@
 //! Pairs worked by hand: thirds, dipoles, vortices, one place.
 use super::pair;
 use complex_box::{CBox, Work};
-use particle_text::{Kind, Point};
+use points::{Kind, Point};
 use std::process::Abort;
 
 const ONE: i128 = 1_099_511_627_776;

@@ -1,10 +1,10 @@
 -- What is wrong with one line is one kind.
 use Rattle.std.proofs.Common.{◌≡◌, ℕ, List, subst, refl}
-use Rattle.particle_text.specs.declared.Point.{Point}
+use Rattle.points.specs.declared.Point.{Point}
 use Rattle.particle_text.specs.declared.TextKind.{TextKind}
 use Rattle.particle_text.specs.declared.TextKind.TheVariants.{Syntax, Range, Mixed, Many, Strength}
 use Rattle.particle_text.specs.Faults.{FormFault}
-use Rattle.particle_text.specs.Limits.{InRange}
+use Rattle.points.specs.Limits.{InRange}
 use Rattle.particle_text.specs.Text.{LineSpells}
 use Rattle.particle_text.proofs.OneForm.{one_form}
 

@@ -4,9 +4,9 @@ use Rattle.std.specs.Prelude.{codes}
 use Rattle.number_text.specs.Numbers.{AreInts}
 use Rattle.number_text.specs.Parts.{IsCut}
 use Rattle.number_text.proofs.Cuts.{same_cut}
-use Rattle.particle_text.specs.declared.Kind.{Kind}
-use Rattle.particle_text.specs.declared.Kind.TheVariants.{Charge, Dipole, Vortex, Target}
-use Rattle.particle_text.specs.declared.Point.{Point}
+use Rattle.points.specs.declared.Kind.{Kind}
+use Rattle.points.specs.declared.Kind.TheVariants.{Charge, Dipole, Vortex, Target}
+use Rattle.points.specs.declared.Point.{Point}
 use Rattle.particle_text.specs.declared.line.Form.{Form}
 use Rattle.particle_text.specs.declared.line.Form.TheVariants as forms
 use Rattle.particle_text.specs.Forms.{word_of}

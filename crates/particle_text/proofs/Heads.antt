@@ -4,8 +4,8 @@ use Rattle.std.specs.Prelude.{not, ◌==◌, ◌&&◌}
 use Rattle.std.specs.List.{list_all}
 use Rattle.std.proofs.lemmas.Bool.Decides.{nat_tests}
 use Rattle.number_text.specs.Parts.{IsCut, IsFreeOf}
-use Rattle.particle_text.specs.declared.Mode.{Mode}
-use Rattle.particle_text.specs.declared.Mode.TheVariants.{Field, Velocity}
+use Rattle.points.specs.declared.Mode.{Mode}
+use Rattle.points.specs.declared.Mode.TheVariants.{Field, Velocity}
 use Rattle.particle_text.specs.Text.{head_line}
 
 both : (a b : Bool) → (a && b) ≡ true → (a ≡ true) × (b ≡ true)

@@ -2,12 +2,12 @@
 use Rattle.std.proofs.Common.{◌≡◌, ◌<◌, ℕ, List, subst, arith}
 use Rattle.number_text.specs.Parts.{IsCut, IsFreeOf}
 use Rattle.number_text.proofs.Cuts.{same_cut, no_cut}
-use Rattle.particle_text.specs.declared.Mode.{Mode}
-use Rattle.particle_text.specs.declared.Point.{Point}
+use Rattle.points.specs.declared.Mode.{Mode}
+use Rattle.points.specs.declared.Point.{Point}
 use Rattle.particle_text.specs.declared.TextKind.{TextKind}
 use Rattle.particle_text.specs.declared.TextKind.TheVariants.{Syntax, Range, Mixed, Many, Strength}
 use Rattle.particle_text.specs.Faults.{IsFirstKind, PointFault, FormFault, LineFault, rank}
-use Rattle.particle_text.specs.Limits.{InRange, CanJoin}
+use Rattle.points.specs.Limits.{InRange, CanJoin}
 use Rattle.particle_text.specs.Text.{LineSpells, BeginsWith}
 use Rattle.particle_text.proofs.OneForm.{one_form}
 

@@ -1,12 +1,12 @@
 -- A text has one first fault, and a text that spells a list has none.
 use Rattle.std.proofs.Common.{◌≡◌, ◌+◌, ◌<◌, ℕ, List, [], ◌∷◌, ◌++◌, length, sym, ap, ◌∙◌, subst, refl, inl, inr, arith}
 use Rattle.std.proofs.lemmas.List.{append-nil}
-use Rattle.particle_text.specs.declared.Mode.{Mode}
-use Rattle.particle_text.specs.declared.Point.{Point}
+use Rattle.points.specs.declared.Mode.{Mode}
+use Rattle.points.specs.declared.Point.{Point}
 use Rattle.particle_text.specs.declared.TextKind.{TextKind}
 use Rattle.particle_text.specs.declared.TextKind.TheVariants.{Syntax, Range, Mixed, Many, Strength}
 use Rattle.particle_text.specs.Faults.{FaultsAfter, FirstFault, HasNoHead, IsFirstKind, LineFault, rank}
-use Rattle.particle_text.specs.Limits.{WithinLimits, total_weight}
+use Rattle.points.specs.Limits.{WithinLimits, total_weight}
 use Rattle.particle_text.specs.Text.{AreLines, Spells}
 use Rattle.particle_text.proofs.OneText.{GoesOn, fronts, behind, no_fault_inside}
 

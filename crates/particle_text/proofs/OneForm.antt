@@ -3,9 +3,9 @@ use Rattle.std.proofs.Common.{◌≡◌, ℕ, ℤ, List, [], ◌∷◌, ap, refl
 use Rattle.std.specs.Prelude.{codes}
 use Rattle.number_text.specs.Numbers.{AreInts}
 use Rattle.number_text.proofs.Rows.{one_row}
-use Rattle.particle_text.specs.declared.Kind.{Kind}
-use Rattle.particle_text.specs.declared.Kind.TheVariants.{Charge, Dipole, Vortex, Target}
-use Rattle.particle_text.specs.declared.Point.{Point}
+use Rattle.points.specs.declared.Kind.{Kind}
+use Rattle.points.specs.declared.Kind.TheVariants.{Charge, Dipole, Vortex, Target}
+use Rattle.points.specs.declared.Point.{Point}
 use Rattle.particle_text.specs.Text.{LineSpells, name_of, strength_of}
 use Rattle.particle_text.proofs.Forms.{reads_as, apart, same_point}
 

@@ -5,11 +5,11 @@ use Rattle.std.proofs.lemmas.List.{append_assoc, append-nil, length-append}
 use Rattle.std.proofs.lemmas.List.Elements.{All-head, All-tail}
 use Rattle.std.proofs.lemmas.List.Sums.{sum_by-append, sum_by-cons}
 use Rattle.number_text.proofs.Cuts.{same_cut}
-use Rattle.particle_text.specs.declared.Mode.{Mode}
-use Rattle.particle_text.specs.declared.Point.{Point}
+use Rattle.points.specs.declared.Mode.{Mode}
+use Rattle.points.specs.declared.Point.{Point}
 use Rattle.particle_text.specs.declared.TextKind.{TextKind}
 use Rattle.particle_text.specs.Faults.{LineFault}
-use Rattle.particle_text.specs.Limits.{InRange, FitsMode, WithinLimits, CanJoin, weight64, total_weight}
+use Rattle.points.specs.Limits.{InRange, FitsMode, WithinLimits, CanJoin, weight64, total_weight}
 use Rattle.particle_text.specs.Text.{BeginsWith, AreLines, Spells, head_line}
 use Rattle.particle_text.proofs.Heads.{head_cut, one_head}
 use Rattle.particle_text.proofs.LineFaults.{one_line, no_line_fault}

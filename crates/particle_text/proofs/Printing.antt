@@ -11,11 +11,11 @@ use Rattle.number_text.specs.Numbers.{IsInt, AreInts}
 use Rattle.number_text.specs.Parts.{IsFreeOf}
 use Rattle.number_text.proofs.Rows.{int_free, one_spelled_row}
 use Rattle.number_text.proofs.Spelling.{int_of_decimal}
-use Rattle.particle_text.specs.declared.Kind.{Kind}
-use Rattle.particle_text.specs.declared.Kind.TheVariants.{Charge, Dipole, Vortex, Target}
-use Rattle.particle_text.specs.declared.Mode.{Mode}
-use Rattle.particle_text.specs.declared.Point.{Point}
-use Rattle.particle_text.specs.Limits.{IsCoordinate, HasStrength, InRange, WithinLimits}
+use Rattle.points.specs.declared.Kind.{Kind}
+use Rattle.points.specs.declared.Kind.TheVariants.{Charge, Dipole, Vortex, Target}
+use Rattle.points.specs.declared.Mode.{Mode}
+use Rattle.points.specs.declared.Point.{Point}
+use Rattle.points.specs.Limits.{IsCoordinate, HasStrength, InRange, WithinLimits}
 use Rattle.particle_text.specs.Text.{LineSpells, BeginsWith, AreLines, Spells, name_of, strength_of, numbers_of, numbers_text, line_text, text_of, head_line}
 use Rattle.particle_text.proofs.Heads.{free_by_test}
 

@@ -4,10 +4,10 @@ use Rattle.std.proofs.lemmas.Int.{ints}
 use Rattle.exact_math.specs.Within.{Within}
 use Rattle.number_text.specs.Numbers.{nearest_int}
 use Rattle.number_text.proofs.Rows.{nearest_small, small_nearest}
-use Rattle.particle_text.specs.declared.Kind.{Kind}
-use Rattle.particle_text.specs.declared.Kind.TheVariants.{Charge, Dipole, Vortex, Target}
-use Rattle.particle_text.specs.declared.Point.{Point}
-use Rattle.particle_text.specs.Limits.{InRange, HasStrength, IsCoordinate, most_strength}
+use Rattle.points.specs.declared.Kind.{Kind}
+use Rattle.points.specs.declared.Kind.TheVariants.{Charge, Dipole, Vortex, Target}
+use Rattle.points.specs.declared.Point.{Point}
+use Rattle.points.specs.Limits.{InRange, HasStrength, IsCoordinate, most_strength}
 use Rattle.particle_text.specs.Nearest.{nearest_kind, nearest_point}
 use Rattle.particle_text.proofs.Forms.{same_point}
 

@@ -1,10 +1,10 @@
 -- What a reader of a text answers. Want of memory may stand in place of any answer.
 use Rattle.std.specs.Prelude.{◌≡◌, ℕ, List, Result, Ok, Err}
-use Rattle.particle_text.specs.declared.Mode.{Mode}
+use Rattle.points.specs.declared.Mode.{Mode}
 use Rattle.particle_text.specs.declared.ParseFault.{ParseFault}
 use Rattle.particle_text.specs.declared.ParseFault.TheVariants.{Text, Memory}
-use Rattle.particle_text.specs.declared.Point.{Point}
-use Rattle.particle_text.specs.declared.Points.{Points}
+use Rattle.points.specs.declared.Point.{Point}
+use Rattle.points.specs.declared.Points.{Points}
 use Rattle.particle_text.specs.declared.TextKind.{TextKind}
 
 -- the answer is this mode and these points

@@ -1,12 +1,12 @@
 -- What can be wrong with a text, and which fault is named: of the first line at fault, the first kind that holds.
 use Rattle.std.specs.Prelude.{◌≡◌, ◌≢◌, ◌⊎◌, ℕ, ◌+◌, ◌<◌, ◌≤◌, List, [], ◌∷◌, ◌++◌, length}
-use Rattle.particle_text.specs.declared.Mode.{Mode}
+use Rattle.points.specs.declared.Mode.{Mode}
 use Rattle.particle_text.specs.declared.ParseFault.{ParseFault}
 use Rattle.particle_text.specs.declared.ParseFault.TheVariants.{Text, Memory}
-use Rattle.particle_text.specs.declared.Point.{Point}
+use Rattle.points.specs.declared.Point.{Point}
 use Rattle.particle_text.specs.declared.TextKind.{TextKind}
 use Rattle.particle_text.specs.declared.TextKind.TheVariants.{Syntax, Range, Mixed, Many, Strength}
-use Rattle.particle_text.specs.Limits.{InRange, FitsMode, weight64, total_weight, most_points, most_weight}
+use Rattle.points.specs.Limits.{InRange, FitsMode, weight64, total_weight, most_points, most_weight}
 use Rattle.particle_text.specs.Text.{LineSpells, BeginsWith, Spells, head_line, line_feed}
 
 -- the kinds in their order

@@ -2,7 +2,5 @@
 pub mod Answers
 pub mod Faults
 pub mod Forms
-pub mod Limits
 pub mod Nearest
-pub mod Points
 pub mod Text

@@ -1,8 +1,8 @@
 -- A point with its numbers cut to the greatest size that is read.
 use Rattle.number_text.specs.Numbers.{nearest_int}
-use Rattle.particle_text.specs.declared.Kind.{Kind}
-use Rattle.particle_text.specs.declared.Kind.TheVariants.{Charge, Dipole, Vortex, Target}
-use Rattle.particle_text.specs.declared.Point.{Point}
+use Rattle.points.specs.declared.Kind.{Kind}
+use Rattle.points.specs.declared.Kind.TheVariants.{Charge, Dipole, Vortex, Target}
+use Rattle.points.specs.declared.Point.{Point}
 
 abbrev pub nearest_kind : Kind → Kind
 nearest_kind (Charge q) = Charge (nearest_int q)

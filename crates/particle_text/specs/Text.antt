@@ -4,12 +4,12 @@ use Rattle.std.specs.Fmt.{signed_decimal}
 use Rattle.std.specs.List.{flat_map}
 use Rattle.number_text.specs.Numbers.{AreInts}
 use Rattle.number_text.specs.Parts.{IsCut}
-use Rattle.particle_text.specs.declared.Kind.{Kind}
-use Rattle.particle_text.specs.declared.Kind.TheVariants.{Charge, Dipole, Vortex, Target}
-use Rattle.particle_text.specs.declared.Mode.{Mode}
-use Rattle.particle_text.specs.declared.Mode.TheVariants.{Field, Velocity}
-use Rattle.particle_text.specs.declared.Point.{Point}
-use Rattle.particle_text.specs.Limits.{WithinLimits}
+use Rattle.points.specs.declared.Kind.{Kind}
+use Rattle.points.specs.declared.Kind.TheVariants.{Charge, Dipole, Vortex, Target}
+use Rattle.points.specs.declared.Mode.{Mode}
+use Rattle.points.specs.declared.Mode.TheVariants.{Field, Velocity}
+use Rattle.points.specs.declared.Point.{Point}
+use Rattle.points.specs.Limits.{WithinLimits}
 
 -- ends a line
 abbrev pub line_feed : ℕ

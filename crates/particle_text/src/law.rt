@@ -1,10 +1,10 @@
 //! Laws of the text. These functions do nothing; their contracts are the laws.
 ghost use Rattle.std.specs.Prelude.{◌≡◌, ℕ, List};
-ghost use Rattle.particle_text.specs.declared.Mode.{Mode};
-ghost use Rattle.particle_text.specs.declared.Point.{Point};
+ghost use Rattle.points.specs.declared.Mode.{Mode};
+ghost use Rattle.points.specs.declared.Point.{Point};
 ghost use Rattle.particle_text.specs.declared.TextKind.{TextKind};
 ghost use Rattle.particle_text.specs.Faults.{FirstFault};
-ghost use Rattle.particle_text.specs.Limits.{WithinLimits};
+ghost use Rattle.points.specs.Limits.{WithinLimits};
 ghost use Rattle.particle_text.specs.Text.{Spells, text_of};
 
 /// No text spells two lists, has two first faults, or spells a list and has a fault.

@@ -1,6 +1,6 @@
 //! Printing a list as its text.
 ghost use Rattle.std.specs.Prelude.{◌≡◌, ◌++◌, IfOk, OnOk, string_bytes};
-ghost use Rattle.particle_text.specs.Limits.{WithinLimits};
+ghost use Rattle.points.specs.Limits.{WithinLimits};
 ghost use Rattle.particle_text.specs.Text.{Spells, line_text, text_of};
 
 use crate::{Kind, Mode, Point, Points};

@@ -1,12 +1,12 @@
 //! Reading a text.
 ghost use Rattle.std.specs.Prelude.{◌≡◌, ◌++◌, ◌∷◌, ℕ, ◌≤◌, IfOk, IfErr, IfSome, IfNone, List};
-ghost use Rattle.particle_text.specs.declared.Mode.{Mode};
+ghost use Rattle.points.specs.declared.Mode.{Mode};
 ghost use Rattle.particle_text.specs.declared.ParseFault.{ParseFault};
-ghost use Rattle.particle_text.specs.declared.Point.{Point};
+ghost use Rattle.points.specs.declared.Point.{Point};
 ghost use Rattle.particle_text.specs.declared.TextKind.{TextKind};
 ghost use Rattle.particle_text.specs.Answers.{GivesPoints, GivesFault};
 ghost use Rattle.particle_text.specs.Faults.{IsFirstKind, IsFaultOf, LineFault, FirstFault, HasNoHead};
-ghost use Rattle.particle_text.specs.Limits.{CanJoin, InRange, most_weight};
+ghost use Rattle.points.specs.Limits.{CanJoin, InRange, most_weight};
 ghost use Rattle.particle_text.specs.Text.{BeginsWith, Spells, head_line, line_feed};
 
 use crate::admission::admit;

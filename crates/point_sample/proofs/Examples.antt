@@ -1,7 +1,7 @@
 -- States and points from the seed 0, computed from the definitions and compared with ones that were worked out elsewhere.
 use Rattle.std.proofs.Common.{◌≡◌, refl, pos, negsuc, [], ◌∷◌, map}
 use Rattle.std.specs.List.{range_with_len}
-use Rattle.particle_text.specs.declared.Kind.TheVariants.{Charge}
+use Rattle.points.specs.declared.Kind.TheVariants.{Charge}
 use Rattle.point_sample.specs.Generator.{state_after}
 use Rattle.point_sample.specs.Sample.{next_point, sample_list}
 

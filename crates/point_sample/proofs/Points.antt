@@ -1,6 +1,6 @@
 -- The point that five draws make.
 use Rattle.std.proofs.Common.{◌≡◌, ◌∙◌, ◌/◌, ◌%◌, ℕ, ℤ}
-use Rattle.particle_text.specs.declared.Kind.{Kind}
+use Rattle.points.specs.declared.Kind.{Kind}
 use Rattle.particle_text.proofs.Forms.{same_point}
 use Rattle.point_sample.specs.Generator.{draw}
 use Rattle.point_sample.specs.Sample.{coordinate, kind_of, point_of, next_point}

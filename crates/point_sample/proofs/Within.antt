@@ -9,12 +9,13 @@ use Rattle.std.proofs.lemmas.List.Elements.{All-map}
 use Rattle.std.proofs.lemmas.List.FromFn.{length-map-range_with_len}
 use Rattle.std.proofs.lemmas.List.Sums.{sum_by-le}
 use Rattle.exact_math.specs.Within.{Within}
-use Rattle.particle_text.specs.declared.Kind.{Kind}
-use Rattle.particle_text.specs.declared.Kind.TheVariants.{Charge, Dipole, Target}
-use Rattle.particle_text.specs.declared.Mode.TheVariants.{Field}
-use Rattle.particle_text.specs.declared.Point.{Point}
-use Rattle.particle_text.specs.Limits.{InRange, IsCoordinate, HasStrength, FitsMode, WithinLimits, weight64, size_of_gaussian, most_points, most_strength}
-use Rattle.particle_text.specs.Points.{pole, dipole}
+use Rattle.points.specs.declared.Kind.{Kind}
+use Rattle.points.specs.declared.Kind.TheVariants.{Charge, Dipole, Target}
+use Rattle.points.specs.declared.Mode.TheVariants.{Field}
+use Rattle.points.specs.declared.Point.{Point}
+use Rattle.points.specs.Limits.{InRange, IsCoordinate, HasStrength, FitsMode, WithinLimits, weight64, most_points, most_strength}
+use Rattle.exact_math.specs.Sizes.{abs_gaussian}
+use Rattle.points.specs.Points.{pole, dipole}
 use Rattle.point_sample.specs.Generator.{draw}
 use Rattle.point_sample.specs.Sample.{coordinate, component, kind_of, next_point, sample_point, sample_list}
 use Rattle.point_sample.proofs.Draws.{draw_below}
@@ -45,11 +46,11 @@ strength choice r s =
     let part : (t : ℕ) → Within most_strength (component 100 t) = λ (t : ℕ). wider 100 most_strength _ (omega arith) (component_fits 100 t) in
     each_kind HasStrength choice r s (wider 1000 most_strength _ (omega arith) (component_fits 1000 r)) (part r, part s) tt
 
-size : (m : ℕ) (z : ℤ) → Within m z → size_of_gaussian (record { re = z; im = pos 0 }) ≤ m
+size : (m : ℕ) (z : ℤ) → Within m z → abs_gaussian (record { re = z; im = pos 0 }) ≤ m
 size m z fits = omega (arith, ints, fits.above, fits.below)
 
 abbrev weight_of : Kind → ℕ
-weight_of kind = size_of_gaussian (pole kind) + 64 * size_of_gaussian (dipole kind)
+weight_of kind = abs_gaussian (pole kind) + 64 * abs_gaussian (dipole kind)
 
 -- a charge weighs at most 1000, and a dipole at most 64 times 200
 light : (choice r s : ℕ) → weight_of (kind_of choice r s) ≤ 12800

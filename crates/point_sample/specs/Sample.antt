@@ -1,9 +1,9 @@
 -- The points that draws make, and the sample of a seed.
 use Rattle.std.specs.Prelude.{ℕ, ◌+◌, ◌*◌, ◌/◌, ◌%◌, ◌^◌, ◌==◌, nat_lt, if◌then◌else◌, ℤ, pos, ◌-ℤ◌, List, map}
 use Rattle.std.specs.List.{range_with_len}
-use Rattle.particle_text.specs.declared.Kind.{Kind}
-use Rattle.particle_text.specs.declared.Kind.TheVariants.{Charge, Dipole, Target}
-use Rattle.particle_text.specs.declared.Point.{Point}
+use Rattle.points.specs.declared.Kind.{Kind}
+use Rattle.points.specs.declared.Kind.TheVariants.{Charge, Dipole, Target}
+use Rattle.points.specs.declared.Point.{Point}
 use Rattle.point_sample.specs.Generator.{draw, state_after}
 
 -- A coordinate from the low end of the grid on. At scale 0 it may be anywhere on the side of the grid, and each scale leaves a quarter of the one before.

@@ -3,7 +3,7 @@ ghost use Rattle.std.specs.Prelude.{◌≡◌, ◌/◌, ◌<◌, ◌≤◌};
 ghost use Rattle.point_sample.specs.Generator.{next_state, state_after};
 ghost use Rattle.point_sample.specs.Sample.{component, coordinate, kind_of, next_point};
 
-use particle_text::{Kind, Point};
+use points::{Kind, Point};
 
 /// A linear congruential generator of 32 bits.
 #[derive(Drop)]

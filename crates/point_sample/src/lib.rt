@@ -2,14 +2,14 @@
 #![tactic(auto)]
 
 ghost use Rattle.std.specs.Prelude.{◌≡◌, ◌≤◌, IfOk};
-ghost use Rattle.particle_text.specs.Limits.{WithinLimits, most_points};
+ghost use Rattle.points.specs.Limits.{WithinLimits, most_points};
 ghost use Rattle.point_sample.specs.Sample.{sample_list};
 
 mod generator;
 
 use generator::Generator;
 use io_ports::Memory;
-use particle_text::{Mode, PointList, Points};
+use points::{Mode, PointList, Points};
 use std::alloc::Global;
 
 /// The sample of a seed: `n` points in a field list, which is within the limits.

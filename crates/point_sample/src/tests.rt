@@ -1,6 +1,6 @@
 //! Samples that were worked out elsewhere.
 use super::*;
-use particle_text::{Kind, Point};
+use points::{Kind, Point};
 use std::test::Fail;
 
 #[test]

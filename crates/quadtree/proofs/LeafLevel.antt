@@ -2,7 +2,7 @@
 use Rattle.std.proofs.Common.{ℕ, ◌≡◌, ◌+◌, ◌<◌, ◌≤◌, suc, zero, ◌⊎◌, inl, inr, arith, refl, sym, ap, subst, List, add-one}
 use Rattle.std.specs.Prelude.{Contains}
 use Rattle.std.proofs.lemmas.Bool.{cases_lt}
-use Rattle.particle_text.specs.declared.Point.{Point}
+use Rattle.points.specs.declared.Point.{Point}
 use Rattle.cell_name.proofs.Levels.{first_stop, above_le}
 use Rattle.cell_name.specs.Square.{Square, parent, square_at, IsInGrid, holds_test}
 use Rattle.cell_name.proofs.Cells.{Holds-square_at, parent-square_at, square_at-root}

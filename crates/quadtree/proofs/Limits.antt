@@ -2,8 +2,8 @@
 use Rattle.std.proofs.Common.{List}
 use Rattle.std.specs.Prelude.{All}
 use Rattle.std.proofs.lemmas.List.Elements.{All-weaker}
-use Rattle.particle_text.specs.declared.Point.{Point}
-use Rattle.particle_text.specs.Limits.{InRange}
+use Rattle.points.specs.declared.Point.{Point}
+use Rattle.points.specs.Limits.{InRange}
 use Rattle.cell_name.specs.Square.{IsInGrid}
 use Rattle.quadtree.specs.Tree.{AreInGrid}
 

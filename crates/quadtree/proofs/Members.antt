@@ -3,7 +3,7 @@ use Rattle.std.proofs.Common.{ℕ, ◌≡◌, ◌+◌, ◌<◌, Bool, true, fals
 use Rattle.std.specs.Prelude.{ℤ, Some, IsTrue, ◌↔◌}
 use Rattle.std.proofs.lemmas.List.Elements.{filter_more}
 use Rattle.std.proofs.lemmas.Option.{slice_get-get_or}
-use Rattle.particle_text.specs.declared.Point.{Point}
+use Rattle.points.specs.declared.Point.{Point}
 use Rattle.cell_name.specs.Square.{Square, Holds, holds_test}
 use Rattle.quadtree.specs.Members.{holds_point, holds_position, members_among}
 use Rattle.cell_name.proofs.HoldsTest.{Holds-from_test, test-from_Holds}

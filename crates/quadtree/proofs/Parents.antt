@@ -4,7 +4,7 @@ use Rattle.std.specs.Prelude.{Contains, count_by}
 use Rattle.std.proofs.lemmas.Bool.{cases_lt}
 use Rattle.std.proofs.lemmas.List.Sums.{sum_by-cons}
 use Rattle.std.proofs.lemmas.List.Elements.{All-contains}
-use Rattle.particle_text.specs.declared.Point.{Point}
+use Rattle.points.specs.declared.Point.{Point}
 use Rattle.cell_name.specs.Square.{Square, parent, square_at, IsInGrid, Holds, holds_test}
 use Rattle.cell_name.proofs.Cells.{square_at-unique, parent-square_at}
 use Rattle.quadtree.specs.Tree.{AreInGrid, count_in, IsSplit, IsTreeCell, IsLeaf}

@@ -1,7 +1,7 @@
 -- The positions of a list's points that a cell holds.
 use Rattle.std.specs.Prelude.{ℕ, List, length, Bool, false, Option, Some, None, slice_get, filter}
 use Rattle.std.specs.List.{range_with_len}
-use Rattle.particle_text.specs.declared.Point.{Point}
+use Rattle.points.specs.declared.Point.{Point}
 use Rattle.cell_name.specs.Square.{Square, holds_test}
 
 -- whether a cell holds a point

@@ -1,7 +1,7 @@
 -- The steps by which a tree is built: what splitting the cells of one level makes. No public contract cites them.
 use Rattle.std.specs.Prelude.{ℕ, ◌≡◌, ◌-◌, ◌<◌, ◌≤◌, zero, suc, cond, nat_lt, List, [], ◌∷◌, ◌++◌, length, map, filter, slice_range, slice_index_or, All}
 use Rattle.std.specs.List.{flat_map}
-use Rattle.particle_text.specs.declared.Point.{Point}
+use Rattle.points.specs.declared.Point.{Point}
 use Rattle.cell_name.specs.declared.cell.Quadrant.{Quadrant}
 use Rattle.cell_name.specs.Cell.{square, half_number}
 use Rattle.cell_name.specs.Square.{Square, root, child}

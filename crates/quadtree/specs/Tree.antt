@@ -1,7 +1,7 @@
 -- The adaptive quadtree of a list of points with a leaf capacity, as a predicate on each cell by itself.
 use Rattle.std.specs.Prelude.{ℕ, ◌≡◌, ◌<◌, ◌≤◌, ◌⊎◌, List, count_by, All, AllPairs, Contains}
-use Rattle.particle_text.specs.declared.Point.{Point}
-use Rattle.particle_text.specs.Points.{IsTarget, IsSource}
+use Rattle.points.specs.declared.Point.{Point}
+use Rattle.points.specs.Points.{IsTarget, IsSource}
 use Rattle.cell_name.specs.Order.{IsBefore}
 use Rattle.cell_name.specs.Square.{Square, root, parent, IsInGrid, Holds, holds_test}
 

@@ -1,7 +1,7 @@
 -- A tree as callers see it, and what it is for a list of points and a capacity.
 use Rattle.std.specs.Prelude.{ℕ, ◌≡◌, ◌<◌, ◌≤◌, ◌↔◌, Bool, false, IsTrue, List, [], length, map, Some, slice_get, slice_index, slice_index_or}
-use Rattle.particle_text.specs.declared.Point.{Point}
-use Rattle.particle_text.specs.Limits.{most_points}
+use Rattle.points.specs.declared.Point.{Point}
+use Rattle.points.specs.Limits.{most_points}
 use Rattle.cell_name.specs.declared.cell.Cell.{Cell}
 use Rattle.cell_name.specs.Cell.{square}
 use Rattle.cell_name.specs.Square.{Square, root, parent, Holds}

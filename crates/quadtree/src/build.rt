@@ -2,7 +2,7 @@
 
 ghost use Rattle.std.specs.Prelude.{◌≡◌, ◌≤◌, length, map, All, IfErr, IfNone, IfOk, IfSome, OnOk};
 ghost use Rattle.exact_math.specs.Orders.{IsCapacity};
-ghost use Rattle.particle_text.specs.Limits.{WithinLimits, most_points};
+ghost use Rattle.points.specs.Limits.{WithinLimits, most_points};
 ghost use Rattle.quadtree.specs.Faults.{most_cells, NoneIsCrowded, HasMoreCells, IsFaultOf};
 ghost use Rattle.quadtree.specs.Splitting.{squares_of, AreRuns, IsCrowdedRun, IsFirstCrowdedRun};
 ghost use Rattle.quadtree.specs.Tree.{AreInGrid, AreTreeCells};
@@ -13,7 +13,7 @@ use crate::nodes::{leaves_of, nodes_of};
 use crate::split::{Run, Splits};
 use crate::tree::Tree;
 use cell_name::{Cell, GRID};
-use particle_text::{Point, Points};
+use points::{Point, Points};
 use std::alloc::{AllocError, Global};
 
 /// The greatest number of points at one place.

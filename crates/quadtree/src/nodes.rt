@@ -13,7 +13,7 @@ ghost use Rattle.quadtree.specs.Tree.{AreInGrid, AreTreeCells};
 use crate::split::Run;
 use crate::tree::Node;
 use cell_name::{Cell, GRID};
-use particle_text::{Kind, Point};
+use points::{Kind, Point};
 use std::alloc::{AllocError, Global};
 
 /// Whether the point at a position is a target.

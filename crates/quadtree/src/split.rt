@@ -4,13 +4,13 @@ ghost use Rattle.std.specs.Prelude.{◌≡◌, ◌≤◌, ◌<◌, ◌++◌, [],
 ghost use Rattle.std.specs.List.{flat_map, range_with_len};
 ghost use Rattle.cell_name.specs.Cell.{square};
 ghost use Rattle.cell_name.specs.Square.{Square, holds_test};
-ghost use Rattle.particle_text.specs.Limits.{most_points};
+ghost use Rattle.points.specs.Limits.{most_points};
 ghost use Rattle.quadtree.specs.Members.{holds_position, members_among};
 ghost use Rattle.quadtree.specs.Splitting.{squares_of, occupied, quarter, quarters, below, cells_to_level, IsRun, AreRuns};
 ghost use Rattle.quadtree.specs.Tree.{AreInGrid, AreTreeCells};
 
 use cell_name::{Cell, GRID, Quadrant};
-use particle_text::Point;
+use points::Point;
 use std::alloc::{AllocError, Global};
 
 /// A cell with its points, as a range of the positions.

@@ -1,9 +1,10 @@
 ghost use Rattle.std.specs.Prelude.{IfOk};
-ghost use Rattle.particle_text.specs.Limits.{WithinLimits};
+ghost use Rattle.points.specs.Limits.{WithinLimits};
 
 use crate::{Tree, TreeFault};
 use cell_name::Cell;
-use particle_text::{Points, parse};
+use particle_text::parse;
+use points::Points;
 use std::alloc::Global;
 use std::test::Fail;
 

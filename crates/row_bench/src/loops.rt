@@ -1,7 +1,8 @@
 //! The loops that are measured.
 ghost use Rattle.std.specs.Prelude.{◌≤◌, ◌^◌, ◌+◌, ◌*◌};
-ghost use Rattle.particle_text.specs.Limits.{HasStrength, size_of_gaussian};
-ghost use Rattle.particle_text.specs.Points.{pole, dipole};
+ghost use Rattle.points.specs.Limits.{HasStrength};
+ghost use Rattle.exact_math.specs.Sizes.{abs_gaussian};
+ghost use Rattle.points.specs.Points.{pole, dipole};
 
 use crate::samples::{cell, distance, inside, outside, quadrant, sample_row};
 use complex_box::{CBox, Row, Work};
@@ -10,7 +11,7 @@ use local_expansion::{add_far_source, at_local, convert};
 use local_shift::shift_down;
 use multipole::{add_source, at_multipole};
 use multipole_shift::shift_up;
-use particle_text::Kind;
+use points::Kind;
 
 /// What a loop calls.
 #[derive(Clone, Copy)]
@@ -141,7 +142,7 @@ fn shift_downs(count: u32) -> i128
 fn sources(count: u32, kind: Kind) -> i128
     requires count { count ≤ 2 ^ 20 }
     requires strength { HasStrength kind }
-    requires weight { size_of_gaussian (pole kind) + 64 * size_of_gaussian (dipole kind) ≤ 2 ^ 17 }
+    requires weight { abs_gaussian (pole kind) + 64 * abs_gaussian (dipole kind) ≤ 2 ^ 17 }
 {
     let cell = cell();
     let mut into = [CBox::zero(); 16];
@@ -155,7 +156,7 @@ fn sources(count: u32, kind: Kind) -> i128
 fn far_sources(count: u32, kind: Kind) -> i128
     requires count { count ≤ 2 ^ 20 }
     requires strength { HasStrength kind }
-    requires weight { size_of_gaussian (pole kind) + 64 * size_of_gaussian (dipole kind) ≤ 2 ^ 17 }
+    requires weight { abs_gaussian (pole kind) + 64 * abs_gaussian (dipole kind) ≤ 2 ^ 17 }
 {
     let cell = cell();
     let mut into = [CBox::zero(); 16];

@@ -5,8 +5,8 @@ ghost use Rattle.complex_box.specs.Box.{number};
 ghost use Rattle.cell_name.specs.Cell.{square};
 ghost use Rattle.cell_name.specs.Square.{side, Holds};
 ghost use Rattle.kernel_table.specs.Kernel.{IsKernelDistance};
-ghost use Rattle.particle_text.specs.Limits.{HasStrength, InRange};
-ghost use Rattle.particle_text.specs.Points.{place};
+ghost use Rattle.points.specs.Limits.{HasStrength, InRange};
+ghost use Rattle.points.specs.Points.{place};
 ghost use Rattle.row_recursions.specs.Geometry.{doubled_centre};
 ghost use Rattle.row_recursions.specs.Rows.{row_of};
 ghost use Rattle.row_recursions.specs.Sizes.{RowWithin};
@@ -15,7 +15,7 @@ ghost use Rattle.row_bench.specs.Middle.{middle};
 use cell_name::{Cell, Quadrant};
 use complex_box::{CBox, Gauss};
 use fixed_interval::Interval;
-use particle_text::{Kind, Point};
+use points::{Kind, Point};
 
 /// A row of order 16 whose boxes are 2 and 3 wide.
 pub fn sample_row() -> [CBox; 16]

@@ -10,7 +10,7 @@ use local_expansion::{add_far_source, at_local};
 use local_shift::shift_down;
 use multipole::{add_source, at_multipole};
 use multipole_shift::shift_up;
-use particle_text::{Kind, Point};
+use points::{Kind, Point};
 use std::process::Abort;
 
 /// The cell of side 1 at the origin, and the one of side 4 that holds it.

@@ -13,10 +13,10 @@ use Rattle.complex_box.specs.declared.CBox.{CBox}
 use Rattle.cell_lists.proofs.CellNumbers.{first_level}
 use Rattle.cell_lists.specs.Row.{row}
 use Rattle.cell_lists.specs.declared.entry_lists.EntryLists.{EntryLists}
-use Rattle.cert_text.specs.declared.Letter.TheVariants.{V}
+use Rattle.letters.specs.declared.Letter.TheVariants.{V}
 use Rattle.downward_rows.specs.Radii.{IsRadiusOf}
-use Rattle.particle_text.specs.Points.{place}
-use Rattle.particle_text.specs.declared.Point.{Point}
+use Rattle.points.specs.Points.{place}
+use Rattle.points.specs.declared.Point.{Point}
 use Rattle.quadtree.specs.Tree.{AreInGrid, HasTarget}
 use Rattle.quadtree.specs.TreeModel.{TreeModel, IsTreeOf, size, square_of, node_of, leaf_of}
 use Rattle.target_values.specs.Field.{AreRowsOfLeaf}

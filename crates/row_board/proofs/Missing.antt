@@ -4,7 +4,7 @@ use Rattle.std.specs.Prelude.{All}
 use Rattle.std.proofs.lemmas.Bool.{ne_eqb}
 use Rattle.std.proofs.lemmas.List.{get_or_default, map-append}
 use Rattle.std.proofs.lemmas.List.Elements.{All-cons, All-contains, All-map}
-use Rattle.cert_text.specs.declared.Letter.{Letter}
+use Rattle.letters.specs.declared.Letter.{Letter}
 use Rattle.cell_lists.specs.Lists.{lists_of}
 use Rattle.cell_lists.specs.Row.{row}
 use Rattle.quadtree.specs.TreeModel.{size, node_of}

@@ -9,8 +9,8 @@ use Rattle.complex_box.specs.Rows.{at, zero_cbox}
 use Rattle.field_sizes.proofs.BoxSizes.{box_sizes}
 use Rattle.field_sizes.proofs.Disjoint.{entries_share_no_source}
 use Rattle.near_field.specs.DirectSum.{direct_sum}
-use Rattle.particle_text.specs.Points.{place}
-use Rattle.particle_text.specs.declared.Point.{Point}
+use Rattle.points.specs.Points.{place}
+use Rattle.points.specs.declared.Point.{Point}
 use Rattle.target_values.proofs.FieldBox.{boxes_contain}
 use Rattle.target_values.proofs.Positions.{targets_at}
 use Rattle.target_values.specs.Points.{point_at}

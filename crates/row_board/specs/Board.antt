@@ -5,7 +5,7 @@ use Rattle.exact_math.specs.Gaussian.{Gaussian}
 use Rattle.exact_math.specs.Orders.{IsOrder}
 use Rattle.complex_box.specs.Box.{box_ends}
 use Rattle.complex_box.specs.Rows.{at}
-use Rattle.particle_text.specs.Points.{place}
+use Rattle.points.specs.Points.{place}
 use Rattle.quadtree.specs.TreeModel.{size, square_of, IsTreeOf}
 use Rattle.target_values.specs.Points.{point_at}
 use Rattle.target_values.specs.Targets.{target_positions}

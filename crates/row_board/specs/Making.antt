@@ -2,7 +2,7 @@
 use Rattle.std.specs.Prelude.{ℕ, ◌*◌, ◌≡◌, false, pos, List, length, All}
 use Rattle.exact_math.specs.Orders.{IsOrder}
 use Rattle.complex_box.specs.Rows.{AllZero}
-use Rattle.particle_text.specs.declared.Point.{Point}
+use Rattle.points.specs.declared.Point.{Point}
 use Rattle.quadtree.specs.TreeModel.{size, IsTreeOf}
 use Rattle.target_values.specs.Targets.{target_positions}
 use Rattle.tree_rows.specs.FieldRows.{AreWeights}

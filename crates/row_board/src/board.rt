@@ -11,7 +11,7 @@ use crate::name::Name;
 use cell_lists::EntryLists;
 use complex_box::CBox;
 use kernel_table::Kernel;
-use particle_text::Point;
+use points::Point;
 use quadtree::Tree;
 use std::marker::Model;
 

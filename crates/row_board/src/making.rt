@@ -2,7 +2,7 @@
 ghost use Rattle.std.specs.Prelude.{ℕ, ◌≡◌, ◌*◌, ◌^◌, ◌<◌, ◌≤◌, pos, false, length, All, IfOk, IfErr, OnOk};
 ghost use Rattle.exact_math.specs.Orders.{IsCapacity, IsOrder};
 ghost use Rattle.complex_box.specs.Rows.{AllZero};
-ghost use Rattle.particle_text.specs.Limits.{InRange, WithinLimits, most_points, most_weight, total_weight};
+ghost use Rattle.points.specs.Limits.{InRange, WithinLimits, most_points, most_weight, total_weight};
 ghost use Rattle.quadtree.specs.Faults.{most_cells, HasMoreCells, IsFaultOf, NoneIsCrowded};
 ghost use Rattle.quadtree.specs.TreeModel.{IsTreeOf, size};
 ghost use Rattle.tree_rows.specs.FieldRows.{AreWeights};
@@ -17,7 +17,7 @@ use crate::board::Board;
 use cell_lists::{EntryLists, lists};
 use complex_box::CBox;
 use kernel_table::Kernel;
-use particle_text::{Point, Points};
+use points::{Point, Points};
 use quadtree::{Tree, TreeFault};
 use std::alloc::{AllocError, Global};
 use target_values::target_positions;

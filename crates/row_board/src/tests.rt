@@ -1,10 +1,11 @@
 //! A board of nine charges and a far target, whose box is known from elsewhere.
 ghost use Rattle.std.specs.Prelude.{IfOk};
-ghost use Rattle.particle_text.specs.Limits.{WithinLimits};
+ghost use Rattle.points.specs.Limits.{WithinLimits};
 
 use crate::{Board, Name};
 use complex_box::Work;
-use particle_text::{Points, parse};
+use particle_text::parse;
+use points::Points;
 use std::alloc::Global;
 use std::process::Abort;
 use std::test::Fail;

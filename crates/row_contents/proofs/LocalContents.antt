@@ -13,11 +13,10 @@ use Rattle.cell_name.proofs.Cells.{Touches-sym}
 use Rattle.cell_name.proofs.Distances.{same_side}
 use Rattle.cell_name.proofs.HoldsTest.{Holds-from_test}
 use Rattle.cell_lists.specs.Entries.{IsEntry, IsVPair, IsWPair}
-use Rattle.cert_text.specs.declared.Letter.TheVariants.{V, X}
+use Rattle.letters.specs.declared.Letter.TheVariants.{V, X}
 use Rattle.kernel_table.specs.Kernel.{kernel_entry}
-use Rattle.near_field.specs.DirectSum.{is_source}
-use Rattle.particle_text.specs.Points.{place, pole, dipole}
-use Rattle.particle_text.specs.declared.Point.{Point}
+use Rattle.points.specs.Points.{is_source, place, pole, dipole}
+use Rattle.points.specs.declared.Point.{Point}
 use Rattle.quadtree.specs.Tree.{AreInGrid, IsTreeCell}
 use Rattle.quadtree.proofs.Distinct.{Contains-filter}
 use Rattle.quadtree.proofs.Parents.{IsTreeCell-parent}

@@ -1,7 +1,7 @@
 -- Each multipole row of a tree contains the moments of the sources in its cell.
 use Rattle.std.proofs.Common.{ℕ, ◌≡◌, ◌<◌, List, [], ◌∷◌, map, refl, ap, ◌∙◌, subst}
 use Rattle.cell_name.specs.Square.{Square, side}
-use Rattle.particle_text.specs.declared.Point.{Point}
+use Rattle.points.specs.declared.Point.{Point}
 use Rattle.quadtree.specs.Tree.{AreInGrid, IsTreeCell}
 use Rattle.row_recursions.specs.Geometry.{doubled_centre}
 use Rattle.row_recursions.specs.Moments.{HoldsMoments}

@@ -4,7 +4,7 @@ use Rattle.std.specs.Prelude.{pos}
 use Rattle.exact_math.proofs.EndsBridges.{BoxEndsContain-sum}
 use Rattle.cell_name.specs.Square.{side}
 use Rattle.cell_name.proofs.Cells.{Touches-sym}
-use Rattle.cert_text.specs.declared.Letter.TheVariants.{W}
+use Rattle.letters.specs.declared.Letter.TheVariants.{W}
 use Rattle.row_recursions.specs.Geometry.{doubled_centre}
 use Rattle.row_recursions.specs.Rows.{multipole_value}
 use Rattle.row_recursions.proofs.FieldLaws.{local_values}

@@ -5,8 +5,8 @@ use Rattle.exact_math.specs.Gaussian.{Gaussian}
 use Rattle.exact_math.specs.Sums.{sum_terms}
 use Rattle.cell_lists.specs.Entries.{IsEntry}
 use Rattle.cell_name.specs.Square.{Square, side, Holds}
-use Rattle.cert_text.specs.declared.Letter.TheVariants.{W}
-use Rattle.particle_text.specs.declared.Point.{Point}
+use Rattle.letters.specs.declared.Letter.TheVariants.{W}
+use Rattle.points.specs.declared.Point.{Point}
 use Rattle.quadtree.specs.Tree.{AreInGrid, IsTreeCell}
 use Rattle.row_recursions.specs.Fields.{HoldsField}
 use Rattle.row_recursions.specs.Geometry.{doubled_centre}

@@ -4,8 +4,8 @@ use Rattle.exact_math.specs.Gaussian.{Gaussian}
 use Rattle.exact_math.specs.Ratio.{ComplexRatio, add_complex}
 use Rattle.exact_math.specs.Sums.{sum_complex, sum_terms}
 use Rattle.cell_name.specs.Square.{Square, side, ancestor}
-use Rattle.cert_text.specs.declared.Letter.TheVariants.{V, X}
-use Rattle.particle_text.specs.declared.Point.{Point}
+use Rattle.letters.specs.declared.Letter.TheVariants.{V, X}
+use Rattle.points.specs.declared.Point.{Point}
 use Rattle.row_recursions.specs.Geometry.{doubled_centre, sides_between}
 use Rattle.row_recursions.specs.Sources.{source_of}
 use Rattle.tree_field.specs.Field.{sources_in}

@@ -6,11 +6,12 @@ use Rattle.std.specs.Prelude.{unsigned_abs}
 use Rattle.exact_math.specs.Ends.{BoxEndsWithin}
 use Rattle.exact_math.specs.Gaussian.{Gaussian, gaussian}
 use Rattle.exact_math.specs.Within.{Within}
-use Rattle.particle_text.specs.declared.Kind.{Kind}
-use Rattle.particle_text.specs.declared.Kind.TheVariants.{Charge, Dipole, Vortex, Target}
-use Rattle.particle_text.specs.declared.Point.{Point}
-use Rattle.particle_text.specs.Points.{place, pole, dipole}
-use Rattle.particle_text.specs.Limits.{most_strength, InGrid, HasStrength, InRange, size_of_gaussian, weight64}
+use Rattle.points.specs.declared.Kind.{Kind}
+use Rattle.points.specs.declared.Kind.TheVariants.{Charge, Dipole, Vortex, Target}
+use Rattle.points.specs.declared.Point.{Point}
+use Rattle.points.specs.Points.{place, pole, dipole}
+use Rattle.points.specs.Limits.{most_strength, InGrid, HasStrength, InRange, weight64}
+use Rattle.exact_math.specs.Sizes.{abs_gaussian}
 use Rattle.cell_name.specs.Cell.{square}
 use Rattle.cell_name.specs.Square.{side, corner_x, corner_y, Holds, IsInGrid}
 use Rattle.cell_name.specs.declared.cell.Cell.{Cell}
@@ -77,7 +78,7 @@ part_small : (n : ℕ) (z : ℤ) → Within n z → unsigned_abs z ≤ n
 part_small n (pos a) h = let l = h.below in omega (arith, ints)
 part_small n (negsuc a) h = let l = h.above in omega (arith, ints)
 
-weight_at : (k : Kind) → HasStrength k → size_of_gaussian (pole k) + 64 * size_of_gaussian (dipole k) ≤ 2 ^ 27
+weight_at : (k : Kind) → HasStrength k → abs_gaussian (pole k) + 64 * abs_gaussian (dipole k) ≤ 2 ^ 27
 weight_at (Charge q) h = let a = part_small _ q h in omega arith
 weight_at (Dipole re im) h = let a = part_small _ re h.0 in let b = part_small _ im h.1 in omega arith
 weight_at (Vortex g) h =
@@ -92,7 +93,7 @@ weight_bounded p h = weight_at p.kind h.strength
 
 -- each moment of a point in the cell is at most 2^40 times its weight
 pub moments_within : (c : Cell) (p : Point) (k : ℕ) → k ≤ 64 → Holds (square c) p.x p.y → BoxEndsWithin (2 ^ 40 * weight64 p) (moments_of c p k)
-moments_within c p k few h = box_wider _ (2 ^ 40 * weight64 p) _ (heavier k (size_of_gaussian (pole p.kind)) (size_of_gaussian (dipole p.kind)) few)
+moments_within c p k few h = box_wider _ (2 ^ 40 * weight64 p) _ (heavier k (abs_gaussian (pole p.kind)) (abs_gaussian (dipole p.kind)) few)
     (source_moment_within (side_of c) (pole p.kind) (dipole p.kind) (offset_from c (place p)) k (side_positive c) (offset_within c p.x p.y h))
   where
     heavier : (k a b : ℕ) → k ≤ 64 → 2 ^ 40 * (a + k * b) ≤ 2 ^ 40 * (a + 64 * b)

@@ -7,8 +7,8 @@ use Rattle.cell_name.specs.Cell.{square}
 use Rattle.cell_name.specs.Square.{side, doubled_centre_x, doubled_centre_y}
 use Rattle.cell_name.specs.declared.cell.Cell.{Cell}
 use Rattle.cell_name.specs.declared.cell.Quadrant.{Quadrant}
-use Rattle.particle_text.specs.declared.Point.{Point}
-use Rattle.particle_text.specs.Points.{place, pole, dipole}
+use Rattle.points.specs.declared.Point.{Point}
+use Rattle.points.specs.Points.{place, pole, dipole}
 use Rattle.row_recursions.specs.Rows.{source_moment, far_source}
 
 abbrev pub side_of : Cell → ℕ

@@ -1,10 +1,10 @@
 -- The points of a list as sources.
 use Rattle.std.specs.Prelude.{true, false}
 use Rattle.exact_math.specs.Gaussian.{Gaussian}
-use Rattle.particle_text.specs.declared.Kind.{Kind}
-use Rattle.particle_text.specs.declared.Kind.TheVariants.{Charge, Dipole, Vortex, Target}
-use Rattle.particle_text.specs.declared.Point.{Point}
-use Rattle.particle_text.specs.Points.{place, pole, dipole}
+use Rattle.points.specs.declared.Kind.{Kind}
+use Rattle.points.specs.declared.Kind.TheVariants.{Charge, Dipole, Vortex, Target}
+use Rattle.points.specs.declared.Point.{Point}
+use Rattle.points.specs.Points.{place, pole, dipole}
 use Rattle.truncation.specs.Entries.{Source}
 
 -- a charge and a vortex are poles; a target is a pole of strength 0

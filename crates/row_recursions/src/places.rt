@@ -6,7 +6,7 @@ ghost use Rattle.exact_math.specs.Within.{Within};
 ghost use Rattle.truncation.specs.Places.{GaussianWithin, GaussianBeyond};
 ghost use Rattle.complex_box.specs.Box.{box_ends, number};
 ghost use Rattle.kernel_table.specs.Kernel.{conj_multiple};
-ghost use Rattle.particle_text.specs.Limits.{InGrid};
+ghost use Rattle.points.specs.Limits.{InGrid};
 ghost use Rattle.row_recursions.specs.Cells.{side_of, offset_from};
 ghost use Rattle.row_recursions.specs.Rows.{units_box};
 

@@ -13,8 +13,8 @@ use Rattle.cell_lists.specs.Lists.{lists_of, AreLists}
 use Rattle.cell_lists.specs.Row.{row}
 use Rattle.cell_lists.specs.declared.entry_lists.EntryLists.{EntryLists}
 use Rattle.cell_lists.proofs.TreeNumbers.{tree_cell_at}
-use Rattle.cert_text.specs.declared.Letter.{Letter}
-use Rattle.particle_text.specs.declared.Point.{Point}
+use Rattle.letters.specs.declared.Letter.{Letter}
+use Rattle.points.specs.declared.Point.{Point}
 use Rattle.quadtree.specs.Tree.{count_in, AreInGrid, IsTreeCell, IsLeaf}
 use Rattle.quadtree.specs.TreeModel.{TreeModel, squares, size, square_of, node_of, IsTreeOf}
 use Rattle.tree_field.specs.Lists.{TreeLists, AreTreeLists}

@@ -1,6 +1,5 @@
 -- What the proofs of this crate rest on.
 mod Counting
-mod Digits
 mod Greatest
 mod Grid
 mod Lines

@@ -3,10 +3,10 @@ use Rattle.std.specs.Prelude.{ℕ, ℤ, pos, neg_ℤ, ◌≡◌, List, [], ◌�
 use Rattle.std.specs.Fmt.{digits}
 use mathlib.Core.Path.{refl}
 use Rattle.cell_name.specs.Square.{Square, root}
-use Rattle.cert_text.specs.declared.Letter.{Letter}
-use Rattle.cert_text.specs.declared.Letter.TheVariants.{U, V, W, X}
-use Rattle.particle_text.specs.declared.Kind.TheVariants.{Charge, Target}
-use Rattle.particle_text.specs.declared.Point.{Point}
+use Rattle.letters.specs.declared.Letter.{Letter}
+use Rattle.letters.specs.declared.Letter.TheVariants.{U, V, W, X}
+use Rattle.points.specs.declared.Kind.TheVariants.{Charge, Target}
+use Rattle.points.specs.declared.Point.{Point}
 use Rattle.quadtree.specs.Splitting.{cells_to_level}
 use Rattle.row_recursions.specs.Rows.{local_round, local_value, down_round, shifted_down}
 use Rattle.tree_field.specs.Field.{leaf_below, local_at_level, radius_at_level}

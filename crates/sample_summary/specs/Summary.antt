@@ -3,12 +3,12 @@ use Rattle.std.specs.Prelude.{ℕ, ◌==◌, ◌-ℤ◌, Bool, not, ◌||◌, ma
 use Rattle.std.specs.List.{count_by}
 use Rattle.exact_math.specs.Ends.{Ends, BoxEnds}
 use Rattle.cell_name.specs.Square.{Square}
-use Rattle.cert_text.specs.declared.Letter.{Letter}
-use Rattle.cert_text.specs.declared.Letter.TheVariants.{U, V, W, X}
+use Rattle.letters.specs.declared.Letter.{Letter}
+use Rattle.letters.specs.declared.Letter.TheVariants.{U, V, W, X}
 use Rattle.field_report.specs.Counts.{target_counts}
-use Rattle.near_field.specs.DirectSum.{is_source}
-use Rattle.particle_text.specs.declared.Mode.TheVariants.{Field}
-use Rattle.particle_text.specs.declared.Point.{Point}
+use Rattle.points.specs.Points.{is_source}
+use Rattle.points.specs.declared.Mode.TheVariants.{Field}
+use Rattle.points.specs.declared.Point.{Point}
 use Rattle.sample_summary.specs.declared.numbers.Summary.{Summary}
 use Rattle.tree_field.specs.Field.{targets, is_over, target_boxes}
 use Rattle.tree_field.specs.Lists.{TreeLists}

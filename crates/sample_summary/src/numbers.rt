@@ -1,15 +1,15 @@
 //! The numbers of a summary.
 ghost use Rattle.std.specs.Prelude.{◌≡◌};
 ghost use Rattle.std.specs.List.{range_with_len, count_by};
-ghost use Rattle.near_field.specs.DirectSum.{is_source};
+ghost use Rattle.points.specs.Points.{is_source};
 ghost use Rattle.quadtree.specs.TreeModel.{size, node_of};
 ghost use Rattle.sample_summary.specs.Summary.{summary_of};
 ghost use Rattle.solve_phase.specs.Field.{IsSolved, kept};
 ghost use Rattle.tree_field.specs.Lists.{TreeLists, AreTreeLists};
 
 use crate::widths::Widest;
-use cert_text::Letter;
-use particle_text::{Kind, Point};
+use letters::Letter;
+use points::{Kind, Point};
 use quadtree::Tree;
 use solve_phase::Field;
 

@@ -4,24 +4,10 @@ ghost use Rattle.field_report.specs.Report.{work_line};
 ghost use Rattle.sample_summary.specs.Text.{summary_text, sample_line, points_line, tree_line, lists_line, widest_line};
 
 use crate::numbers::Summary;
-use field_report::FrontText;
+use line_text::FrontText;
 
 /// The seven lines grow from their end to their front, in at most this many bytes.
 const TEXT: usize = 512;
-
-/// Puts a whole number of any size before the text.
-fn prepend_wide(text: &mut FrontText<TEXT>, n: u128)
-    requires { 39 + length text.old ≤ TEXT }
-    ensures text { text.new ≡ decimal n ++ text.old }
-    ensures room { length text.new ≤ 39 + length text.old }
-{
-    let mut rest = n;
-    while rest >= 10 {
-        text.prepend(b'0' + (rest % 10) as u8);
-        rest /= 10;
-    }
-    text.prepend(b'0' + rest as u8);
-}
 
 /// `sample SEED N order P cap CAP`
 fn prepend_sample(text: &mut FrontText<TEXT>, seed: u32, n: u64, order: u64, cap: u32)
@@ -104,9 +90,9 @@ fn prepend_widest(text: &mut FrontText<TEXT>, s: &Summary)
     ensures room { length text.new ≤ 93 + length text.old }
 {
     text.prepend(b'\n');
-    prepend_wide(text, s.widest_im);
+    text.prepend_wide(s.widest_im);
     text.prepend_word(b" im ");
-    prepend_wide(text, s.widest_re);
+    text.prepend_wide(s.widest_re);
     text.prepend_word(b"widest re ");
 }
 

@@ -11,7 +11,7 @@ ghost use Rattle.tree_field.specs.Lists.{TreeLists, AreTreeLists};
 use crate::numbers::Summary;
 use crate::text::summary_text;
 use io_ports::{Sink, WriteFault, put};
-use particle_text::Points;
+use points::Points;
 use solve_phase::Field;
 
 /// Appends the summary of a sample, the points that a seed gave and their field with a leaf capacity: its seven lines count points, cells,

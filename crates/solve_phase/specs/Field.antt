@@ -6,10 +6,10 @@ use Rattle.complex_box.specs.Box.{box_ends}
 use Rattle.complex_box.specs.declared.CBox.{CBox}
 use Rattle.cell_lists.specs.Lists.{AreLists}
 use Rattle.cell_lists.specs.declared.entry_lists.EntryLists.{EntryLists}
-use Rattle.cert_text.specs.declared.Letter.TheVariants.{V}
+use Rattle.letters.specs.declared.Letter.TheVariants.{V}
 use Rattle.near_field.specs.DirectSum.{direct_sum}
-use Rattle.particle_text.specs.Points.{place}
-use Rattle.particle_text.specs.declared.Point.{Point}
+use Rattle.points.specs.Points.{place}
+use Rattle.points.specs.declared.Point.{Point}
 use Rattle.quadtree.specs.TreeModel.{TreeModel, size, IsTreeOf}
 use Rattle.tree_field.specs.Field.{targets, target_boxes}
 use Rattle.tree_field.specs.Lists.{TreeLists, AreTreeLists}

@@ -3,7 +3,7 @@ ghost use Rattle.std.specs.Prelude.{◌≡◌, ℕ, ◌+◌, ◌*◌, ◌^◌, �
 ghost use Rattle.std.specs.List.{count_by, range_with_len};
 ghost use Rattle.exact_math.specs.Orders.{IsOrder};
 ghost use Rattle.complex_box.specs.Box.{box_ends, BoxWithin};
-ghost use Rattle.particle_text.specs.declared.Point.{Point};
+ghost use Rattle.points.specs.declared.Point.{Point};
 ghost use Rattle.quadtree.specs.Tree.{AreInGrid};
 ghost use Rattle.quadtree.specs.TreeModel.{size, squares, node_of};
 ghost use Rattle.tree_field.specs.Field.{target_boxes};
@@ -20,7 +20,7 @@ use cell_lists::EntryLists;
 use complex_box::{CBox, Work};
 use downward_rows::{downward_pass, radius_pass};
 use kernel_table::Kernel;
-use particle_text::Point;
+use points::Point;
 use quadtree::Tree;
 use std::alloc::{AllocError, Global};
 use target_values::{target_positions, value_pass};

@@ -1,7 +1,7 @@
 //! The solve.
 ghost use Rattle.std.specs.Prelude.{◌≡◌, ◌≤◌, length, All, IfErr, IfOk, OnOk};
 ghost use Rattle.exact_math.specs.Orders.{IsCapacity, IsOrder};
-ghost use Rattle.particle_text.specs.Limits.{InRange, WithinLimits, most_points, most_weight, total_weight};
+ghost use Rattle.points.specs.Limits.{InRange, WithinLimits, most_points, most_weight, total_weight};
 ghost use Rattle.quadtree.specs.Faults.{most_cells, HasMoreCells, IsFaultOf, NoneIsCrowded};
 ghost use Rattle.quadtree.specs.TreeModel.{IsTreeOf};
 ghost use Rattle.solve_phase.specs.Field.{BoxesContain, IsSolved, kept};
@@ -11,7 +11,7 @@ use crate::rows::{boxes, cell_radii, cell_weights, local_rows, multipole_rows};
 use cell_lists::lists;
 use complex_box::Work;
 use kernel_table::Kernel;
-use particle_text::{Point, Points};
+use points::{Point, Points};
 use quadtree::{Tree, TreeFault};
 use std::alloc::Global;
 

@@ -1,10 +1,11 @@
 //! Fields whose numbers are known from elsewhere: one entry far away of each kind.
 ghost use Rattle.std.specs.Prelude.{IfOk, ◌<◌, length};
-ghost use Rattle.particle_text.specs.Limits.{WithinLimits};
+ghost use Rattle.points.specs.Limits.{WithinLimits};
 
 use crate::{Field, solve};
-use cert_text::Letter;
-use particle_text::{Points, parse};
+use letters::Letter;
+use particle_text::parse;
+use points::Points;
 use std::alloc::Global;
 use std::process::Abort;
 use std::test::Fail;

@@ -12,9 +12,9 @@ use Rattle.exact_math.proofs.Fractions.{complex_value, Stands, Stands-itself, St
 use Rattle.exact_math.proofs.BoxEnclosures.{EnclosesBox, enclosed_from_contained}
 use Rattle.cell_name.specs.Square.{Square, side}
 use Rattle.kernel_table.specs.Kernel.{kernel_entry}
-use Rattle.particle_text.specs.Points.{place, pole, dipole}
-use Rattle.particle_text.specs.declared.Kind.{Kind}
-use Rattle.particle_text.specs.declared.Kind.TheVariants.{Charge, Dipole, Vortex, Target}
+use Rattle.points.specs.Points.{place, pole, dipole}
+use Rattle.points.specs.declared.Kind.{Kind}
+use Rattle.points.specs.declared.Kind.TheVariants.{Charge, Dipole, Vortex, Target}
 use Rattle.row_recursions.specs.Fields.{HoldsField}
 use Rattle.row_recursions.specs.Moments.{HoldsMoments}
 use Rattle.row_recursions.specs.Rows.{converted, far_source, multipole_value}

@@ -7,9 +7,9 @@ use Rattle.std.proofs.lemmas.Int.{ints}
 use Rattle.exact_math.specs.Ends.{BoxEnds, zero_box, BoxEndsInside}
 use Rattle.exact_math.specs.Gaussian.{gaussian}
 use Rattle.cell_name.specs.Square.{Square}
-use Rattle.cert_text.specs.declared.Entry.{Entry}
-use Rattle.cert_text.specs.declared.Letter.TheVariants.{U}
-use Rattle.particle_text.specs.declared.Kind.TheVariants.{Charge}
+use Rattle.letters.specs.declared.Entry.{Entry}
+use Rattle.letters.specs.declared.Letter.TheVariants.{U}
+use Rattle.points.specs.declared.Kind.TheVariants.{Charge}
 use Rattle.row_recursions.specs.Rows.{source_moment, pole_moment, dipole_moment, local_value, local_round}
 use Rattle.soundness.specs.Accounts.{LeafSource, LeafTarget, Accounting, under, is_leaf, accounts}
 use Rattle.soundness.specs.Computed.{leaf_row, local_row, local_radius, target_box}

@@ -14,9 +14,9 @@ use Rattle.exact_math.proofs.ComplexRationals.{ℂ, complex_rationals, ◌*ℂ�
 use Rattle.exact_math.proofs.BoxEnclosures.{EnclosesBox, enclosed_from_contained, contained_from_enclosed}
 use Rattle.exact_math.proofs.EndsBridges.{BoxEndsContain-inside}
 use Rattle.cell_name.specs.Square.{Square, side}
-use Rattle.particle_text.specs.Points.{place, pole, dipole}
-use Rattle.particle_text.specs.declared.Kind.{Kind}
-use Rattle.particle_text.specs.declared.Kind.TheVariants.{Charge, Dipole, Vortex, Target}
+use Rattle.points.specs.Points.{place, pole, dipole}
+use Rattle.points.specs.declared.Kind.{Kind}
+use Rattle.points.specs.declared.Kind.TheVariants.{Charge, Dipole, Vortex, Target}
 use Rattle.row_recursions.specs.Moments.{HoldsMoments}
 use Rattle.row_recursions.specs.Rows.{source_moment, shifted_up}
 use Rattle.row_recursions.specs.Sources.{source_at}

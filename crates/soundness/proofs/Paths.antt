@@ -9,11 +9,11 @@ use Rattle.exact_math.proofs.RingTactic.{quotes, ring4}
 use Rattle.exact_math.proofs.Sums.{sum_list}
 use Rattle.exact_math.proofs.ComplexRationals.{ℂ, complex_rationals, ◌+ℂ◌}
 use Rattle.cell_name.specs.Square.{side}
-use Rattle.cert_text.specs.declared.Entry.{Entry}
-use Rattle.cert_text.specs.declared.Letter.{Letter}
-use Rattle.cert_text.specs.declared.Letter.TheVariants.{U, V, W, X}
+use Rattle.letters.specs.declared.Entry.{Entry}
+use Rattle.letters.specs.declared.Letter.{Letter}
+use Rattle.letters.specs.declared.Letter.TheVariants.{U, V, W, X}
 use Rattle.kernel_table.specs.Kernel.{kernel_entry}
-use Rattle.particle_text.specs.Points.{place}
+use Rattle.points.specs.Points.{place}
 use Rattle.row_recursions.specs.Rows.{converted}
 use Rattle.soundness.specs.Squares.{sides_between, IsIn, IsFarFrom}
 use Rattle.soundness.specs.Accounts.{LeafSource, Accounting, is_letter, under, sources_under, entries_of}

@@ -10,9 +10,10 @@ use Rattle.exact_math.specs.Sums.{sum_terms}
 use Rattle.cell_name.specs.Cell.{square, half_number}
 use Rattle.cell_name.specs.declared.cell.Cell.{Cell}
 use Rattle.cell_name.specs.declared.cell.Quadrant.{Quadrant}
-use Rattle.near_field.specs.DirectSum.{is_source, acts_on, acting_on, direct_sum}
+use Rattle.near_field.specs.DirectSum.{acts_on, acting_on, direct_sum}
+use Rattle.points.specs.Points.{is_source}
 use Rattle.near_field.specs.Pair.{is_at, term_of}
-use Rattle.particle_text.specs.declared.Point.{Point}
+use Rattle.points.specs.declared.Point.{Point}
 use Rattle.row_recursions.specs.Cells.{sign, quadrant_of}
 use Rattle.soundness.specs.Accounts.{LeafSource, points_of}
 use Rattle.soundness.specs.Squares.{quadrant}

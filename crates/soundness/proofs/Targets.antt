@@ -10,9 +10,9 @@ use Rattle.exact_math.proofs.ListSums.{sum_list-filter}
 use Rattle.exact_math.proofs.ComplexRationals.{ℂ, complex_rationals, ◌+ℂ◌}
 use Rattle.exact_math.proofs.BoxEnclosures.{EnclosesBox, EnclosesBox-add, EnclosesBox-inside, contained_from_enclosed}
 use Rattle.cell_name.specs.Square.{side}
-use Rattle.cert_text.specs.declared.Entry.{Entry}
-use Rattle.cert_text.specs.declared.Letter.{Letter}
-use Rattle.cert_text.specs.declared.Letter.TheVariants.{U, V, W, X}
+use Rattle.letters.specs.declared.Entry.{Entry}
+use Rattle.letters.specs.declared.Letter.{Letter}
+use Rattle.letters.specs.declared.Letter.TheVariants.{U, V, W, X}
 use Rattle.near_field.specs.Pair.{pair_box}
 use Rattle.row_recursions.specs.Rows.{multipole_value}
 use Rattle.soundness.specs.Squares.{offset, IsIn, IsFarFrom}

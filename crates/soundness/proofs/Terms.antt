@@ -17,13 +17,13 @@ use Rattle.exact_math.proofs.Gaussians.{value}
 use Rattle.exact_math.proofs.DirectTerms.{pole-value}
 use Rattle.exact_math.proofs.Fractions.{complex_value, Stands, Stands-itself, Stands-zero, Stands-sum_terms}
 use Rattle.exact_math.proofs.BoxEnclosures.{EnclosesBox, EnclosesBox-zero, enclosed_from_contained}
-use Rattle.near_field.specs.DirectSum.{is_source, acts_on, acting_on, direct_sum}
+use Rattle.near_field.specs.DirectSum.{acts_on, acting_on, direct_sum}
+use Rattle.points.specs.Points.{is_source, place}
 use Rattle.near_field.specs.Pair.{is_at, term_at, term_of, outward, pair_box}
 use Rattle.near_field.proofs.PairContains.{distance_positive, term_denominator, pair_box-contains, acts-apart}
-use Rattle.particle_text.specs.Points.{place}
-use Rattle.particle_text.specs.declared.Kind.{Kind}
-use Rattle.particle_text.specs.declared.Kind.TheVariants.{Charge, Dipole, Vortex, Target}
-use Rattle.particle_text.specs.declared.Point.{Point}
+use Rattle.points.specs.declared.Kind.{Kind}
+use Rattle.points.specs.declared.Kind.TheVariants.{Charge, Dipole, Vortex, Target}
+use Rattle.points.specs.declared.Point.{Point}
 use Rattle.row_recursions.specs.Moments.{nothing}
 use Rattle.row_recursions.specs.Sources.{source_at, source_of}
 use Rattle.row_recursions.proofs.BoxSums.{units}

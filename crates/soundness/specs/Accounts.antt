@@ -4,10 +4,10 @@ use Rattle.std.specs.List.{range_with_len, list_any}
 use Rattle.exact_math.specs.Ends.{BoxEnds}
 use Rattle.exact_math.specs.Gaussian.{Gaussian}
 use Rattle.cell_name.specs.Square.{Square}
-use Rattle.cert_text.specs.declared.Entry.{Entry}
-use Rattle.cert_text.specs.declared.Letter.{Letter}
-use Rattle.cert_text.specs.declared.Letter.TheVariants.{U, V, W, X}
-use Rattle.particle_text.specs.declared.Point.{Point}
+use Rattle.letters.specs.declared.Entry.{Entry}
+use Rattle.letters.specs.declared.Letter.{Letter}
+use Rattle.letters.specs.declared.Letter.TheVariants.{U, V, W, X}
+use Rattle.points.specs.declared.Point.{Point}
 
 -- A source with its leaf. It is a point of the program, over which a reader knows the direct sum; points that are equal may stand in different leaves.
 pub record LeafSource : Type 0 where

@@ -3,12 +3,12 @@ use Rattle.std.specs.Prelude.{ℕ, zero, suc, ◌+◌, ◌*◌, pos, List, fold,
 use Rattle.exact_math.specs.Ends.{BoxEnds, zero_box, add_box, widen_box}
 use Rattle.exact_math.specs.Gaussian.{Gaussian}
 use Rattle.cell_name.specs.Square.{Square, side}
-use Rattle.cert_text.specs.declared.Entry.{Entry}
-use Rattle.cert_text.specs.declared.Letter.TheVariants.{U, V, W, X}
+use Rattle.letters.specs.declared.Entry.{Entry}
+use Rattle.letters.specs.declared.Letter.TheVariants.{U, V, W, X}
 use Rattle.kernel_table.specs.Kernel.{kernel_entry}
 use Rattle.near_field.specs.Pair.{pair_box}
-use Rattle.particle_text.specs.Points.{place, pole, dipole}
-use Rattle.particle_text.specs.declared.Point.{Point}
+use Rattle.points.specs.Points.{place, pole, dipole}
+use Rattle.points.specs.declared.Point.{Point}
 use Rattle.row_recursions.specs.Rows.{source_moment, shifted_up, converted, far_source, shifted_down, local_value, multipole_value}
 use Rattle.row_recursions.specs.Sources.{source_of}
 use Rattle.truncation.specs.Entries.{weight}

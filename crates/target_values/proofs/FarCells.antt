@@ -6,7 +6,7 @@ use Rattle.cell_name.proofs.Cells.{Touches-sym}
 use Rattle.cell_lists.specs.Lists.{AreLists}
 use Rattle.cell_lists.specs.Row.{row}
 use Rattle.cell_lists.specs.declared.entry_lists.EntryLists.{EntryLists}
-use Rattle.cert_text.specs.declared.Letter.TheVariants.{W}
+use Rattle.letters.specs.declared.Letter.TheVariants.{W}
 use Rattle.quadtree.specs.TreeModel.{TreeModel, IsTree, size, square_of}
 use Rattle.row_recursions.proofs.Geometry.{far_places}
 use Rattle.soundness.specs.Squares.{offset}

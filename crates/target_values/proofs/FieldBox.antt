@@ -11,13 +11,13 @@ use Rattle.cell_name.specs.Square.{Square, side}
 use Rattle.cell_lists.specs.Lists.{AreLists, lists_of}
 use Rattle.cell_lists.specs.Row.{row}
 use Rattle.cell_lists.specs.declared.entry_lists.EntryLists.{EntryLists}
-use Rattle.cert_text.specs.declared.Letter.{Letter}
-use Rattle.cert_text.specs.declared.Letter.TheVariants.{U, W}
+use Rattle.letters.specs.declared.Letter.{Letter}
+use Rattle.letters.specs.declared.Letter.TheVariants.{U, W}
 use Rattle.complex_box.specs.declared.CBox.{CBox}
 use Rattle.near_field.specs.DirectSum.{direct_sum}
 use Rattle.near_field.specs.Pair.{pair_box}
-use Rattle.particle_text.specs.Points.{place}
-use Rattle.particle_text.specs.declared.Point.{Point}
+use Rattle.points.specs.Points.{place}
+use Rattle.points.specs.declared.Point.{Point}
 use Rattle.quadtree.specs.Tree.{AreInGrid}
 use Rattle.quadtree.specs.TreeModel.{TreeModel, IsTreeOf, IsLeafOf, size, square_of, leaf_of}
 use Rattle.row_recursions.specs.Rows.{multipole_value}

@@ -8,10 +8,10 @@ use Rattle.cell_lists.specs.Lists.{AreLists}
 use Rattle.cell_lists.specs.Row.{row}
 use Rattle.cell_lists.specs.declared.entry_lists.EntryLists.{EntryLists}
 use Rattle.cell_lists.proofs.TreeNumbers.{tree_cell_at}
-use Rattle.cert_text.specs.declared.Letter.TheVariants.{U}
+use Rattle.letters.specs.declared.Letter.TheVariants.{U}
 use Rattle.field_sizes.proofs.Disjoint.{entries_share_no_source}
 use Rattle.near_field.specs.Pair.{is_at}
-use Rattle.particle_text.specs.declared.Point.{Point}
+use Rattle.points.specs.declared.Point.{Point}
 use Rattle.quadtree.specs.Tree.{AreInGrid}
 use Rattle.quadtree.specs.TreeModel.{TreeModel, IsTreeOf, size, square_of}
 use Rattle.tree_field.specs.Field.{sources_in}

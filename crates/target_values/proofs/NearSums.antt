@@ -7,13 +7,13 @@ use Rattle.std.proofs.lemmas.List.Sums.{fold-append, fold_more, sum_by-append, c
 use Rattle.exact_math.specs.Ends.{BoxEnds, add_box, zero_box}
 use Rattle.exact_math.specs.Gaussian.{Gaussian, gaussian}
 use Rattle.exact_math.specs.Within.{Within}
-use Rattle.near_field.specs.DirectSum.{is_source}
+use Rattle.points.specs.Points.{is_source, pole, dipole}
 use Rattle.near_field.specs.Pair.{is_at, pair_box}
-use Rattle.particle_text.specs.Limits.{InGrid, InRange, HasStrength, most_strength, size_of_gaussian, weight64}
-use Rattle.particle_text.specs.Points.{pole, dipole}
-use Rattle.particle_text.specs.declared.Kind.{Kind}
-use Rattle.particle_text.specs.declared.Kind.TheVariants.{Charge, Dipole, Vortex, Target}
-use Rattle.particle_text.specs.declared.Point.{Point}
+use Rattle.points.specs.Limits.{InGrid, InRange, HasStrength, most_strength, weight64}
+use Rattle.exact_math.specs.Sizes.{abs_gaussian}
+use Rattle.points.specs.declared.Kind.{Kind}
+use Rattle.points.specs.declared.Kind.TheVariants.{Charge, Dipole, Vortex, Target}
+use Rattle.points.specs.declared.Point.{Point}
 use Rattle.soundness.specs.Computed.{total_box}
 use Rattle.target_values.specs.Points.{point_at, sources, sources_at, count_apart}
 
@@ -50,7 +50,7 @@ weight-most p range = bounded p.kind range.strength
     small : (q : ℤ) → Within most_strength q → unsigned_abs q ≤ most_strength
     small q w = omega (arith, ints)
 
-    bounded : (k : Kind) → HasStrength k → 2 ^ 40 * (size_of_gaussian (pole k) + 64 * size_of_gaussian (dipole k)) ≤ 2 ^ 67
+    bounded : (k : Kind) → HasStrength k → 2 ^ 40 * (abs_gaussian (pole k) + 64 * abs_gaussian (dipole k)) ≤ 2 ^ 67
     bounded (Charge q) w = let a = small q w in omega arith
     bounded (Vortex g) w = let a = small (neg_ℤ g) (record { above = omega (arith, ints); below = omega (arith, ints) }) in omega arith
     bounded (Dipole re im) w = let a = small re w.0 in let b = small im w.1 in omega arith

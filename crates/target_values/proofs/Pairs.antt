@@ -10,10 +10,9 @@ use Rattle.cell_lists.specs.Lists.{AreLists}
 use Rattle.cell_lists.specs.Row.{row}
 use Rattle.cell_lists.specs.declared.entry_lists.EntryLists.{EntryLists}
 use Rattle.cell_lists.proofs.CellNumbers.{same_number}
-use Rattle.cert_text.specs.declared.Letter.TheVariants.{U}
-use Rattle.near_field.specs.DirectSum.{is_source}
-use Rattle.particle_text.specs.Points.{place}
-use Rattle.particle_text.specs.declared.Point.{Point}
+use Rattle.letters.specs.declared.Letter.TheVariants.{U}
+use Rattle.points.specs.Points.{is_source, place}
+use Rattle.points.specs.declared.Point.{Point}
 use Rattle.quadtree.specs.Tree.{AreInGrid}
 use Rattle.quadtree.specs.TreeModel.{TreeModel, IsTreeOf, size, squares, square_of, leaf_of}
 use Rattle.tree_field.specs.Field.{sources_in}

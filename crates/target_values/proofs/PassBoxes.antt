@@ -13,8 +13,8 @@ use Rattle.complex_box.specs.Box.{box_ends, BoxWithin}
 use Rattle.complex_box.specs.declared.CBox.{CBox}
 use Rattle.field_sizes.proofs.Bounds.{boxes_within}
 use Rattle.near_field.specs.DirectSum.{direct_sum}
-use Rattle.particle_text.specs.Points.{place}
-use Rattle.particle_text.specs.declared.Point.{Point}
+use Rattle.points.specs.Points.{place}
+use Rattle.points.specs.declared.Point.{Point}
 use Rattle.quadtree.specs.TreeModel.{TreeModel, leaf_of}
 use Rattle.tree_field.specs.Field.{target_box, target_boxes, targets}
 use Rattle.tree_field.specs.Lists.{TreeLists}

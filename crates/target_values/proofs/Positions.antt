@@ -11,10 +11,10 @@ use Rattle.std.proofs.lemmas.List.Sums.{length-filter, count_by-le-length}
 use Rattle.cell_lists.specs.Lists.{AreLists}
 use Rattle.cell_lists.specs.Row.{row}
 use Rattle.cell_lists.specs.declared.entry_lists.EntryLists.{EntryLists}
-use Rattle.cert_text.specs.declared.Letter.TheVariants.{W}
+use Rattle.letters.specs.declared.Letter.TheVariants.{W}
 use Rattle.complex_box.specs.declared.CBox.{CBox}
-use Rattle.near_field.specs.DirectSum.{is_source}
-use Rattle.particle_text.specs.declared.Point.{Point}
+use Rattle.points.specs.Points.{is_source}
+use Rattle.points.specs.declared.Point.{Point}
 use Rattle.quadtree.specs.Tree.{AreInGrid, HasTarget}
 use Rattle.quadtree.specs.TreeModel.{TreeModel, IsTreeOf, size, square_of, leaf_of}
 use Rattle.quadtree.proofs.Distinct.{Contains-filter}

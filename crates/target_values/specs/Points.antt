@@ -2,10 +2,10 @@
 use Rattle.std.specs.Prelude.{ℕ, pos, not, List, map, filter, slice_index_or}
 use Rattle.std.specs.List.{count_by}
 use Rattle.exact_math.specs.Gaussian.{Gaussian}
-use Rattle.near_field.specs.DirectSum.{is_source}
+use Rattle.points.specs.Points.{is_source}
 use Rattle.near_field.specs.Pair.{is_at}
-use Rattle.particle_text.specs.declared.Kind.TheVariants.{Target}
-use Rattle.particle_text.specs.declared.Point.{Point}
+use Rattle.points.specs.declared.Kind.TheVariants.{Target}
+use Rattle.points.specs.declared.Point.{Point}
 
 -- what stands past the last point
 abbrev pub no_point : Point

@@ -1,8 +1,8 @@
 -- The targets of a list by their positions.
 use Rattle.std.specs.Prelude.{ℕ, not, List, length, filter}
 use Rattle.std.specs.List.{range_with_len}
-use Rattle.near_field.specs.DirectSum.{is_source}
-use Rattle.particle_text.specs.declared.Point.{Point}
+use Rattle.points.specs.Points.{is_source}
+use Rattle.points.specs.declared.Point.{Point}
 use Rattle.target_values.specs.Points.{point_at}
 
 -- the positions of the targets, ascending

@@ -7,7 +7,7 @@ use Rattle.cell_lists.specs.Row.{row}
 use Rattle.cell_lists.specs.declared.entry_lists.EntryLists.{EntryLists}
 use Rattle.complex_box.specs.declared.CBox.{CBox}
 use Rattle.near_field.specs.Pair.{pair_box}
-use Rattle.particle_text.specs.declared.Point.{Point}
+use Rattle.points.specs.declared.Point.{Point}
 use Rattle.quadtree.specs.TreeModel.{TreeModel, square_of, node_of}
 use Rattle.row_recursions.specs.Rows.{local_value, multipole_value}
 use Rattle.soundness.specs.Computed.{total_box}

@@ -6,8 +6,8 @@ ghost use Rattle.complex_box.specs.Box.{box_ends, BoxWithin};
 ghost use Rattle.cell_lists.specs.Lists.{AreLists};
 ghost use Rattle.cell_name.specs.Cell.{square};
 ghost use Rattle.cell_name.specs.Square.{side, Holds};
-ghost use Rattle.particle_text.specs.Limits.{InGrid};
-ghost use Rattle.particle_text.specs.Points.{place};
+ghost use Rattle.points.specs.Limits.{InGrid};
+ghost use Rattle.points.specs.Points.{place};
 ghost use Rattle.quadtree.specs.TreeModel.{size, square_of, IsTree};
 ghost use Rattle.row_recursions.specs.Cells.{side_of, offset_from};
 ghost use Rattle.row_recursions.specs.Rows.{multipole_value};
@@ -21,7 +21,7 @@ use cell_name::Cell;
 use complex_box::{CBox, Row};
 use error_ledger::Ledger;
 use multipole::at_multipole;
-use particle_text::Point;
+use points::Point;
 use quadtree::Tree;
 
 /// The value of the multipole row of the cell `n` at a target far from it.

@@ -4,10 +4,9 @@ ghost use Rattle.exact_math.specs.Ends.{BoxEndsWithin, add_box};
 ghost use Rattle.complex_box.specs.Box.{box_ends};
 ghost use Rattle.cell_lists.specs.Lists.{AreLists};
 ghost use Rattle.cell_lists.specs.Row.{row};
-ghost use Rattle.near_field.specs.DirectSum.{is_source};
+ghost use Rattle.points.specs.Points.{is_source, place};
 ghost use Rattle.near_field.specs.Pair.{pair_box};
-ghost use Rattle.particle_text.specs.Limits.{InGrid, InRange};
-ghost use Rattle.particle_text.specs.Points.{place};
+ghost use Rattle.points.specs.Limits.{InGrid, InRange};
 ghost use Rattle.quadtree.specs.TreeModel.{size, node_of};
 ghost use Rattle.soundness.specs.Computed.{total_box};
 ghost use Rattle.tree_rows.specs.Trees.{IsTreeOfPoints};
@@ -17,7 +16,7 @@ ghost use Rattle.target_values.specs.Values.{near_pairs, near_count};
 use cell_lists::EntryLists;
 use complex_box::{CBox, Work};
 use near_field::pair;
-use particle_text::{Kind, Point};
+use points::{Kind, Point};
 use quadtree::Tree;
 
 /// Whether a point is a charge, a dipole or a vortex.

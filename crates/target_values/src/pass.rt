@@ -5,7 +5,7 @@ ghost use Rattle.exact_math.specs.Ends.{BoxEndsContain};
 ghost use Rattle.exact_math.specs.Orders.{IsOrder};
 ghost use Rattle.complex_box.specs.Box.{box_ends, BoxWithin};
 ghost use Rattle.near_field.specs.DirectSum.{direct_sum};
-ghost use Rattle.particle_text.specs.Points.{place};
+ghost use Rattle.points.specs.Points.{place};
 ghost use Rattle.quadtree.specs.TreeModel.{size};
 ghost use Rattle.target_values.specs.Targets.{target_positions};
 ghost use Rattle.tree_field.specs.Field.{target_boxes, targets};
@@ -18,7 +18,7 @@ ghost use Rattle.tree_rows.specs.Trees.{IsTreeWithLists};
 use crate::value::target_value;
 use cell_lists::EntryLists;
 use complex_box::{CBox, Work};
-use particle_text::Point;
+use points::Point;
 use quadtree::Tree;
 
 /// Writes the box of each target, in the order of the list.

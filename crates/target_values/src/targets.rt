@@ -3,7 +3,7 @@ ghost use Rattle.std.specs.Prelude.{◌≡◌, ◌≤◌, length, IfOk};
 ghost use Rattle.target_values.specs.Targets.{target_positions};
 
 use crate::near::is_source;
-use particle_text::Point;
+use points::Point;
 use std::alloc::{AllocError, Global};
 
 /// The positions of the targets in the list, ascending. Condition: there are at most 65,536 points.

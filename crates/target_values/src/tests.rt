@@ -1,13 +1,14 @@
 //! Values of targets that are known from elsewhere: a far cell of nine charges, and a charge near by.
 ghost use Rattle.std.specs.Prelude.{◌≡◌, ◌^◌, ◌<◌, length, All, IfOk};
 ghost use Rattle.complex_box.specs.Box.{BoxWithin};
-ghost use Rattle.particle_text.specs.Limits.{WithinLimits};
+ghost use Rattle.points.specs.Limits.{WithinLimits};
 ghost use Rattle.tree_rows.specs.FlatRows.{IsWeight};
 
 use crate::{target_positions, target_value, value_pass};
 use cell_lists::lists;
 use complex_box::{CBox, Work};
-use particle_text::{Points, parse};
+use particle_text::parse;
+use points::Points;
 use quadtree::Tree;
 use std::alloc::Global;
 use std::process::Abort;

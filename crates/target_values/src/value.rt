@@ -5,9 +5,9 @@ ghost use Rattle.exact_math.specs.Orders.{IsOrder};
 ghost use Rattle.complex_box.specs.Box.{box_ends, BoxWithin};
 ghost use Rattle.cell_lists.specs.Lists.{AreLists};
 ghost use Rattle.near_field.specs.DirectSum.{direct_sum};
-ghost use Rattle.particle_text.specs.Points.{place};
+ghost use Rattle.points.specs.Points.{place};
 ghost use Rattle.cell_name.specs.Square.{Holds};
-ghost use Rattle.particle_text.specs.Limits.{InGrid};
+ghost use Rattle.points.specs.Limits.{InGrid};
 ghost use Rattle.quadtree.specs.TreeModel.{size, square_of, leaf_of};
 ghost use Rattle.row_recursions.specs.Cells.{side_of, offset_from};
 ghost use Rattle.row_recursions.specs.Rows.{local_value};
@@ -26,7 +26,7 @@ use cell_lists::EntryLists;
 use cell_name::Cell;
 use complex_box::{CBox, Row, Work};
 use local_expansion::at_local;
-use particle_text::Point;
+use points::Point;
 use quadtree::Tree;
 
 /// The value of the local row of the cell `n` at a target in it.

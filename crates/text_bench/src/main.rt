@@ -3,12 +3,13 @@
 #![tactic(auto)]
 
 ghost use Rattle.std.specs.Prelude.{◌≤◌};
-ghost use Rattle.particle_text.specs.Limits.{WithinLimits};
+ghost use Rattle.points.specs.Limits.{WithinLimits};
 
 use complex_box::CBox;
 use field_report::write_target;
 use io_ports::{DropSink, MemSink, Sink};
-use particle_text::{Mode, Points, parse, print};
+use particle_text::{parse, print};
+use points::{Mode, Points};
 use std::time::Instant;
 use std::{env, io};
 

@@ -3,7 +3,7 @@
 #![tactic(auto)]
 
 use cell_lists::{EntryLists, lists};
-use cert_text::Letter;
+use letters::Letter;
 use point_sample::sample_points;
 use quadtree::Tree;
 use std::time::Instant;

@@ -7,12 +7,11 @@ use Rattle.std.proofs.lemmas.List.Elements.{All-append, All-map, All-contains, C
 use Rattle.exact_math.specs.Ends.{BoxEnds}
 use Rattle.cell_name.specs.Square.{Square, root}
 use Rattle.cell_lists.proofs.OneEntry.{in_tree_of}
-use Rattle.cert_text.specs.declared.Entry.{Entry}
-use Rattle.cert_text.specs.declared.Letter.{Letter}
-use Rattle.cert_text.specs.declared.Letter.TheVariants.{U, V, W, X}
-use Rattle.near_field.specs.DirectSum.{is_source}
-use Rattle.particle_text.specs.Points.{place}
-use Rattle.particle_text.specs.declared.Point.{Point}
+use Rattle.letters.specs.declared.Entry.{Entry}
+use Rattle.letters.specs.declared.Letter.{Letter}
+use Rattle.letters.specs.declared.Letter.TheVariants.{U, V, W, X}
+use Rattle.points.specs.Points.{is_source, place}
+use Rattle.points.specs.declared.Point.{Point}
 use Rattle.quadtree.specs.Tree.{AreInGrid, IsTreeCell}
 use Rattle.soundness.specs.Accounts.{LeafSource, LeafTarget, Accounting, under, is_letter, sources_under, entries_of}
 use Rattle.soundness.specs.Computed.{total_box}

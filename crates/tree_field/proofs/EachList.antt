@@ -10,9 +10,9 @@ use Rattle.cell_name.specs.Square.{Square, parent}
 use Rattle.cell_name.proofs.Cells.{decide_touches}
 use Rattle.cell_lists.specs.Entries.{IsWPair, IsPair, IsEntry}
 use Rattle.cell_lists.proofs.OneEntry.{in_tree_of}
-use Rattle.cert_text.specs.declared.Letter.{Letter}
-use Rattle.cert_text.specs.declared.Letter.TheVariants.{U, V, W, X}
-use Rattle.particle_text.specs.declared.Point.{Point}
+use Rattle.letters.specs.declared.Letter.{Letter}
+use Rattle.letters.specs.declared.Letter.TheVariants.{U, V, W, X}
+use Rattle.points.specs.declared.Point.{Point}
 use Rattle.quadtree.specs.Splitting.{cells_to_level}
 use Rattle.quadtree.specs.Tree.{AreInGrid, IsTreeCell, IsSplit, IsLeaf, HasTarget, HasSource, AreTreeCells}
 use Rattle.quadtree.proofs.Distinct.{Contains-filter, Contains-into_filter}

@@ -10,11 +10,11 @@ use Rattle.cell_name.proofs.HoldsTest.{Holds-from_test, test-from_Holds}
 use Rattle.cell_name.proofs.Order.{IsBefore-irrefl}
 use Rattle.cell_lists.specs.Entries.{IsPair, IsEntry}
 use Rattle.cell_lists.proofs.OneEntry.{in_tree_of, each_pair_has_one_entry}
-use Rattle.cert_text.specs.declared.Entry.{Entry}
-use Rattle.cert_text.specs.declared.Letter.{Letter}
-use Rattle.cert_text.specs.declared.Letter.TheVariants.{U, V, W, X}
-use Rattle.particle_text.specs.Points.{place}
-use Rattle.particle_text.specs.declared.Point.{Point}
+use Rattle.letters.specs.declared.Entry.{Entry}
+use Rattle.letters.specs.declared.Letter.{Letter}
+use Rattle.letters.specs.declared.Letter.TheVariants.{U, V, W, X}
+use Rattle.points.specs.Points.{place}
+use Rattle.points.specs.declared.Point.{Point}
 use Rattle.quadtree.specs.Tree.{AreInGrid, IsTreeCell}
 use Rattle.quadtree.proofs.Distinct.{AllPairs-append, All-flat_map, Contains-flat_map, Contains-filter, different-flat_map}
 use Rattle.row_recursions.proofs.Geometry.{far_places, pairs_of_cells}

@@ -5,10 +5,10 @@ use Rattle.exact_math.specs.Ends.{zero_box, add_box, widen_box}
 use Rattle.exact_math.specs.Gaussian.{Gaussian}
 use Rattle.cell_name.specs.Square.{Square, side, parent}
 use Rattle.cell_lists.specs.Entries.{IsVPair, IsWPair}
-use Rattle.cert_text.specs.declared.Letter.TheVariants.{U, V, W, X}
+use Rattle.letters.specs.declared.Letter.TheVariants.{U, V, W, X}
 use Rattle.kernel_table.specs.Kernel.{kernel_entry}
 use Rattle.near_field.specs.Pair.{pair_box}
-use Rattle.particle_text.specs.declared.Point.{Point}
+use Rattle.points.specs.declared.Point.{Point}
 use Rattle.quadtree.specs.Tree.{AreInGrid}
 use Rattle.row_recursions.proofs.ZeroBoxes.{zero_left}
 use Rattle.row_recursions.specs.Rows.{converted, shifted_down, multipole_value}

@@ -13,8 +13,8 @@ use Rattle.cell_name.specs.Order.{IsBefore}
 use Rattle.cell_name.specs.Square.{Square, root, parent, holds_test}
 use Rattle.cell_name.proofs.Cells.{Holds-parent, parent-square_at}
 use Rattle.cell_name.proofs.HoldsTest.{Holds-from_test, test-from_Holds}
-use Rattle.near_field.specs.DirectSum.{is_source}
-use Rattle.particle_text.specs.declared.Point.{Point}
+use Rattle.points.specs.Points.{is_source}
+use Rattle.points.specs.declared.Point.{Point}
 use Rattle.quadtree.specs.Splitting.{quarters}
 use Rattle.quadtree.specs.Tree.{count_in, AreInGrid, IsTreeCell, IsSplit, IsLeaf}
 use Rattle.quadtree.proofs.Distinct.{Contains-filter, Contains-into_filter}

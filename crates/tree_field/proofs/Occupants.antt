@@ -3,11 +3,10 @@ use Rattle.std.proofs.Common.{◌≡◌, ◌≤◌, List, true, false, not, refl
 use Rattle.std.proofs.lemmas.Bool.{true≢false, and_parts, and_from, not-true}
 use Rattle.cell_name.specs.Square.{Square, holds_test}
 use Rattle.cell_name.proofs.HoldsTest.{Holds-from_test, test-from_Holds}
-use Rattle.near_field.specs.DirectSum.{is_source}
-use Rattle.particle_text.specs.Points.{IsTarget, IsSource}
-use Rattle.particle_text.specs.declared.Kind.{Kind}
-use Rattle.particle_text.specs.declared.Kind.TheVariants.{Charge, Dipole, Vortex, Target}
-use Rattle.particle_text.specs.declared.Point.{Point}
+use Rattle.points.specs.Points.{is_source, IsTarget, IsSource}
+use Rattle.points.specs.declared.Kind.{Kind}
+use Rattle.points.specs.declared.Kind.TheVariants.{Charge, Dipole, Vortex, Target}
+use Rattle.points.specs.declared.Point.{Point}
 use Rattle.quadtree.specs.Tree.{count_in, HasTarget, HasSource}
 use Rattle.quadtree.proofs.Counts.{count_by-listed}
 use Rattle.tree_field.specs.Field.{is_source_in, has_source}

@@ -17,8 +17,8 @@ use Rattle.cell_lists.specs.Row.{row}
 use Rattle.cell_lists.proofs.CellNumbers.{number_listed, number_before, same_number}
 use Rattle.cell_lists.proofs.OneEntry.{in_tree_of}
 use Rattle.cell_lists.proofs.TreeNumbers.{tree_cell_at}
-use Rattle.near_field.specs.DirectSum.{is_source}
-use Rattle.particle_text.specs.declared.Point.{Point}
+use Rattle.points.specs.Points.{is_source}
+use Rattle.points.specs.declared.Point.{Point}
 use Rattle.quadtree.specs.Members.{holds_point, holds_position, members_of}
 use Rattle.quadtree.specs.Splitting.{quarters}
 use Rattle.quadtree.specs.Tree.{AreInGrid, IsTreeCell, IsSplit}

@@ -10,10 +10,10 @@ use Rattle.exact_math.specs.Ends.{BoxEndsInside, BoxEndsContain}
 use Rattle.exact_math.specs.Gaussian.{Gaussian}
 use Rattle.exact_math.specs.Ratio.{zero_complex, add_complex}
 use Rattle.cell_name.specs.Square.{Square}
-use Rattle.near_field.specs.DirectSum.{is_source, acts_on, direct_sum}
+use Rattle.near_field.specs.DirectSum.{acts_on, direct_sum}
+use Rattle.points.specs.Points.{is_source, place}
 use Rattle.near_field.specs.Pair.{is_at, term_of}
-use Rattle.particle_text.specs.Points.{place}
-use Rattle.particle_text.specs.declared.Point.{Point}
+use Rattle.points.specs.declared.Point.{Point}
 use Rattle.quadtree.specs.Tree.{AreInGrid, IsSplit, IsLeaf}
 use Rattle.quadtree.proofs.Distinct.{Contains-filter}
 use Rattle.row_recursions.proofs.Geometry.{held_places}

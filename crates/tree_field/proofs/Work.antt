@@ -10,8 +10,8 @@ use Rattle.std.specs.Prelude.{cond}
 use Rattle.cell_name.specs.Cell.{square}
 use Rattle.cell_name.specs.Square.{Square, root}
 use Rattle.cell_lists.specs.Row.{row}
-use Rattle.cert_text.specs.declared.Letter.TheVariants.{U, V}
-use Rattle.particle_text.specs.declared.Point.{Point}
+use Rattle.letters.specs.declared.Letter.TheVariants.{U, V}
+use Rattle.points.specs.declared.Point.{Point}
 use Rattle.quadtree.specs.Tree.{AreInGrid}
 use Rattle.quadtree.specs.TreeModel.{TreeModel, IsTreeOf, squares, size, square_of, node_of}
 use Rattle.tree_field.specs.Field.{has_source}

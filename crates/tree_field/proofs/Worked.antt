@@ -4,11 +4,11 @@ use mathlib.Core.Path.{refl}
 use Rattle.exact_math.specs.Ends.{BoxEnds}
 use Rattle.exact_math.specs.Gaussian.{gaussian}
 use Rattle.cell_name.specs.Square.{Square}
-use Rattle.cert_text.specs.declared.Letter.{Letter}
-use Rattle.cert_text.specs.declared.Letter.TheVariants.{U, V, W, X}
+use Rattle.letters.specs.declared.Letter.{Letter}
+use Rattle.letters.specs.declared.Letter.TheVariants.{U, V, W, X}
 use Rattle.kernel_table.specs.Kernel.{kernel_power, kernel_entry}
-use Rattle.particle_text.specs.declared.Kind.TheVariants.{Charge, Target}
-use Rattle.particle_text.specs.declared.Point.{Point}
+use Rattle.points.specs.declared.Kind.TheVariants.{Charge, Target}
+use Rattle.points.specs.declared.Point.{Point}
 use Rattle.row_recursions.specs.Rows.{pole_moment, dipole_moment, source_moment, up_round, shifted_up, converted, far_pole, far_dipole, far_source, down_round, shifted_down, local_round, local_value, multipole_round, multipole_value}
 use Rattle.truncation.specs.Tails.{pair_tail, single_tail}
 use Rattle.quadtree.specs.Splitting.{cells_to_level}

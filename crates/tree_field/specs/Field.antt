@@ -4,12 +4,11 @@ use Rattle.std.specs.List.{list_any}
 use Rattle.exact_math.specs.Ends.{BoxEnds, zero_box, add_box, widen_box}
 use Rattle.exact_math.specs.Gaussian.{Gaussian}
 use Rattle.cell_name.specs.Square.{Square, side, parent, square_at, holds_test}
-use Rattle.cert_text.specs.declared.Letter.TheVariants.{U, V, W, X}
+use Rattle.letters.specs.declared.Letter.TheVariants.{U, V, W, X}
 use Rattle.kernel_table.specs.Kernel.{kernel_entry}
-use Rattle.near_field.specs.DirectSum.{is_source}
+use Rattle.points.specs.Points.{is_source, place}
 use Rattle.near_field.specs.Pair.{pair_box}
-use Rattle.particle_text.specs.Points.{place}
-use Rattle.particle_text.specs.declared.Point.{Point}
+use Rattle.points.specs.declared.Point.{Point}
 use Rattle.quadtree.specs.Splitting.{quarters}
 use Rattle.quadtree.specs.Tree.{count_in}
 use Rattle.row_recursions.specs.Rows.{shifted_up, converted, shifted_down, local_value, multipole_value}

@@ -2,9 +2,9 @@
 use Rattle.std.specs.Prelude.{ℕ, ◌≡◌, ◌+◌, ◌*◌, ◌<◌, ◌≤◌, ◌⊎◌, List, length, filter, sum_by}
 use Rattle.exact_math.specs.Ends.{zero_box, add_box}
 use Rattle.cell_name.specs.Square.{Square, side, parent}
-use Rattle.cert_text.specs.declared.Letter.{Letter}
-use Rattle.cert_text.specs.declared.Letter.TheVariants.{V, X}
-use Rattle.particle_text.specs.declared.Point.{Point}
+use Rattle.letters.specs.declared.Letter.{Letter}
+use Rattle.letters.specs.declared.Letter.TheVariants.{V, X}
+use Rattle.points.specs.declared.Point.{Point}
 use Rattle.quadtree.specs.Splitting.{quarters}
 use Rattle.quadtree.specs.Tree.{AreInGrid, count_in, IsTreeCell}
 use Rattle.row_recursions.specs.Rows.{shifted_up, shifted_down}

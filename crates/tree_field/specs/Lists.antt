@@ -3,8 +3,8 @@ use Rattle.std.specs.Prelude.{ℕ, List, All, AllPairs, Contains}
 use Rattle.cell_name.specs.Order.{IsBefore}
 use Rattle.cell_name.specs.Square.{Square}
 use Rattle.cell_lists.specs.Entries.{IsEntry}
-use Rattle.cert_text.specs.declared.Letter.{Letter}
-use Rattle.particle_text.specs.declared.Point.{Point}
+use Rattle.letters.specs.declared.Letter.{Letter}
+use Rattle.points.specs.declared.Point.{Point}
 use Rattle.quadtree.specs.Tree.{IsTreeCell, AreTreeCells}
 
 -- cells, and for each letter and each cell b the cells c of its entries

@@ -4,10 +4,9 @@ use Rattle.std.specs.List.{range_with_len, count_by}
 use Rattle.cell_lists.specs.Lists.{lists_of, AreLists}
 use Rattle.cell_lists.specs.Row.{row}
 use Rattle.cell_lists.specs.declared.entry_lists.EntryLists.{EntryLists}
-use Rattle.cert_text.specs.declared.Letter.{Letter}
-use Rattle.near_field.specs.DirectSum.{is_source}
-use Rattle.particle_text.specs.Points.{place}
-use Rattle.particle_text.specs.declared.Point.{Point}
+use Rattle.letters.specs.declared.Letter.{Letter}
+use Rattle.points.specs.Points.{is_source, place}
+use Rattle.points.specs.declared.Point.{Point}
 use Rattle.quadtree.specs.Splitting.{quarters}
 use Rattle.quadtree.specs.Tree.{AreInGrid}
 use Rattle.quadtree.specs.TreeModel.{TreeModel, squares, size, square_of, node_of, leaf_of, IsTreeOf}

@@ -2,11 +2,10 @@
 use Rattle.std.specs.Prelude.{ℕ, ◌+◌, Bool, ◌&&◌, not, nat_lt, List, filter, length, sum_by}
 use Rattle.std.specs.List.{count_by, list_any}
 use Rattle.cell_name.specs.Square.{Square, holds_test}
-use Rattle.cert_text.specs.declared.Letter.TheVariants.{U, V}
-use Rattle.near_field.specs.DirectSum.{is_source}
+use Rattle.letters.specs.declared.Letter.TheVariants.{U, V}
+use Rattle.points.specs.Points.{is_source, place}
 use Rattle.near_field.specs.Pair.{is_at}
-use Rattle.particle_text.specs.Points.{place}
-use Rattle.particle_text.specs.declared.Point.{Point}
+use Rattle.points.specs.declared.Point.{Point}
 use Rattle.tree_field.specs.Field.{sources_in, has_source}
 use Rattle.tree_field.specs.Lists.{TreeLists}
 

@@ -12,12 +12,11 @@ use Rattle.std.proofs.Math.Nat.{mul-le-mul_right}
 use Rattle.exact_math.specs.Gaussian.{Gaussian}
 use Rattle.exact_math.specs.Sizes.{abs_gaussian}
 use Rattle.cell_name.specs.Square.{Square}
-use Rattle.near_field.specs.DirectSum.{is_source}
-use Rattle.particle_text.specs.Limits.{InRange, weight64, total_weight, size_of_gaussian}
-use Rattle.particle_text.specs.Points.{place, pole, dipole}
-use Rattle.particle_text.specs.declared.Kind.{Kind}
-use Rattle.particle_text.specs.declared.Kind.TheVariants.{Charge, Dipole, Vortex, Target}
-use Rattle.particle_text.specs.declared.Point.{Point}
+use Rattle.points.specs.Points.{is_source, place, pole, dipole}
+use Rattle.points.specs.Limits.{InRange, weight64, total_weight}
+use Rattle.points.specs.declared.Kind.{Kind}
+use Rattle.points.specs.declared.Kind.TheVariants.{Charge, Dipole, Vortex, Target}
+use Rattle.points.specs.declared.Point.{Point}
 use Rattle.quadtree.specs.Members.{holds_position, members_of}
 use Rattle.quadtree.specs.TreeModel.{TreeModel, size, square_of, node_of}
 use Rattle.quadtree.proofs.Distinct.{Contains-filter}
@@ -48,7 +47,7 @@ lighter P p few = by (place p) p.kind
     more : (b : ℕ) → 2 * P * b ≤ 64 * b
     more b = mul-le-mul_right b (omega arith)
 
-    by : (z : Gaussian) (k : Kind) → weight P (source_at z k) ≤ size_of_gaussian (pole k) + 64 * size_of_gaussian (dipole k)
+    by : (z : Gaussian) (k : Kind) → weight P (source_at z k) ≤ abs_gaussian (pole k) + 64 * abs_gaussian (dipole k)
     by z (Charge q) = omega arith
     by z (Dipole re im) = let h = more (abs_gaussian (dipole (Dipole re im))) in omega (arith, h)
     by z (Vortex g) = omega arith

@@ -2,7 +2,7 @@
 use Rattle.std.specs.Prelude.{ℕ, ◌<◌, ◌≡◌, ℤ, pos, List, Contains, slice_index_or}
 use Rattle.exact_math.specs.Ends.{zero_box}
 use Rattle.complex_box.specs.declared.CBox.{CBox}
-use Rattle.particle_text.specs.declared.Point.{Point}
+use Rattle.points.specs.declared.Point.{Point}
 use Rattle.quadtree.specs.Tree.{HasTarget}
 use Rattle.quadtree.specs.TreeModel.{TreeModel, size, square_of, IsTreeOf}
 use Rattle.tree_field.specs.Field.{weight_in, multipole_row, local_row, local_radius}

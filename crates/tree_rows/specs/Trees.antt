@@ -2,8 +2,8 @@
 use Rattle.std.specs.Prelude.{ℕ, ◌≤◌, List, length, All}
 use Rattle.cell_lists.specs.Lists.{AreLists, VListsAreShort}
 use Rattle.cell_lists.specs.declared.entry_lists.EntryLists.{EntryLists}
-use Rattle.particle_text.specs.Limits.{InRange, most_points, most_weight, total_weight}
-use Rattle.particle_text.specs.declared.Point.{Point}
+use Rattle.points.specs.Limits.{InRange, most_points, most_weight, total_weight}
+use Rattle.points.specs.declared.Point.{Point}
 use Rattle.quadtree.specs.TreeModel.{TreeModel, IsTreeOf}
 
 -- the tree is that of these points with some capacity of the leaves

@@ -1,10 +1,11 @@
 //! The weights of the root and of its four quarters, by hand: a charge in the south-west, one in the north-west, targets in the south-east and a
 //! dipole in the north-east.
 ghost use Rattle.std.specs.Prelude.{IfOk};
-ghost use Rattle.particle_text.specs.Limits.{WithinLimits};
+ghost use Rattle.points.specs.Limits.{WithinLimits};
 
 use super::weigh_cells;
-use particle_text::{Points, parse};
+use particle_text::parse;
+use points::Points;
 use quadtree::Tree;
 use std::alloc::Global;
 use std::test::Fail;

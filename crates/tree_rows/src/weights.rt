@@ -7,7 +7,7 @@ ghost use Rattle.tree_rows.specs.FlatRows.{IsWeight};
 ghost use Rattle.tree_rows.specs.Trees.{IsTreeOfPoints};
 
 use error_ledger::weight;
-use particle_text::Point;
+use points::Point;
 use quadtree::Tree;
 
 /// The weight of one cell.

@@ -8,7 +8,7 @@ use Rattle.cell_name.specs.Cell.{half_number}
 use Rattle.cell_name.specs.Square.{Square, parent}
 use Rattle.cell_name.specs.declared.cell.Quadrant.{Quadrant}
 use Rattle.cell_name.proofs.Quarters.{parent-child}
-use Rattle.particle_text.specs.declared.Point.{Point}
+use Rattle.points.specs.declared.Point.{Point}
 use Rattle.quadtree.specs.Splitting.{quarter}
 use Rattle.quadtree.specs.TreeModel.{TreeModel, size, square_of, node_of, IsTree, IsTreeOf}
 use Rattle.quadtree.proofs.Distinct.{Contains-filter, Contains-into_filter}

@@ -7,10 +7,10 @@ use Rattle.std.proofs.lemmas.List.Elements.{filter-append, All-filter, All-take,
 use Rattle.std.proofs.lemmas.List.Sums.{sum_by-append}
 use Rattle.std.proofs.lemmas.Option.{slice_get-get_or, slice_get_within, get_or_from_slice_get}
 use Rattle.cell_name.specs.Square.{Square, holds_test}
-use Rattle.near_field.specs.DirectSum.{is_source}
-use Rattle.particle_text.specs.declared.Kind.TheVariants.{Charge}
-use Rattle.particle_text.specs.declared.Point.{Point}
-use Rattle.particle_text.specs.Limits.{weight64, total_weight}
+use Rattle.points.specs.Points.{is_source}
+use Rattle.points.specs.declared.Kind.TheVariants.{Charge}
+use Rattle.points.specs.declared.Point.{Point}
+use Rattle.points.specs.Limits.{weight64, total_weight}
 use Rattle.quadtree.specs.Members.{holds_point, holds_position, members_of}
 use Rattle.quadtree.proofs.PointKinds.{member_point}
 use Rattle.tree_field.specs.Field.{is_source_in, sources_in}

@@ -9,11 +9,10 @@ use Rattle.cell_name.specs.Order.{IsBefore}
 use Rattle.cell_name.specs.Square.{Square, root, child, holds_test}
 use Rattle.cell_name.specs.declared.cell.Quadrant.{Quadrant}
 use Rattle.cell_name.proofs.HoldsTest.{Holds-from_test, test-from_Holds}
-use Rattle.near_field.specs.DirectSum.{is_source}
-use Rattle.particle_text.specs.declared.Kind.{Kind}
-use Rattle.particle_text.specs.declared.Kind.TheVariants.{Charge, Dipole, Vortex, Target}
-use Rattle.particle_text.specs.declared.Point.{Point}
-use Rattle.particle_text.specs.Points.{IsSource}
+use Rattle.points.specs.Points.{is_source, IsSource}
+use Rattle.points.specs.declared.Kind.{Kind}
+use Rattle.points.specs.declared.Kind.TheVariants.{Charge, Dipole, Vortex, Target}
+use Rattle.points.specs.declared.Point.{Point}
 use Rattle.quadtree.specs.Splitting.{quarter, quarters}
 use Rattle.quadtree.specs.Tree.{count_in, IsTreeCell, IsSplit, HasSource}
 use Rattle.quadtree.specs.TreeModel.{TreeModel, size, squares, square_of, node_of, IsTreeOf}

@@ -15,7 +15,7 @@ use crate::quarters::{quadrant, quarter_with_source};
 use crate::sources::sum_sources;
 use complex_box::{CBox, Row, Work, clear};
 use multipole_shift::shift_up;
-use particle_text::Point;
+use points::Point;
 use quadtree::Tree;
 
 /// Makes the row of cell `n`: of a leaf the sum of the moments of its sources, of another cell the sum of the rows of its quarters that have a

@@ -8,7 +8,7 @@ ghost use Rattle.upward_rows.specs.Upward.{is_shifted};
 
 use crate::fill::fill_row;
 use complex_box::{CBox, Work};
-use particle_text::Point;
+use points::Point;
 use quadtree::Tree;
 
 /// Makes the multipole rows of all cells, from the last to the first, whatever stood in the slice. The translations are raised by one for each

@@ -2,8 +2,8 @@
 ghost use Rattle.std.specs.Prelude.{◌≡◌, ℕ, ◌≤◌, ◌<◌, length, All};
 ghost use Rattle.exact_math.specs.Orders.{IsOrder};
 ghost use Rattle.cell_name.specs.Cell.{square};
-ghost use Rattle.near_field.specs.DirectSum.{is_source as source_kind};
-ghost use Rattle.particle_text.specs.Limits.{InRange, most_weight, total_weight};
+ghost use Rattle.points.specs.Points.{is_source as source_kind};
+ghost use Rattle.points.specs.Limits.{InRange, most_weight, total_weight};
 ghost use Rattle.quadtree.specs.Members.{members_of};
 ghost use Rattle.row_recursions.specs.Rows.{row_of};
 ghost use Rattle.tree_field.specs.Field.{leaf_row};
@@ -11,7 +11,7 @@ ghost use Rattle.tree_field.specs.Field.{leaf_row};
 use cell_name::Cell;
 use complex_box::{CBox, clear};
 use multipole::add_source;
-use particle_text::{Kind, Point};
+use points::{Kind, Point};
 
 fn is_source(kind: Kind) -> bool
     ensures { result ≡ source_kind kind }

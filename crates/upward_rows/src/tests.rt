@@ -1,11 +1,12 @@
 //! The rows of nine charges at the origin, by hand: the offset from the centre of each cell below the root is half a side to the west and to
 //! the south, and from that of the root nothing.
 ghost use Rattle.std.specs.Prelude.{IfOk};
-ghost use Rattle.particle_text.specs.Limits.{WithinLimits};
+ghost use Rattle.points.specs.Limits.{WithinLimits};
 
 use super::upward_pass;
 use complex_box::{CBox, Work};
-use particle_text::{Points, parse};
+use particle_text::parse;
+use points::Points;
 use quadtree::Tree;
 use std::alloc::Global;
 use std::test::Fail;

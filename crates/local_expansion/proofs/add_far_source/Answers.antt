@@ -1,5 +1,5 @@
 use Rattle.std.proofs.Common.{◌*◌, ◌^◌, subst}
-use Rattle.particle_text.specs.Limits.{weight64}
+use Rattle.points.specs.Limits.{weight64}
 use Rattle.truncation.specs.Entries.{local_cut}
 use Rattle.row_recursions.specs.Cells.{side_of, centre_of, far_coefficients_of}
 use Rattle.row_recursions.specs.Rows.{row_of, RowsAdd}

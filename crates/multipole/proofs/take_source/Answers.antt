@@ -1,6 +1,6 @@
 use Rattle.std.proofs.Common.{◌∙◌, ap, ◌*◌, ◌^◌, subst, sym, arith, length}
 use Rattle.exact_math.specs.Ends.{add_box}
-use Rattle.particle_text.specs.Limits.{weight64}
+use Rattle.points.specs.Limits.{weight64}
 use Rattle.row_recursions.specs.Cells.{moments_of}
 use Rattle.row_recursions.specs.Rows.{row_of, HasPart}
 use Rattle.row_recursions.proofs.RowSizes.{taken_within}

@@ -1,7 +1,7 @@
 use Rattle.std.proofs.Common.{◌∙◌, ◌++◌, ◌∷◌, [], ap, sym, subst, zero-add, arith}
 use Rattle.std.proofs.lemmas.List.FromFn.{map-range_with_len_more}
-use Rattle.particle_text.specs.declared.Mode.TheVariants.{Field}
-use Rattle.particle_text.specs.Limits.{WithinLimits}
+use Rattle.points.specs.declared.Mode.TheVariants.{Field}
+use Rattle.points.specs.Limits.{WithinLimits}
 use Rattle.point_sample.specs.Generator.{state_after}
 use Rattle.point_sample.specs.Sample.{next_point, sample_point}
 use Rattle.point_sample.proofs.Draws.{five_more}

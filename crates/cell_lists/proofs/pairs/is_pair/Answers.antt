@@ -4,7 +4,7 @@ use Rattle.std.proofs.lemmas.Bool.{false≢true}
 use Rattle.cell_name.specs.Cell.{square}
 use Rattle.cell_name.specs.Square.{Touches}
 use Rattle.quadtree.specs.TreeModel.{square_of}
-use Rattle.cert_text.specs.declared.Letter.TheVariants.{U}
+use Rattle.letters.specs.declared.Letter.TheVariants.{U}
 use Rattle.cell_lists.specs.Entries.{ComeApart, ComesApartBelow}
 use Rattle.cell_lists.proofs.TreeNumbers.{read_at}
 use Rattle.cell_lists.proofs.PairTests.{along, u_pair, v_pair, w_pair, x_pair, no_pair, not_leaf}

@@ -1,6 +1,6 @@
 -- There is a list for each cell.
 use Rattle.std.proofs.Common.{length, ap, arith}
-use Rattle.cert_text.specs.declared.Letter.TheVariants.{U, V, W, X}
+use Rattle.letters.specs.declared.Letter.TheVariants.{U, V, W, X}
 use Rattle.cell_lists.proofs.tests.lists_are.Goals as goal
 
 pub u_list-requires : goal.u_list-requires

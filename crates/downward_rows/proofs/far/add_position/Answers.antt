@@ -2,8 +2,8 @@ use Rattle.std.specs.Prelude.{slice_get, Some}
 use Rattle.std.proofs.Common.{ℕ, ◌≡◌, List, sym, ◌+◌, ◌*◌, ◌^◌, get_or, ap, ◌∙◌, arith}
 use Rattle.exact_math.specs.Ends.{add_box}
 use Rattle.cell_name.specs.Cell.{square}
-use Rattle.particle_text.specs.Limits.{weight64}
-use Rattle.particle_text.specs.declared.Point.{Point}
+use Rattle.points.specs.Limits.{weight64}
+use Rattle.points.specs.declared.Point.{Point}
 use Rattle.row_recursions.proofs.Points.{weight_bounded}
 use Rattle.row_recursions.specs.Rows.{row_of}
 use Rattle.downward_rows.specs.Entries.{weight_of, far_weight_at}

@@ -3,7 +3,7 @@ use Rattle.std.specs.Prelude.{All}
 use Rattle.cell_name.specs.Square.{side}
 use Rattle.cell_lists.proofs.CellNumbers.{level_positive, parent_before}
 use Rattle.cell_lists.proofs.TreeNumbers.{read_at}
-use Rattle.cert_text.specs.declared.Letter.TheVariants.{V, X}
+use Rattle.letters.specs.declared.Letter.TheVariants.{V, X}
 use Rattle.quadtree.specs.TreeModel.{square_of}
 use Rattle.tree_field.specs.Field.{local_radius}
 use Rattle.downward_rows.proofs.FieldRadii.{listed, numbers, few_entries, zero_radius, radius_read}

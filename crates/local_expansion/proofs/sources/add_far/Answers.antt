@@ -4,8 +4,8 @@ use Rattle.exact_math.specs.Ends.{BoxEndsWithin, add_box, quot_box}
 use Rattle.exact_math.specs.Gaussian.{gaussian}
 use Rattle.complex_box.specs.Box.{box_ends}
 use Rattle.complex_box.proofs.Sizes.{quot_box_within}
-use Rattle.particle_text.specs.Limits.{HasStrength}
-use Rattle.particle_text.specs.Points.{place, pole, dipole}
+use Rattle.points.specs.Limits.{HasStrength}
+use Rattle.points.specs.Points.{place, pole, dipole}
 use Rattle.row_recursions.specs.Cells.{side_of, offset_from}
 use Rattle.row_recursions.specs.Rows.{row_of, units_box, far_source}
 use Rattle.row_recursions.proofs.Points.{grid_fits, side_positive}

@@ -4,8 +4,8 @@ use Rattle.exact_math.specs.Ends.{BoxEndsWithin, quot_box}
 use Rattle.exact_math.specs.Gaussian.{gaussian}
 use Rattle.complex_box.specs.Box.{box_ends}
 use Rattle.complex_box.proofs.Sizes.{quot_box_within}
-use Rattle.particle_text.specs.Limits.{HasStrength}
-use Rattle.particle_text.specs.Points.{place, pole, dipole}
+use Rattle.points.specs.Limits.{HasStrength}
+use Rattle.points.specs.Points.{place, pole, dipole}
 use Rattle.truncation.specs.Places.{doubled_offset}
 use Rattle.row_recursions.specs.Cells.{side_of, centre_of}
 use Rattle.row_recursions.specs.Rows.{units_box, source_moment}

@@ -1,7 +1,7 @@
 use Rattle.std.proofs.Common.{◌≡◌, ℕ, List, Ok, Err, sym, ap, ◌∙◌, subst, refl}
 use Rattle.std.proofs.lemmas.Bool.{false≢true}
-use Rattle.particle_text.specs.declared.Point.{Point}
-use Rattle.particle_text.specs.Limits.{InRange}
+use Rattle.points.specs.declared.Point.{Point}
+use Rattle.points.specs.Limits.{InRange}
 use Rattle.particle_text.specs.Nearest.{nearest_point}
 use Rattle.particle_text.specs.Text.{LineSpells}
 use Rattle.particle_text.proofs.FormFaults.{syntax_alone, range_alone, no_form_fault}

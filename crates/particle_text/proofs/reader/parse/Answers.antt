@@ -4,7 +4,7 @@ use Rattle.std.proofs.lemmas.Bool.{false≢true}
 use Rattle.std.proofs.lemmas.Bool.Decides.{nat_tests}
 use Rattle.std.proofs.lemmas.List.{nil_from_length}
 use Rattle.std.specs.Result.{is_err}
-use Rattle.particle_text.specs.Limits.{CanJoin}
+use Rattle.points.specs.Limits.{CanJoin}
 use Rattle.particle_text.specs.Faults.{FirstFault, IsFirstKind, LineFault}
 use Rattle.particle_text.specs.Text.{Spells}
 use Rattle.particle_text.proofs.Lines.{start, step, whole, at_fault}

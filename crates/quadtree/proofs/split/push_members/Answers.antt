@@ -6,7 +6,7 @@ use Rattle.std.proofs.lemmas.List.Edits.{between_more}
 use Rattle.std.proofs.lemmas.List.Elements.{filter-append}
 use Rattle.cell_name.specs.Cell.{square}
 use Rattle.cell_name.specs.Square.{Square}
-use Rattle.particle_text.specs.declared.Point.{Point}
+use Rattle.points.specs.declared.Point.{Point}
 use Rattle.quadtree.specs.Members.{holds_position, members_among}
 use Rattle.quadtree.proofs.split.push_members.Goals as goal
 use Rattle.quadtree.proofs.split.push_members.Goals.{then-holds_position+in_ok-push, else-holds_position}

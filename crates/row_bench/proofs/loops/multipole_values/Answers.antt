@@ -3,7 +3,7 @@ use Rattle.std.proofs.lemmas.Int.{ints}
 use Rattle.std.specs.Int.{w64}
 use Rattle.truncation.specs.Places.{GaussianBeyond, doubled_offset}
 use Rattle.cell_name.specs.Square.{side}
-use Rattle.particle_text.specs.Points.{place}
+use Rattle.points.specs.Points.{place}
 use Rattle.complex_box.proofs.Sizes.{box_wider}
 use Rattle.row_recursions.specs.Cells.{side_of, offset_from}
 use Rattle.row_recursions.specs.Geometry.{doubled_centre}

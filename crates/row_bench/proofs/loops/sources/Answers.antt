@@ -1,5 +1,5 @@
 use Rattle.std.proofs.Common.{◌+◌, ◌*◌, ◌^◌, arith}
-use Rattle.particle_text.specs.Limits.{weight64}
+use Rattle.points.specs.Limits.{weight64}
 use Rattle.complex_box.proofs.Sizes.{box_wider}
 use Rattle.row_bench.proofs.Weights.{one_more, weight_of}
 use Rattle.row_bench.proofs.loops.sources.Goals as goal

@@ -2,7 +2,7 @@ use Rattle.std.proofs.Common.{◌≡◌, ◌∙◌, ℕ, List, ap, subst, length
 use Rattle.std.specs.Prelude.{OnOk, OnErr}
 use Rattle.std.specs.Io.KnownBytes.{Appends}
 use Rattle.io_ports.specs.Bytes.{AppendsPrefix}
-use Rattle.particle_text.specs.declared.Point.{Point}
+use Rattle.points.specs.declared.Point.{Point}
 use Rattle.sample_summary.specs.Summary.{summary_of}
 use Rattle.sample_summary.specs.Text.{summary_text}
 use Rattle.sample_summary.specs.declared.numbers.Summary.{Summary}

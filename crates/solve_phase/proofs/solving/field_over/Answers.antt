@@ -1,6 +1,6 @@
 use Rattle.std.proofs.Common.{ℕ, ◌≡◌, ◌+◌, ◌*◌, ◌≤◌, length, refl, sym, subst, arith}
 use Rattle.std.specs.Prelude.{sum_by}
-use Rattle.cert_text.specs.declared.Letter.TheVariants.{V}
+use Rattle.letters.specs.declared.Letter.TheVariants.{V}
 use Rattle.quadtree.proofs.Limits.{in_grid}
 use Rattle.tree_field.proofs.Work.{sources_counted, work_of_tree, translations_are_few}
 use Rattle.tree_rows.specs.FieldRows.{AreWeights, IsFieldOf}

@@ -8,7 +8,7 @@ use Rattle.cell_lists.specs.Row.{row}
 use Rattle.cell_lists.proofs.TreeNumbers.{read_at}
 use Rattle.cell_name.specs.Cell.{square}
 use Rattle.cell_name.specs.Square.{side}
-use Rattle.cert_text.specs.declared.Letter.TheVariants.{W}
+use Rattle.letters.specs.declared.Letter.TheVariants.{W}
 use Rattle.quadtree.specs.TreeModel.{square_of}
 use Rattle.row_recursions.proofs.RowSizes.{order_small}
 use Rattle.truncation.specs.Tails.{ceiling, single_tail}

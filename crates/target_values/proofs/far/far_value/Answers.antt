@@ -2,7 +2,7 @@ use Rattle.std.proofs.Common.{ℕ, ◌+◌, ◌*◌, ◌^◌, ◌∙◌, ap, ari
 use Rattle.std.specs.Prelude.{slice_range}
 use Rattle.exact_math.specs.Gaussian.{Gaussian}
 use Rattle.complex_box.proofs.Sizes.{box_wider}
-use Rattle.particle_text.specs.Points.{place}
+use Rattle.points.specs.Points.{place}
 use Rattle.row_recursions.specs.Cells.{side_of, offset_from}
 use Rattle.row_recursions.specs.Rows.{row_of, multipole_value}
 use Rattle.row_recursions.specs.Sizes.{RowWithin}

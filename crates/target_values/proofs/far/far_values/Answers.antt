@@ -6,10 +6,10 @@ use Rattle.cell_lists.specs.Row.{row}
 use Rattle.cell_lists.proofs.TreeNumbers.{read_at}
 use Rattle.cell_name.specs.Cell.{square}
 use Rattle.cell_name.specs.Square.{side}
-use Rattle.cert_text.specs.declared.Letter.TheVariants.{W}
+use Rattle.letters.specs.declared.Letter.TheVariants.{W}
 use Rattle.complex_box.specs.Box.{box_ends}
 use Rattle.complex_box.proofs.Sizes.{add_box_within, box_wider}
-use Rattle.particle_text.specs.Points.{place}
+use Rattle.points.specs.Points.{place}
 use Rattle.quadtree.specs.TreeModel.{size, square_of}
 use Rattle.row_recursions.specs.Rows.{multipole_value}
 use Rattle.soundness.specs.Computed.{total_box}

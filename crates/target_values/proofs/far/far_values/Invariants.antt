@@ -3,7 +3,7 @@ use Rattle.exact_math.specs.Ends.{BoxEndsWithin}
 use Rattle.complex_box.specs.Box.{box_ends}
 use Rattle.cell_lists.specs.Row.{row}
 use Rattle.cell_name.specs.Square.{side}
-use Rattle.particle_text.specs.Points.{place}
+use Rattle.points.specs.Points.{place}
 use Rattle.quadtree.specs.TreeModel.{square_of}
 use Rattle.row_recursions.specs.Rows.{multipole_value}
 use Rattle.soundness.specs.Computed.{total_box}

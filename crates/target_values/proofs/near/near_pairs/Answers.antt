@@ -5,11 +5,11 @@ use Rattle.std.proofs.lemmas.List.Sums.{sum_by_more}
 use Rattle.exact_math.specs.Ends.{BoxEnds, add_box}
 use Rattle.exact_math.specs.Gaussian.{Gaussian}
 use Rattle.cell_lists.specs.Row.{row}
-use Rattle.cert_text.specs.declared.Letter.TheVariants.{U}
+use Rattle.letters.specs.declared.Letter.TheVariants.{U}
 use Rattle.complex_box.specs.Box.{box_ends}
 use Rattle.complex_box.proofs.Sizes.{add_box_within, box_wider}
 use Rattle.near_field.specs.Pair.{pair_box}
-use Rattle.particle_text.specs.Points.{place}
+use Rattle.points.specs.Points.{place}
 use Rattle.quadtree.specs.TreeModel.{node_of}
 use Rattle.soundness.specs.Computed.{total_box}
 use Rattle.target_values.specs.Points.{sources_at, count_apart}

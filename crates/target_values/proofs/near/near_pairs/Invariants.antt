@@ -4,7 +4,7 @@ use Rattle.exact_math.specs.Ends.{BoxEndsWithin}
 use Rattle.complex_box.specs.Box.{box_ends}
 use Rattle.cell_lists.specs.Row.{row}
 use Rattle.near_field.specs.Pair.{pair_box}
-use Rattle.particle_text.specs.Points.{place}
+use Rattle.points.specs.Points.{place}
 use Rattle.soundness.specs.Computed.{total_box}
 use Rattle.target_values.specs.Points.{count_apart}
 use Rattle.target_values.specs.Values.{sources_of}

@@ -1,9 +1,9 @@
 use Rattle.std.proofs.Common.{◌∙◌, ◌≡◌, arith, get_or}
 use Rattle.complex_box.proofs.Sizes.{box_wider}
-use Rattle.particle_text.specs.Points.{place}
+use Rattle.points.specs.Points.{place}
 use Rattle.target_values.proofs.NearSums.{first_point, ends-step, pairs-step, one_at_most}
 use Rattle.std.proofs.lemmas.List.{get_or_default}
-use Rattle.particle_text.specs.declared.Point.{Point}
+use Rattle.points.specs.declared.Point.{Point}
 use Rattle.target_values.specs.Points.{no_point, point_at}
 use Rattle.target_values.proofs.near.pairs_with.Goals as goal
 

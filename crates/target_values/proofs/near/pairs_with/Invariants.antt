@@ -2,7 +2,7 @@ use Rattle.std.proofs.Common.{◌≡◌, ◌+◌, ◌*◌, ◌^◌, ◌≤◌, t
 use Rattle.exact_math.specs.Ends.{BoxEndsWithin}
 use Rattle.complex_box.specs.Box.{box_ends}
 use Rattle.near_field.specs.Pair.{pair_box}
-use Rattle.particle_text.specs.Points.{place}
+use Rattle.points.specs.Points.{place}
 use Rattle.soundness.specs.Computed.{total_box}
 use Rattle.target_values.specs.Points.{sources_at, count_apart}
 use Rattle.target_values.proofs.near.pairs_with.Given as goal

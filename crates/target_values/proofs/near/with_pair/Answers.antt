@@ -2,7 +2,7 @@ use Rattle.std.proofs.Common.{◌∙◌, ap, sym, arith}
 use Rattle.exact_math.specs.Ends.{add_box}
 use Rattle.complex_box.specs.Box.{box_ends}
 use Rattle.complex_box.proofs.Sizes.{add_box_within, box_wider}
-use Rattle.particle_text.specs.Points.{place}
+use Rattle.points.specs.Points.{place}
 use Rattle.target_values.proofs.NearSums.{ends_at, pairs_at, sum_of_one, pairs_of_one, weight-most}
 use Rattle.target_values.proofs.near.with_pair.Goals as goal
 

@@ -1,6 +1,6 @@
 use Rattle.std.proofs.Common.{◌≡◌, filter, not}
 use Rattle.std.specs.List.{range_with_len}
-use Rattle.near_field.specs.DirectSum.{is_source}
+use Rattle.points.specs.Points.{is_source}
 use Rattle.target_values.specs.Points.{point_at}
 use Rattle.target_values.proofs.targets.target_positions.Given as goal
 

@@ -4,8 +4,8 @@ use Rattle.std.proofs.lemmas.List.Elements.{All-contains}
 use Rattle.exact_math.specs.Ends.{BoxEndsContain}
 use Rattle.cell_name.specs.Square.{Holds}
 use Rattle.near_field.specs.DirectSum.{direct_sum}
-use Rattle.particle_text.specs.Points.{place}
-use Rattle.particle_text.specs.declared.Point.{Point}
+use Rattle.points.specs.Points.{place}
+use Rattle.points.specs.declared.Point.{Point}
 use Rattle.quadtree.specs.TreeModel.{square_of}
 use Rattle.tree_field.specs.Field.{target_box, targets}
 use Rattle.target_values.specs.Points.{no_point, point_at}

@@ -6,7 +6,7 @@ use Rattle.cell_lists.proofs.TreeNumbers.{read_at}
 use Rattle.cell_name.specs.Square.{side}
 use Rattle.complex_box.specs.Box.{box_ends}
 use Rattle.complex_box.proofs.Sizes.{add_box_within, box_wider, widen_box_within}
-use Rattle.particle_text.specs.Points.{place}
+use Rattle.points.specs.Points.{place}
 use Rattle.row_recursions.specs.Rows.{local_value}
 use Rattle.soundness.specs.Squares.{offset}
 use Rattle.tree_rows.specs.FlatRows.{row_at}

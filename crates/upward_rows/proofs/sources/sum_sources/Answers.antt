@@ -5,8 +5,8 @@ use Rattle.std.specs.Prelude.{sum_by}
 use Rattle.exact_math.specs.Ends.{BoxEndsWithin, add_box}
 use Rattle.complex_box.proofs.Sizes.{box_wider}
 use Rattle.cell_name.specs.Cell.{square}
-use Rattle.particle_text.specs.declared.Point.{Point}
-use Rattle.particle_text.specs.Limits.{weight64}
+use Rattle.points.specs.declared.Point.{Point}
+use Rattle.points.specs.Limits.{weight64}
 use Rattle.row_recursions.specs.Rows.{row_of}
 use Rattle.row_recursions.proofs.RowSizes.{order_small}
 use Rattle.soundness.specs.Computed.{total_row, moments_in}

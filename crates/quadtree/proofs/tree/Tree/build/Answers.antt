@@ -1,6 +1,6 @@
 -- A list within the limits lies in the grid, and its tree has all of the cells.
 use Rattle.std.proofs.Common.{List, subst, sym}
-use Rattle.particle_text.specs.declared.Point.{Point}
+use Rattle.points.specs.declared.Point.{Point}
 use Rattle.quadtree.specs.Tree.{AreInGrid}
 use Rattle.quadtree.specs.TreeModel.{IsTreeOf}
 use Rattle.quadtree.proofs.Limits.{in_grid}

@@ -9,7 +9,7 @@ use Rattle.std.specs.Vec.{with_items}
 use Rattle.complex_box.specs.declared.CBox.{CBox}
 use Rattle.cell_lists.specs.Row.{row}
 use Rattle.downward_rows.proofs.Totals.{row_wider}
-use Rattle.particle_text.specs.declared.Point.{Point}
+use Rattle.points.specs.declared.Point.{Point}
 use Rattle.quadtree.specs.TreeModel.{node_of}
 use Rattle.row_recursions.specs.Sizes.{RowWithin}
 use Rattle.tree_rows.specs.FlatRows.{row_at}

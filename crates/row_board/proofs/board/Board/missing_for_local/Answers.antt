@@ -1,7 +1,7 @@
 -- The parent's row first, then those of the V list.
 use Rattle.std.proofs.Common.{◌<◌, ◌∷◌, map, ap, ap₂, ◌∙◌, sym, subst, arith, lit<}
 use Rattle.std.specs.Prelude.{All, MatchOption}
-use Rattle.cert_text.specs.declared.Letter.TheVariants.{V}
+use Rattle.letters.specs.declared.Letter.TheVariants.{V}
 use Rattle.cell_lists.specs.Row.{row}
 use Rattle.quadtree.specs.TreeModel.{size, node_of}
 use Rattle.row_board.specs.Names.{AreFilled, IsFirstMissing}

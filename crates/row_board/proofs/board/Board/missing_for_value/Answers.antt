@@ -1,7 +1,7 @@
 -- The leaf's row first, then those of its W list.
 use Rattle.std.proofs.Common.{◌<◌, length, ap, sym, subst, arith, lit<}
 use Rattle.std.specs.Prelude.{All}
-use Rattle.cert_text.specs.declared.Letter.TheVariants.{W}
+use Rattle.letters.specs.declared.Letter.TheVariants.{W}
 use Rattle.quadtree.specs.TreeModel.{size, leaf_of}
 use Rattle.row_board.specs.Parts.{BoardParts}
 use Rattle.row_board.proofs.Missing.{listed, numbers, target_at, target_read, leaf_below}

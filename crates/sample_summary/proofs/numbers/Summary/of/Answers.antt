@@ -3,10 +3,10 @@ use Rattle.std.specs.Prelude.{sum_by}
 use Rattle.std.specs.List.{range_with_len, count_by}
 use Rattle.std.proofs.lemmas.List.{length-map}
 use Rattle.cell_lists.specs.Lists.{lists_of}
-use Rattle.cert_text.specs.declared.Letter.TheVariants.{U, V, W, X}
+use Rattle.letters.specs.declared.Letter.TheVariants.{U, V, W, X}
 use Rattle.complex_box.specs.Box.{box_ends}
-use Rattle.particle_text.specs.Points.{place}
-use Rattle.particle_text.specs.declared.Point.{Point}
+use Rattle.points.specs.Points.{place}
+use Rattle.points.specs.declared.Point.{Point}
 use Rattle.quadtree.specs.Tree.{AreInGrid}
 use Rattle.quadtree.specs.TreeModel.{size, node_of, IsTree}
 use Rattle.tree_field.specs.Field.{targets, target_box}

@@ -1,5 +1,5 @@
 use Rattle.std.proofs.Common.{◌≡◌, ◌++◌, decimal}
-use Rattle.field_report.proofs.front.FrontText.prepend_decimal.Given as goal
+use Rattle.line_text.proofs.front.FrontText.prepend_wide.Given as goal
 
 abbrev pub invariant-loop-rest : goal.invariant-loop-rest
 invariant-loop-rest g l = decimal l.n ++ l.initial.self ≡ decimal l.rest ++ l.self

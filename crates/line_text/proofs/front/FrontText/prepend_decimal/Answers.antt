@@ -1,6 +1,6 @@
 use Rattle.std.proofs.Common.{◌<◌, ◌^◌, ◌∙◌, sym, length, arith, rules}
-use Rattle.field_report.proofs.Digits.{decimal-last, decimal-one, decimal_room}
-use Rattle.field_report.proofs.front.FrontText.prepend_decimal.Goals as goal
+use Rattle.line_text.proofs.Digits.{decimal-last, decimal-one, decimal_room}
+use Rattle.line_text.proofs.front.FrontText.prepend_decimal.Goals as goal
 
 pub prepend-requires : goal.prepend-requires
 prepend-requires g c =

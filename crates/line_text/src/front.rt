@@ -2,13 +2,15 @@
 ghost use Rattle.std.specs.Prelude.{◌≡◌, ℕ, ◌+◌, ◌^◌, ◌≤◌, ◌<◌, List, [], ◌∷◌, ◌++◌, length, drop, decimal};
 ghost use Rattle.std.specs.Fmt.{signed_decimal};
 ghost use Rattle.exact_math.specs.Within.{Within};
-ghost use Rattle.field_report.specs.Decimals.{digits_in, decimal_text};
+ghost use Rattle.line_text.specs.Decimals.{digits_in, decimal_text};
 
-use crate::counts::ONE;
 use std::marker::Model;
 
 /// The digits of a decimal behind its point.
 const PLACES: u32 = 12;
+
+/// How many counts of 10^-12 make 1.
+pub const ONE: i128 = 1_000_000_000_000;
 
 /// A text that grows at its front, in a buffer of `N` bytes. A clause sees the text.
 #[derive(Drop)]
@@ -69,6 +71,20 @@ impl<const N: usize> FrontText<N> {
         requires { 20 + length self.old ≤ N }
         ensures text { self.new ≡ decimal n ++ self.old }
         ensures room { length self.new ≤ 20 + length self.old }
+    {
+        let mut rest = n;
+        while rest >= 10 {
+            self.prepend(b'0' + (rest % 10) as u8);
+            rest /= 10;
+        }
+        self.prepend(b'0' + rest as u8);
+    }
+
+    /// Puts a whole number of up to 128 bits before the text.
+    pub fn prepend_wide(&mut self, n: u128)
+        requires { 39 + length self.old ≤ N }
+        ensures text { self.new ≡ decimal n ++ self.old }
+        ensures room { length self.new ≤ 39 + length self.old }
     {
         let mut rest = n;
         while rest >= 10 {

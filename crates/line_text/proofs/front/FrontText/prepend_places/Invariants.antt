@@ -1,6 +1,6 @@
 use Rattle.std.proofs.Common.{◌≡◌, ◌+◌, ◌-◌, ◌++◌, length}
-use Rattle.field_report.specs.Decimals.{digits_in}
-use Rattle.field_report.proofs.front.FrontText.prepend_places.Given as goal
+use Rattle.line_text.specs.Decimals.{digits_in}
+use Rattle.line_text.proofs.front.FrontText.prepend_places.Given as goal
 
 abbrev pub invariant-loop-place : goal.invariant-loop-place
 invariant-loop-place g l = record {

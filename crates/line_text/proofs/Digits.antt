@@ -1,7 +1,7 @@
 -- Numbers written from the last digit to the first.
 use Rattle.std.proofs.Common.{◌≡◌, ℕ, suc, ◌+◌, ◌/◌, ◌%◌, ◌^◌, ◌<◌, ◌≤◌, List, ◌∷◌, [], ◌++◌, length, refl, ap, ◌∙◌, length-append, append_assoc, arith, decimal}
 use Rattle.std.proofs.lemmas.Fmt.{decimal_digit, decimal_step, decimal_nonempty, length-decimal-le}
-use Rattle.field_report.specs.Decimals.{digits_in}
+use Rattle.line_text.specs.Decimals.{digits_in}
 
 -- the last of the places
 pub digits_in-last : (k n : ℕ) (text : List ℕ) → digits_in (suc k) n ++ text ≡ digits_in k (n / 10) ++ ((48 + n % 10) ∷ text)

@@ -1,7 +1,7 @@
 use Rattle.std.proofs.Common.{◌≡◌, suc, ◌+◌, ◌-◌, ◌++◌, ◌∙◌, ap, sym, arith}
-use Rattle.field_report.proofs.Digits.{digits_in-last, digits_in-none}
-use Rattle.field_report.specs.Decimals.{digits_in}
-use Rattle.field_report.proofs.front.FrontText.prepend_places.Goals as goal
+use Rattle.line_text.proofs.Digits.{digits_in-last, digits_in-none}
+use Rattle.line_text.specs.Decimals.{digits_in}
+use Rattle.line_text.proofs.front.FrontText.prepend_places.Goals as goal
 
 pub loop-place-preserved : goal.loop-place-preserved
 loop-place-preserved g c =

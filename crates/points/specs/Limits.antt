@@ -1,13 +1,13 @@
 -- Which places, strengths and lists the text allows.
-use Rattle.std.specs.Prelude.{ℕ, ◌+◌, ◌*◌, ◌-◌, ◌^◌, ◌<◌, ◌≤◌, ℤ, pos, neg_ℤ, ◌≤ℤ◌, ◌<ℤ◌, List, length, unsigned_abs, All, sum_by}
-use Rattle.exact_math.specs.Gaussian.{Gaussian}
+use Rattle.std.specs.Prelude.{ℕ, ◌+◌, ◌*◌, ◌-◌, ◌^◌, ◌<◌, ◌≤◌, ℤ, pos, neg_ℤ, ◌≤ℤ◌, ◌<ℤ◌, List, length, All, sum_by}
+use Rattle.exact_math.specs.Sizes.{abs_gaussian}
 use Rattle.exact_math.specs.Within.{Within}
-use Rattle.particle_text.specs.declared.Kind.{Kind}
-use Rattle.particle_text.specs.declared.Kind.TheVariants.{Charge, Dipole, Vortex, Target}
-use Rattle.particle_text.specs.declared.Mode.{Mode}
-use Rattle.particle_text.specs.declared.Mode.TheVariants.{Field, Velocity}
-use Rattle.particle_text.specs.declared.Point.{Point}
-use Rattle.particle_text.specs.Points.{pole, dipole}
+use Rattle.points.specs.declared.Kind.{Kind}
+use Rattle.points.specs.declared.Kind.TheVariants.{Charge, Dipole, Vortex, Target}
+use Rattle.points.specs.declared.Mode.{Mode}
+use Rattle.points.specs.declared.Mode.TheVariants.{Field, Velocity}
+use Rattle.points.specs.declared.Point.{Point}
+use Rattle.points.specs.Points.{pole, dipole}
 
 -- the grid has 2^grid_bits places in a row
 abbrev pub grid_bits : ℕ
@@ -47,13 +47,9 @@ pub record InRange (p : Point) : Type 0 where
   pub grid : InGrid p.x p.y
   pub strength : HasStrength p.kind
 
--- abs(re) + abs(im)
-abbrev pub size_of_gaussian : Gaussian → ℕ
-size_of_gaussian g = unsigned_abs g.re + unsigned_abs g.im
-
 -- abs(a) + 64 abs(b) of the pole a and the dipole b
 abbrev pub weight64 : Point → ℕ
-weight64 p = size_of_gaussian (pole p.kind) + 64 * size_of_gaussian (dipole p.kind)
+weight64 p = abs_gaussian (pole p.kind) + 64 * abs_gaussian (dipole p.kind)
 
 abbrev pub total_weight : List Point → ℕ
 total_weight points = sum_by weight64 points

@@ -1,0 +1,175 @@
+//! Particles, what they are to the sum, and lists of them within their limits.
+#![tactic(auto)]
+
+ghost use Rattle.std.specs.Prelude.{◌≡◌, List, [], ◌∷◌, ◌++◌, ◌↔◌, IsTrue, OnOk, OnErr};
+ghost use Rattle.exact_math.specs.Gaussian.{gaussian};
+ghost use Rattle.points.specs.Limits.{InRange, HasStrength, weight64};
+ghost use Rattle.points.specs.Points.{pole, dipole, strength, is_source};
+
+mod limits;
+
+use io_ports::Memory;
+use limits::has_strength;
+pub use limits::{MOST_POINTS, MOST_WEIGHT, in_grid};
+use std::alloc::Global;
+use std::marker::Model;
+
+/// What a particle is.
+#[derive(Clone, Copy, PartialEq, Eq, Debug)]
+pub enum Kind {
+    /// A charge `q`: the term `q/(t - z)`.
+    Charge(i64),
+    /// A dipole `(re, im)`: the term `(re + i im)/(t - z)^2`.
+    Dipole(i64, i64),
+    /// A point vortex of circulation `g`: the term `-i g/(t - z)`.
+    Vortex(i64),
+    /// A place where the field is asked for.
+    Target,
+}
+
+/// What a particle adds to the sum at a target `t`, from its place `z`.
+#[derive(Clone, Copy, PartialEq, Eq, Debug)]
+pub enum Strength {
+    /// A pole `a = re + i im`: the term `a/(t - z)`.
+    Pole(i64, i64),
+    /// A dipole `b = re + i im`: the term `b/(t - z)^2`.
+    Dipole(i64, i64),
+    /// No term.
+    Nothing,
+}
+
+impl Kind {
+    /// A charge `q` is the pole `q`, a vortex of circulation `g` the pole `-i g`, a target adds nothing.
+    ///
+    /// The kind's strength is within its limit.
+    pub fn strength(self) -> Strength
+        requires { HasStrength self }
+        ensures { result ≡ strength self }
+    {
+        match self {
+            Kind::Charge(q) => Strength::Pole(q, 0),
+            Kind::Dipole(re, im) => Strength::Dipole(re, im),
+            Kind::Vortex(g) => Strength::Pole(0, -g),
+            Kind::Target => Strength::Nothing,
+        }
+    }
+
+    /// Whether it adds to the field: a charge, a dipole or a vortex, but no target.
+    pub fn is_source(self) -> bool
+        ensures { result ≡ is_source self }
+    {
+        self != Kind::Target
+    }
+}
+
+/// A particle at a whole place of the grid.
+#[derive(Clone, Copy, PartialEq, Eq, Debug)]
+pub struct Point {
+    pub x: i64,
+    pub y: i64,
+    pub kind: Kind,
+}
+
+/// What the text asks for: the field of charges and dipoles, or the velocity of vortices and dipoles.
+#[derive(Clone, Copy, PartialEq, Eq, Debug)]
+pub enum Mode {
+    Field,
+    Velocity,
+}
+
+impl Point {
+    /// Whether the place is in the grid and each strength component is within its limit.
+    pub fn is_in_range(&self) -> bool
+        ensures { IsTrue result ↔ InRange self.now }
+    {
+        in_grid(self.x, self.y) && has_strength(&self.kind)
+    }
+
+    /// The pole `a` as its two parts: `(q, 0)` for a charge `q`, `(0, -g)` for a vortex `g`, else zero.
+    ///
+    /// The point is in range.
+    pub fn pole(&self) -> (i64, i64)
+        requires { InRange self.now }
+        ensures { gaussian result.0 result.1 ≡ pole self.now.kind }
+    {
+        match self.kind.strength() {
+            Strength::Pole(re, im) => (re, im),
+            Strength::Dipole(_, _) | Strength::Nothing => (0, 0),
+        }
+    }
+
+    /// The dipole `b` as its two parts, zero for what is no dipole.
+    pub fn dipole(&self) -> (i64, i64)
+        ensures { gaussian result.0 result.1 ≡ dipole self.now.kind }
+    {
+        match self.kind {
+            Kind::Dipole(re, im) => (re, im),
+            Kind::Charge(_) | Kind::Vortex(_) | Kind::Target => (0, 0),
+        }
+    }
+
+    /// The weight `abs(a) + 64 abs(b)`, where `abs` of a complex number is `abs(re) + abs(im)`.
+    ///
+    /// The point is in range.
+    pub fn weight64(&self) -> u64
+        requires { InRange self.now }
+        ensures { result ≡ weight64 self.now }
+    {
+        match self.kind.strength() {
+            Strength::Pole(re, im) => re.unsigned_abs() + im.unsigned_abs(),
+            Strength::Dipole(re, im) => 64 * (re.unsigned_abs() + im.unsigned_abs()),
+            Strength::Nothing => 0,
+        }
+    }
+}
+
+/// A list of points, which contracts see as the list of them.
+#[derive(Drop)]
+pub struct PointList {
+    points: Vec<Point>,
+}
+
+impl Model for PointList {
+    ghost use Rattle.std.specs.Prelude.{List};
+    ghost use Rattle.points.specs.declared.Point.{Point};
+
+    ghost Value = { List Point };
+
+    ghost view = { λ l. l.points.items };
+}
+
+impl PointList {
+    /// The empty list. It takes no memory.
+    pub fn new(alloc: Global) -> PointList
+        ensures { result ≡ [] }
+    {
+        PointList {
+            points: Vec::new(alloc),
+        }
+    }
+
+    /// Appends a point.
+    pub fn push(&mut self, p: Point) -> Result<(), Memory>
+        ensures pushed { OnOk result (self.new ≡ self.old ++ p ∷ []) }
+        ensures kept { OnErr result (self.new ≡ self.old) }
+    {
+        match self.points.push(p) {
+            Ok(()) => Ok(()),
+            Err(_) => Err(Memory),
+        }
+    }
+
+    /// All points in order.
+    pub fn points(&self) -> &[Point]
+        ensures { result.now ≡ self.now }
+    {
+        self.points.as_slice()
+    }
+}
+
+/// What a text spells: a mode and a list of points.
+#[derive(Drop)]
+pub struct Points {
+    pub mode: Mode,
+    pub list: PointList,
+}
