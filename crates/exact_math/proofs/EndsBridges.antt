@@ -67,8 +67,8 @@ module _ {u : ℤ} {b : BoxEnds} {x : ComplexRatio} (h : BoxEndsContain u b x) w
   BoxEndsContain-quot n n>0 = record { re = contains-quot h.re n n>0; im = contains-quot h.im n n>0 }
 
   -- another fraction of the same value
-  pub BoxEndsContain-same : (y : ComplexRatio) → pos 0 <ℤ y.denominator → SameComplex x y → BoxEndsContain u b y
-  BoxEndsContain-same y p e = record { re = contains-same h.re (re_part y) p e.re; im = contains-same h.im (im_part y) p e.im }
+  pub BoxEndsContain-same : (y : ComplexRatio) → SameComplex x y → BoxEndsContain u b y
+  BoxEndsContain-same y e = record { re = contains-same h.re (re_part y) e.right_fraction e.re; im = contains-same h.im (im_part y) e.right_fraction e.im }
 
   whole_positive : pos 0 <ℤ (pos 1 *ℤ x.denominator)
   whole_positive = *-positive (pos 1) _ (omega (arith, ints)) h.re.fraction

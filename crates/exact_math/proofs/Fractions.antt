@@ -267,6 +267,8 @@ cross_from_ratio a d b e p q h = of_int-injective _ _
 -- two fractions that stand for one number
 pub same_from_stands : {x y : ComplexRatio} {z : ℂ} → Stands x z → Stands y z → SameComplex x y
 same_from_stands {x} {y} h k = record {
+  left_fraction = h.positive;
+  right_fraction = k.positive;
   re = cross_from_ratio x.re x.denominator y.re y.denominator h.positive k.positive (ap (λ w. w.re) (h.is ∙ sym k.is));
   im = cross_from_ratio x.im x.denominator y.im y.denominator h.positive k.positive (ap (λ w. w.im) (h.is ∙ sym k.is));
 }

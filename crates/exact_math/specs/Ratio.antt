@@ -1,5 +1,5 @@
 -- Fractions of whole numbers, as a reader compares them: by cross multiplication.
-use Rattle.std.specs.Prelude.{◌≡◌, ℤ, pos, neg_ℤ, ◌+ℤ◌, ◌-ℤ◌, ◌*ℤ◌}
+use Rattle.std.specs.Prelude.{◌≡◌, ℤ, pos, neg_ℤ, ◌+ℤ◌, ◌-ℤ◌, ◌*ℤ◌, ◌<ℤ◌}
 use Rattle.exact_math.specs.Gaussian.{Gaussian}
 
 -- numerator/denominator; the denominator is meant to be above 0
@@ -76,8 +76,10 @@ mul_complex x y = record {
 abbrev pub over_complex : ComplexRatio → ℤ → ComplexRatio
 over_complex x n = record { re = x.re; im = x.im; denominator = x.denominator *ℤ n }
 
--- x and y are one number, by cross multiplication
+-- x and y are fractions of one number, by cross multiplication
 pub record SameComplex (x y : ComplexRatio) : Type 0 where
+  pub left_fraction : pos 0 <ℤ x.denominator
+  pub right_fraction : pos 0 <ℤ y.denominator
   pub re : x.re *ℤ y.denominator ≡ y.re *ℤ x.denominator
   pub im : x.im *ℤ y.denominator ≡ y.im *ℤ x.denominator
 

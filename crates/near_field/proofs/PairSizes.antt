@@ -12,7 +12,8 @@ use Rattle.exact_math.proofs.Integers.{*-mono_left, *-nonneg, *-comm, *-cancel_â
 use Rattle.exact_math.proofs.Enclosures.{floor_div_le, ceil_div_ge}
 use Rattle.exact_math.proofs.Ring.{int_ring}
 use Rattle.exact_math.proofs.RingTactic.{int_quotes, ring1, ring2, ring3, ring4}
-use Rattle.exact_math.proofs.WholeSizes.{within-floor, within-ceil, floor_near}
+use Rattle.exact_math.proofs.RoundedQuotients.{floor_near}
+use Rattle.exact_math.proofs.WholeSizes.{within-floor, within-ceil}
 use Rattle.points.specs.Limits.{weight64}
 use Rattle.exact_math.specs.Sizes.{abs_gaussian}
 use Rattle.points.specs.Points.{pole, dipole}

@@ -18,10 +18,13 @@ use Rattle.row_recursions.proofs.Sides.{sides, reciprocal, reciprocal-is}
 use Rattle.row_recursions.proofs.Values.{local_value_holds}
 
 -- a fraction of the same value
-pub Stands-same : {x y : ComplexRatio} {z : ℂ} → Stands x z → pos 0 <ℤ y.denominator → SameComplex x y → Stands y z
-Stands-same {x} {y} h p e = record {
-  positive = p;
-  is = sym (same_pair rational_ring _ _ (ratio-same x.re x.denominator y.re y.denominator h.positive p e.re) (ratio-same x.im x.denominator y.im y.denominator h.positive p e.im)) ∙ h.is;
+pub Stands-same : {x y : ComplexRatio} {z : ℂ} → Stands x z → SameComplex x y → Stands y z
+Stands-same {x} {y} h e = record {
+  positive = e.right_fraction;
+  is =
+      let real = ratio-same x.re x.denominator y.re y.denominator e.left_fraction e.right_fraction e.re in
+      let imaginary = ratio-same x.im x.denominator y.im y.denominator e.left_fraction e.right_fraction e.im in
+      sym (same_pair rational_ring _ _ real imaginary) ∙ h.is;
 }
 
 -- z/s
@@ -47,7 +50,7 @@ module _ {P s : ℕ} {b : Gaussian} {f : Gaussian → ComplexRatio} {m : ℕ →
   coefficient_enclosed l k = enclosed_from_contained (pos (2 ^ 40)) (m l) (coefficient_stands l) (h.contains l k)
 
   pub field_stands : (t : Gaussian) → Stands (f t) (field_value P s held_coefficient (doubled_offset t b))
-  field_stands t = Stands-same (Stands-field_at P s h.coefficient held_coefficient (doubled_offset t b) s>0 coefficient_stands) (h.fraction t) (h.sums t)
+  field_stands t = Stands-same (Stands-field_at P s h.coefficient held_coefficient (doubled_offset t b) s>0 coefficient_stands) (h.sums t)
 
 -- and back: fractions c that stand for the coefficients v
 pub holds_field : (P s : ℕ) (b : Gaussian) (f : Gaussian → ComplexRatio) (m : ℕ → BoxEnds) (c : ℕ → ComplexRatio) (v : ℕ → ℂ) → 0 < s → ((l : ℕ) → Stands (c l) (v l))
