@@ -10,13 +10,14 @@ use Rattle.exact_math.specs.Ends.{BoxEnds, BoxEndsWithin, BoxEndsContain, scale_
 use Rattle.exact_math.specs.Binomials.{choose}
 use Rattle.exact_math.specs.Gaussian.{Gaussian}
 use Rattle.exact_math.specs.Orders.{IsOrder}
+use Rattle.exact_math.proofs.Orders.{order_bounds}
 use Rattle.complex_box.specs.Box.{box_ends}
 use Rattle.complex_box.specs.declared.CBox.{CBox}
 use Rattle.kernel_table.specs.Kernel.{IsKernelDistance, kernel_power, kernel_entry, alternate_box, kernel_fraction}
 use Rattle.kernel_table.specs.Table.{distance_at, IsKernelTable, IsKernelColumn}
 use Rattle.kernel_table.proofs.Contained.{kernel_entry_contains}
 use Rattle.kernel_table.proofs.Norms.{squares}
-use Rattle.kernel_table.proofs.Places.{Place, place, place-next, place-below, column-below, order_bounds}
+use Rattle.kernel_table.proofs.Places.{Place, place, place-next, place-below, column-below}
 use Rattle.kernel_table.proofs.Sizes.{kernel_entry_within}
 use Rattle.kernel_table.proofs.Widths.{kernel_entry_narrow}
 

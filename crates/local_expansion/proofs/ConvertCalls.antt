@@ -6,6 +6,7 @@ use Rattle.exact_math.specs.Gaussian.{Gaussian}
 use Rattle.exact_math.specs.Orders.{IsOrder}
 use Rattle.exact_math.specs.Ratio.{ComplexRatio, add_complex}
 use Rattle.exact_math.specs.Sums.{sum_terms}
+use Rattle.exact_math.proofs.Orders.{order_bounds}
 use Rattle.complex_box.specs.Rows.{zero_cbox}
 use Rattle.complex_box.specs.declared.CBox.{CBox}
 use Rattle.complex_box.proofs.Sizes.{box_wider, add_box_within}
@@ -19,18 +20,18 @@ use Rattle.row_recursions.specs.Rows.{row_of, RowsAdd, converted}
 use Rattle.row_recursions.specs.Sizes.{RowWithin}
 use Rattle.row_recursions.proofs.ConvertLaws.{field_converted}
 use Rattle.row_recursions.proofs.ConvertedSizes.{converted_within}
-use Rattle.row_recursions.proofs.RowSizes.{added_within, order_small}
+use Rattle.row_recursions.proofs.RowSizes.{added_within}
 use Rattle.local_expansion.proofs.RowCalls.{field_added}
 
 module _ (P : ℕ) (e : Gaussian) (m : ℕ → BoxEnds) (order : IsOrder P) (distance : IsKernelDistance e) where
   -- a column of the kernel
   pub column_within : (l : ℕ) (column : List CBox) → l < P → IsKernelColumn P e l column → RowWithin P (2 ^ 39 + 1) (row_of column)
   column_within l column h is k i =
-      let few = order_small P order in
+      let few = order_bounds P order in
       subst (BoxEndsWithin (2 ^ 39 + 1)) (sym (is.entries k zero_cbox i)) (kernel_entry_within e distance k l (omega (arith, few, h, i)))
 
   few_enough : P ≤ 32
-  few_enough = let few = order_small P order in omega (arith, few)
+  few_enough = let few = order_bounds P order in omega (arith, few)
 
   -- a coefficient, added
   pub sum_fits : (old : ℕ → BoxEnds) (l : ℕ) (a b : BoxEnds) → l < P → RowWithin P (2 ^ 80) m → RowWithin P (2 ^ 110) old → a ≡ old l → b ≡ converted P (kernel_entry e) m l → BoxEndsWithin (2 ^ 126) (add_box a b)

@@ -10,6 +10,7 @@ use Rattle.complex_box.proofs.Sizes.{box_wider}
 use Rattle.cell_name.specs.declared.cell.Cell.{Cell}
 use Rattle.points.specs.Limits.{weight64}
 use Rattle.exact_math.specs.Sizes.{abs_gaussian}
+use Rattle.exact_math.proofs.Orders.{order_bounds}
 use Rattle.points.specs.Points.{place, pole, dipole}
 use Rattle.points.specs.declared.Point.{Point}
 use Rattle.truncation.specs.Entries.{local_cut}
@@ -22,7 +23,7 @@ use Rattle.row_recursions.specs.Sources.{source_of}
 use Rattle.row_recursions.proofs.FarLaws.{field_of_source}
 use Rattle.row_recursions.proofs.FieldLaws.{sum_of_fields}
 use Rattle.row_recursions.proofs.Points.{pole_of-source, dipole_of-source, place_of-source, side_positive}
-use Rattle.row_recursions.proofs.RowSizes.{order_small, far_norm_positive, far_source_within}
+use Rattle.row_recursions.proofs.RowSizes.{far_norm_positive, far_source_within}
 
 -- a row with the same boxes
 pub field_same : (P s : ℕ) (b : Gaussian) (f : Gaussian → ComplexRatio) (m n : ℕ → BoxEnds) → ((l : ℕ) → l < P → n l ≡ m l) → HoldsField P s b f m → HoldsField P s b f n
@@ -47,7 +48,7 @@ module _ (P : ℕ) (c : Cell) (p : Point) (order : IsOrder P) (far : GaussianBey
   -- its contribution
   pub far_within : RowWithin P (2 ^ 40 * weight64 p) (far_coefficients_of c p)
   far_within l h =
-      let few = order_small P order in
+      let few = order_bounds P order in
       box_wider _ (2 ^ 40 * weight64 p) _ (heavier l (abs_gaussian (pole p.kind)) (abs_gaussian (dipole p.kind)) (omega arith))
       (far_source_within (side_of c) (pole p.kind) (dipole p.kind) (offset_from c (place p)) l (side_positive c) far)
 

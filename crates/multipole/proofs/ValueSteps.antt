@@ -3,6 +3,7 @@ use Rattle.std.proofs.Common.{◌≡◌, sym, ap, ap₂, ◌∙◌, subst, ℕ, 
 use Rattle.exact_math.specs.Ends.{BoxEnds, BoxEndsWithin, add_box, gquot_box}
 use Rattle.exact_math.specs.Gaussian.{Gaussian, norm_gaussian}
 use Rattle.exact_math.specs.Orders.{IsOrder}
+use Rattle.exact_math.proofs.Orders.{order_bounds}
 use Rattle.complex_box.specs.Box.{GscaleFits}
 use Rattle.complex_box.proofs.Sizes.{box_wider, add_box_within, gscale_fits}
 use Rattle.kernel_table.specs.Kernel.{conj_multiple}
@@ -10,13 +11,13 @@ use Rattle.truncation.specs.Places.{GaussianWithin, GaussianBeyond}
 use Rattle.row_recursions.specs.Rows.{multipole_round}
 use Rattle.row_recursions.specs.Sizes.{RowWithin}
 use Rattle.row_recursions.proofs.Equations.{multipole_round-next}
-use Rattle.row_recursions.proofs.RowSizes.{multipole_round_within, order_small, power_positive}
+use Rattle.row_recursions.proofs.RowSizes.{multipole_round_within, power_positive}
 
 module _ (P bits : ℕ) (m : ℕ → BoxEnds) (zeta : Gaussian) (order : IsOrder P) (far : GaussianBeyond (3 * 2 ^ bits) zeta) (bounded : RowWithin P (2 ^ 80) m) where
   -- what is added to the value before
   pub sum_within : (n : ℕ) (v r : BoxEnds) → n < P → v ≡ multipole_round P m (2 ^ bits) zeta n → r ≡ m (P - 1 - n) → BoxEndsWithin (2 ^ 86) (add_box v r)
   sum_within n v r h e f =
-      let few = order_small P order in
+      let few = order_bounds P order in
       subst (BoxEndsWithin (2 ^ 86)) (sym (ap₂ add_box e f))
       (box_wider (n * 2 ^ 80 + 2 ^ 80) (2 ^ 86) _ (omega arith)
       (add_box_within (n * 2 ^ 80) (2 ^ 80) (multipole_round P m (2 ^ bits) zeta n) (m (P - 1 - n))

@@ -7,7 +7,6 @@ use Rattle.std.proofs.lemmas.Int.{ints}
 use Rattle.std.specs.Prelude.{unsigned_abs}
 use Rattle.exact_math.specs.Ends.{Ends, BoxEnds, EndsWithin, BoxEndsWithin, zero_box, add_box, scale_box, gscale_box, quot_ends, quot_box, gquot_box, scale_ends}
 use Rattle.exact_math.specs.Gaussian.{Gaussian, norm_gaussian}
-use Rattle.exact_math.specs.Orders.{IsOrder}
 use Rattle.exact_math.specs.Sizes.{abs_gaussian}
 use Rattle.exact_math.specs.Within.{Within}
 use Rattle.exact_math.proofs.Ring.{int_ring}
@@ -245,10 +244,6 @@ taken_within P m n old part new adds v w k h =
       re = record { lo = left_within m n (ap (λ (x : BoxEnds). x.re.lo) e) a.re.lo b.re.lo; hi = left_within m n (ap (λ (x : BoxEnds). x.re.hi) e) a.re.hi b.re.hi };
       im = record { lo = left_within m n (ap (λ (x : BoxEnds). x.im.lo) e) a.im.lo b.im.lo; hi = left_within m n (ap (λ (x : BoxEnds). x.im.hi) e) a.im.hi b.im.hi };
     }
-
--- the orders are at most 24
-pub order_small : (P : ℕ) → IsOrder P → P ≤ 24
-order_small P h = ⊎_elim (λ e. omega arith) (λ l. ⊎_elim (λ e. omega arith) (λ k. ⊎_elim (λ e. omega arith) (λ e. omega arith) k) l) h
 
 -- ---- powers of two
 pub power_positive : (n : ℕ) → 1 ≤ 2 ^ n
