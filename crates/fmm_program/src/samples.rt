@@ -11,8 +11,8 @@ use crate::refusals::refuse_depth;
 use crate::status::Status;
 use crate::words::{Words, capacity_of, number_in, order_of};
 use io_ports::Sink;
-use point_sample::sample_points;
 use points::Points;
+use point_sample::sample_points;
 use sample_summary::write_summary;
 use std::alloc::Global;
 
