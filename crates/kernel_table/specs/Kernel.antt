@@ -1,6 +1,8 @@
 -- The kernel that turns a multipole row into a local row: C(k + l, k)/e^(k + l + 1) with the sign of (-1)^l, for two cells of one side whose centres are e sides apart.
-use Rattle.std.specs.Prelude.{ℕ, zero, suc, ◌+◌, ◌^◌, ◌≤◌, pos, neg_ℤ, ◌*ℤ◌, unsigned_abs, max}
-use Rattle.exact_math.specs.Ends.{BoxEnds, point_box, neg_box, scale_box, quot_box, gquot_box}
+use Rattle.std.specs.Prelude.{ℕ, zero, suc, ◌≡◌, ◌+◌, ◌^◌, ◌≤◌, ◌<◌, pos, neg_ℤ, ◌*ℤ◌, unsigned_abs, max, List, length, slice_index_or}
+use Rattle.complex_box.specs.Box.{box_ends}
+use Rattle.complex_box.specs.declared.CBox.{CBox}
+use Rattle.exact_math.specs.Ends.{BoxEnds, point_box, neg_box, scale_box, quot_box, gquot_box, BoxEndsContain, BoxEndsNarrow, BoxEndsWithin}
 use Rattle.exact_math.specs.Gaussian.{Gaussian, gaussian, norm_gaussian}
 use Rattle.exact_math.specs.Ratio.{ComplexRatio, neg_complex, mul_complex}
 use Rattle.exact_math.specs.Sums.{count, pow_complex}
@@ -42,3 +44,20 @@ alternate_complex (suc l) z = neg_complex (alternate_complex l z)
 -- (-1)^l C(k + l, k)/e^(k + l + 1)
 unfoldable pub kernel_fraction : Gaussian → ℕ → ℕ → ComplexRatio
 kernel_fraction e k l = alternate_complex l (mul_complex (count (choose (k + l) k)) (pow_complex (reciprocal e) (suc (k + l))))
+
+-- ---- what the rounded kernel keeps
+-- the entry (k, l) contains the exact one in units of 2^-40, is at most 2 wide, and at most 2^39 + 1 in size
+pub record KernelEntryHolds (e : Gaussian) (k l : ℕ) : Type 0 where
+  pub contains : BoxEndsContain (pos (2 ^ 40)) (kernel_entry e k l) (kernel_fraction e k l)
+  pub narrow : BoxEndsNarrow 2 (kernel_entry e k l)
+  pub size : BoxEndsWithin (2 ^ 39 + 1) (kernel_entry e k l)
+
+-- at each distance of the kernel, for the orders up to 32
+abbrev pub KernelEntries : Type 0
+KernelEntries = (e : Gaussian) (k l : ℕ) → IsKernelDistance e → k + l ≤ 62 → KernelEntryHolds e k l
+
+-- ---- columns of the table
+-- the entries of one l, with k from 0 to P - 1
+pub record IsKernelColumn (P : ℕ) (e : Gaussian) (l : ℕ) (column : List CBox) : Type 0 where
+  pub whole : length column ≡ P
+  pub entries : (k : ℕ) (other : CBox) → k < P → box_ends (slice_index_or column k other) ≡ kernel_entry e k l
