@@ -42,7 +42,7 @@ fn add_dipoles(into: &mut [CBox], first: CBox, zeta: Gauss, bits: u32)
     requires far { GaussianBeyond (3 * 2 ^ bits) (number zeta) }
     requires size { BoxEndsWithin (2 ^ 60) (box_ends first) }
     ensures len { length into.new ≡ length into.old }
-    ensures dipoles { RowsAdd (length into.old) (row_of into.old) (λ l. scale_box (pos (suc l)) (far_powers (box_ends first) (2 * 2 ^ bits) (number zeta) (suc (suc l)))) (row_of into.new) }
+    ensures dipoles { RowsAdd (length into.old) (row_of into.old) (λ l. scale_box (far_powers (box_ends first) (2 * 2 ^ bits) (number zeta) (suc (suc l))) (pos (suc l))) (row_of into.new) }
 {
     let ratio = far_ratio(zeta, bits);
     let mut power = first.gquot(ratio.factor, ratio.divisor);

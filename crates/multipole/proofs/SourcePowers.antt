@@ -54,10 +54,10 @@ powers-dipole s n b o e zero = refl
 powers-dipole s n b o e (suc k) = ap₂ (λ x m. gquot_box x o (pos m)) (powers-dipole s n b o e k) e
 
 -- ---- nothing
-zero_times : (k : ℤ) → scale_ends k (point_ends (pos 0)) ≡ point_ends (pos 0)
+zero_times : (k : ℤ) → scale_ends (point_ends (pos 0)) k ≡ point_ends (pos 0)
 zero_times k = let e : pos 0 *ℤ k ≡ pos 0 = omega (arith, ints) in rw e refl
 
-zero_scaled : (k : ℤ) → scale_box k zero_box ≡ zero_box
+zero_scaled : (k : ℤ) → scale_box zero_box k ≡ zero_box
 zero_scaled k = λ i. record { re = zero_times k i; im = zero_times k i }
 
 zero_gscaled : (g : Gaussian) → gscale_box zero_box g ≡ zero_box
@@ -98,23 +98,23 @@ no_dipole s o h (suc k) = ap (λ b. gquot_box b o (pos (2 * s))) (no_dipole s o 
 pub pole_alone : (s : ℕ) (a o : Gaussian) → 1 ≤ s → (k : ℕ) → source_moment s a nothing o k ≡ pole_moment s a o k
 unfolding source_moment
 pole_alone s a o h zero = refl
-pole_alone s a o h (suc k) = ap (λ b. add_box (pole_moment s a o (suc k)) (scale_box (pos (suc k)) b)) (no_dipole s o h k) ∙ ap (add_box (pole_moment s a o (suc k))) (zero_scaled (pos (suc k))) ∙ zero_right _
+pole_alone s a o h (suc k) = ap (λ b. add_box (pole_moment s a o (suc k)) (scale_box b (pos (suc k)))) (no_dipole s o h k) ∙ ap (add_box (pole_moment s a o (suc k))) (zero_scaled (pos (suc k))) ∙ zero_right _
 
 -- a dipole alone
 pub dipole_alone : (s n : ℕ) (b o : Gaussian) → 1 ≤ s → 2 ^ n ≡ 2 * s → (k : ℕ) → source_moment s nothing b o k ≡ slopes (units_over b s) o n k
 unfolding source_moment
 dipole_alone s n b o h e zero = no_pole s o h zero
 dipole_alone s n b o h e (suc k) =
-    ap (λ x. add_box x (scale_box (pos (suc k)) (dipole_moment s b o k))) (no_pole s o h (suc k)) ∙ zero_left _ ∙ ap (scale_box (pos (suc k))) (sym (powers-dipole s n b o e k))
+    ap (λ x. add_box x (scale_box (dipole_moment s b o k) (pos (suc k)))) (no_pole s o h (suc k)) ∙ zero_left _ ∙ ap (λ (b : BoxEnds). scale_box b (pos (suc k))) (sym (powers-dipole s n b o e k))
 
 -- neither
 pub none_alone : (s : ℕ) (o : Gaussian) → 1 ≤ s → (k : ℕ) → source_moment s nothing nothing o k ≡ zero_box
 none_alone s o h k = pole_alone s nothing o h k ∙ no_pole s o h k
 
 -- the slope after k powers
-pub slopes-next : (b : BoxEnds) (o : Gaussian) (n k : ℕ) → 1 ≤ k → slopes b o n k ≡ scale_box (pos k) (powers b o n (k - 1))
+pub slopes-next : (b : BoxEnds) (o : Gaussian) (n k : ℕ) → 1 ≤ k → slopes b o n k ≡ scale_box (powers b o n (k - 1)) (pos k)
 slopes-next b o n zero h = absurd (omega arith)
-slopes-next b o n (suc k) h = ap (λ i. scale_box (pos (suc k)) (powers b o n i)) {x = k} {y = suc k - 1} (omega arith)
+slopes-next b o n (suc k) h = ap (λ i. scale_box (powers b o n i) (pos (suc k))) {x = k} {y = suc k - 1} (omega arith)
 
 -- ---- a place in a cell whose side is 2^n
 pub near_next : (n s : ℕ) (o x : Gaussian) → 2 ^ n ≡ s → x ≡ o → GaussianWithin s o → GaussianWithin (2 ^ (n + 1 - 1)) x

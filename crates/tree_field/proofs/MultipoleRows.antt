@@ -97,7 +97,7 @@ zero_round : (m : ℕ → BoxEnds) (q : Gaussian) → ((i : ℕ) → m i ≡ zer
 unfolding up_round
 zero_round m q h zero i = h i
 zero_round m q h (suc r) i =
-    ap₂ (λ a b. quot_box (add_box (scale_box (pos 2) a) (gscale_box b q)) (pos 4)) (zero_round m q h r (suc i)) (zero_round m q h r i)
+    ap₂ (λ a b. quot_box (add_box (scale_box a (pos 2)) (gscale_box b q)) (pos 4)) (zero_round m q h r (suc i)) (zero_round m q h r i)
     ∙ ap₂ (λ a b. quot_box (add_box a b) (pos 4)) (zero_scaled (pos 2)) (zero_gscaled q)
     ∙ ap (λ b. quot_box b (pos 4)) (zero_right zero_box)
     ∙ zero_over (pos 4) (omega (arith, ints))
