@@ -5,7 +5,7 @@ use Rattle.std.proofs.Math.Nat.{mul-le-mul_right}
 use Rattle.exact_math.specs.Ends.{BoxEnds, BoxEndsContain, add_box}
 use Rattle.exact_math.specs.Gaussian.{Gaussian, norm_gaussian}
 use Rattle.exact_math.specs.Orders.{IsOrder}
-use Rattle.exact_math.specs.Ratio.{ComplexRatio, add_complex}
+use Rattle.exact_math.specs.Ratio.{ComplexRatio, ◌+ᶜ◌}
 use Rattle.complex_box.proofs.Sizes.{box_wider}
 use Rattle.cell_name.specs.declared.cell.Cell.{Cell}
 use Rattle.points.specs.Limits.{weight64}
@@ -37,8 +37,8 @@ field_same P s b f m n e h = record {
 
 -- a row to which another was added
 pub field_added : (P s : ℕ) (b : Gaussian) (f g : Gaussian → ComplexRatio) (old part new : ℕ → BoxEnds) → 1 ≤ s → RowsAdd P old part new → HoldsField P s b f old → HoldsField P s b g part
-    → HoldsField P s b (λ t. add_complex (f t) (g t)) new
-field_added P s b f g old part new h adds u v = field_same P s b (λ t. add_complex (f t) (g t)) (λ l. add_box (old l) (part l)) new adds (sum_of_fields P s b f g old part h u v)
+    → HoldsField P s b (λ t. f t +ᶜ g t) new
+field_added P s b f g old part new h adds u v = field_same P s b (λ t. f t +ᶜ g t) (λ l. add_box (old l) (part l)) new adds (sum_of_fields P s b f g old part h u v)
 
 -- ---- a far point
 module _ (P : ℕ) (c : Cell) (p : Point) (order : IsOrder P) (far : GaussianBeyond (3 * side_of c) (offset_from c (place p))) where

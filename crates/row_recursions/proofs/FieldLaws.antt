@@ -3,7 +3,7 @@ use Rattle.exact_math.proofs.Common.{◌≡◌, sym, ap, subst, ◌∙◌, ℕ, 
 use Prim.Native.Nat.{◌^◌, ◌<◌}
 use Rattle.exact_math.specs.Ends.{BoxEnds, zero_box, add_box}
 use Rattle.exact_math.specs.Gaussian.{Gaussian}
-use Rattle.exact_math.specs.Ratio.{ComplexRatio, SameComplex, zero_complex, add_complex, over_complex}
+use Rattle.exact_math.specs.Ratio.{ComplexRatio, SameComplex, zero_complex, over_complex, ◌+ᶜ◌}
 use Rattle.exact_math.proofs.BoxEnclosures.{EnclosesBox, EnclosesBox-zero, EnclosesBox-add, enclosed_from_contained, contained_from_enclosed}
 use Rattle.exact_math.proofs.Fractions.{complex_value, ratio-same, Stands, Stands-itself, Stands-zero, Stands-add, Stands-mul, Stands-over, Stands-pow, Stands-sum, same_from_stands}
 use Rattle.exact_math.proofs.Horner.{polynomial}
@@ -75,11 +75,11 @@ no_field P s b s≥1 = holds_field P s b (λ t. zero_complex) (λ l. zero_box) (
         ∙ ring1 complex_rationals (reciprocal s) (λ r. search quotes depth 9) tt
 
 pub sum_of_fields : SumOfFields
-sum_of_fields P s b f g m n s≥1 h k = holds_field P s b (λ t. add_complex (f t) (g t)) (λ l. add_box (m l) (n l))
-    (λ l. add_complex (h.coefficient l) (k.coefficient l)) (λ l. held_coefficient s≥1 h l +ℂ held_coefficient s≥1 k l) s≥1
+sum_of_fields P s b f g m n s≥1 h k = holds_field P s b (λ t. f t +ᶜ g t) (λ l. add_box (m l) (n l))
+    (λ l. h.coefficient l +ᶜ k.coefficient l) (λ l. held_coefficient s≥1 h l +ℂ held_coefficient s≥1 k l) s≥1
     (λ l. Stands-add (coefficient_stands s≥1 h l) (coefficient_stands s≥1 k l))
     (λ l i. subst (EnclosesBox (add_box (m l) (n l))) (sym (complex_rationals.mul_add _ _ _)) (EnclosesBox-add (coefficient_enclosed s≥1 h l i) (coefficient_enclosed s≥1 k l i)))
-    (λ t. subst (Stands (add_complex (f t) (g t))) (together (sides s (doubled_offset t b))) (Stands-add (field_stands s≥1 h t) (field_stands s≥1 k t)))
+    (λ t. subst (Stands (f t +ᶜ g t)) (together (sides s (doubled_offset t b))) (Stands-add (field_stands s≥1 h t) (field_stands s≥1 k t)))
   where
     together : (x : ℂ) → polynomial complex_rationals P (held_coefficient s≥1 h) x *ℂ reciprocal s +ℂ polynomial complex_rationals P (held_coefficient s≥1 k) x *ℂ reciprocal s
         ≡ polynomial complex_rationals P (λ l. held_coefficient s≥1 h l +ℂ held_coefficient s≥1 k l) x *ℂ reciprocal s
