@@ -12,7 +12,7 @@ use Rattle.cell_name.specs.declared.cell.Quadrant.{Quadrant}
 use Rattle.cell_lists.proofs.CellNumbers.{same_number}
 use Rattle.cell_lists.proofs.TreeNumbers.{tree_cell_at}
 use Rattle.points.specs.declared.Point.{Point}
-use Rattle.quadtree.specs.Splitting.{quarter, quarters}
+use Rattle.cell_name.specs.Quarters.{quarter, quarters}
 use Rattle.quadtree.specs.Tree.{AreInGrid, IsLeaf}
 use Rattle.quadtree.specs.TreeModel.{TreeModel, size, squares, square_of, node_of, IsTreeOf}
 use Rattle.quadtree.proofs.Distinct.{Contains-filter, Contains-into_filter}

@@ -6,7 +6,7 @@ use Rattle.std.proofs.lemmas.List.Kept.{AllPairs-cons}
 use Rattle.cell_name.specs.Order.{IsBefore}
 use Rattle.cell_name.specs.Square.{Square, child}
 use Rattle.cell_name.proofs.Order.{IsBefore-irrefl, IsBefore-asym}
-use Rattle.quadtree.specs.Splitting.{quarters}
+use Rattle.cell_name.specs.Quarters.{quarters}
 use Rattle.tree_field.proofs.Members.{rest_differ, later}
 
 before_later : (x y : Square) (xs : List Square) → AllPairs IsBefore (x ∷ xs) → Contains xs y → IsBefore x y

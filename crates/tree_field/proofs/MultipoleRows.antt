@@ -15,12 +15,12 @@ use Rattle.cell_name.proofs.Cells.{Holds-parent, parent-square_at}
 use Rattle.cell_name.proofs.HoldsTest.{Holds-from_test, test-from_Holds}
 use Rattle.points.specs.Points.{is_source}
 use Rattle.points.specs.declared.Point.{Point}
-use Rattle.quadtree.specs.Splitting.{quarters}
+use Rattle.cell_name.specs.Quarters.{quarters}
 use Rattle.quadtree.specs.Tree.{count_in, AreInGrid, IsTreeCell, IsSplit, IsLeaf}
 use Rattle.quadtree.proofs.Distinct.{Contains-filter, Contains-into_filter}
 use Rattle.quadtree.proofs.LeafLevel.{cell_of, tree_at_next}
 use Rattle.quadtree.proofs.Parents.{cell_of_point, leaf_or_split, IsTreeCell-below, IsTreeCell-from_below}
-use Rattle.quadtree.proofs.TreeCells.{IsQuarter, quarters_are, quarters_contain}
+use Rattle.cell_name.proofs.Quarters.{IsQuarter, quarters_are, quarters_contain}
 use Rattle.row_recursions.proofs.ZeroBoxes.{zero_scaled, zero_gscaled, zero_over, zero_right}
 use Rattle.row_recursions.specs.Rows.{up_round, shifted_up}
 use Rattle.soundness.specs.Accounts.{Accounting, is_child, is_leaf, children}

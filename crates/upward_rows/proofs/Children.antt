@@ -9,7 +9,7 @@ use Rattle.cell_name.specs.Square.{Square, parent}
 use Rattle.cell_name.specs.declared.cell.Quadrant.{Quadrant}
 use Rattle.cell_name.proofs.Quarters.{parent-child}
 use Rattle.points.specs.declared.Point.{Point}
-use Rattle.quadtree.specs.Splitting.{quarter}
+use Rattle.cell_name.specs.Quarters.{quarter}
 use Rattle.quadtree.specs.TreeModel.{TreeModel, size, square_of, node_of, IsTree, IsTreeOf}
 use Rattle.quadtree.proofs.Distinct.{Contains-filter, Contains-into_filter}
 use Rattle.tree_field.specs.Program.{source_children}
