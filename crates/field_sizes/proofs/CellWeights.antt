@@ -21,7 +21,7 @@ use Rattle.quadtree.proofs.Distinct.{Contains-filter}
 use Rattle.row_recursions.specs.Sources.{source_at, source_of}
 use Rattle.truncation.specs.Entries.{weight}
 use Rattle.tree_field.specs.Field.{is_source_in, sources_in}
-use Rattle.tree_field.proofs.Members.{All-from_members, AllPairs-both, filter-filter}
+use Rattle.quadtree.proofs.Lists.{All-from_members, AllPairs-both, filter-filter}
 use Rattle.tree_field.proofs.Sums.{sum_by-same}
 use Rattle.field_sizes.proofs.CellSources.{sum_by-filter}
 use Rattle.field_sizes.proofs.Disjoint.{sum_by-disjoint}

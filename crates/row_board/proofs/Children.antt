@@ -19,7 +19,7 @@ use Rattle.quadtree.proofs.Distinct.{Contains-filter, Contains-into_filter}
 use Rattle.quadtree.proofs.Parents.{IsTreeCell-below}
 use Rattle.tree_field.specs.Field.{has_source}
 use Rattle.tree_field.specs.Program.{source_children}
-use Rattle.tree_field.proofs.Members.{Contains-range, range_below, filter_none, All-from_members}
+use Rattle.quadtree.proofs.Lists.{Contains-range, range_below, filter_none, All-from_members}
 use Rattle.tree_field.proofs.Numbers.{level_positive}
 use Rattle.tree_field.proofs.Program.{nodes_of_tree}
 use Rattle.upward_rows.proofs.Trees.{inner_is, no_quarter, quarter_is_one, quarter_read, source_from_node}

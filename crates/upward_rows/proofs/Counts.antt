@@ -19,8 +19,8 @@ use Rattle.quadtree.proofs.Parents.{IsTreeCell-parent, IsTreeCell-below}
 use Rattle.cell_name.proofs.Quarters.{IsQuarter, quarters_are, quarters_contain, quarters_differ}
 use Rattle.row_recursions.proofs.Points.{grid_of}
 use Rattle.tree_field.specs.Field.{has_source}
-use Rattle.tree_field.proofs.Ascending.{ascending_differ}
-use Rattle.tree_field.proofs.Members.{AllPairs-range, Contains-range, range_below}
+use Rattle.quadtree.proofs.Ascending.{ascending_differ}
+use Rattle.quadtree.proofs.Lists.{AllPairs-range, Contains-range, range_below}
 use Rattle.tree_field.proofs.Numbers.{number, number_below, cell_of_number, number_of_cell}
 use Rattle.upward_rows.specs.Upward.{shifts_into, is_shifted}
 use Rattle.upward_rows.proofs.Trees.{inner_is, quarter_listed}
