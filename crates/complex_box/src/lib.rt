@@ -14,8 +14,6 @@ ghost use Rattle.complex_box.specs.declared.CBox.{CBox};
 
 mod acc;
 mod row;
-#[cfg(test)]
-mod tests;
 mod work;
 
 pub use acc::Acc;
