@@ -1,11 +1,11 @@
 //! Boxes: complex intervals of whole ends, rows of them, sums of their products, and the counts of work.
 //!
-//! A box counts units of its caller's choice. Whatever complex fractions the arguments of a call contain, its result
-//! contains the exact result.
+//! A box counts units of its caller's choice. One rule holds for every call but `take`, which undoes `add`: whatever
+//! complex fractions the arguments contain, the result contains the exact result.
 #![tactic(auto)]
 
 ghost use Rattle.std.specs.Prelude.{◌≡◌, ℕ, ◌^◌, ◌<◌, pos, ◌≤ℤ◌, IsTrue, ◌↔◌};
-ghost use Rattle.exact_math.specs.Ends.{BoxEndsWithin, BoxEndsContain, BoxEndsInside, EndsWithin, zero_box, point_box, add_box, neg_box, sub_box, scale_box, times_box, gscale_box, quot_box, gquot_box, widen_box};
+ghost use Rattle.exact_math.specs.Ends.{BoxEndsWithin, BoxEndsContain, BoxEndsInside, EndsWithin, zero_box, point_box, add_box, take_box, neg_box, sub_box, scale_box, times_box, gscale_box, quot_box, gquot_box, widen_box};
 ghost use Rattle.exact_math.specs.Gaussian.{gaussian};
 ghost use Rattle.exact_math.specs.Ratio.{ComplexRatio, whole_complex, zero_complex, neg_complex, over_complex, ◌+ᶜ◌, ◌-ᶜ◌, ◌*ᶜ◌};
 ghost use Rattle.exact_math.specs.Within.{Within};
@@ -14,8 +14,6 @@ ghost use Rattle.complex_box.specs.declared.CBox.{CBox};
 
 mod acc;
 mod row;
-#[cfg(test)]
-mod tests;
 mod work;
 
 pub use acc::Acc;
@@ -73,13 +71,12 @@ impl CBox {
     }
 
     /// Takes a part away from a sum, lower end from lower end and upper end from upper end. It undoes `add`.
-    /// Condition: what is left is a box with ends of at most 2^126 in size.
+    /// Condition: this leaves the ends of a box.
     #[inline]
     pub fn take(self, o: CBox) -> CBox
-        requires re { TakeFits self.re o.re }
-        requires im { TakeFits self.im o.im }
-        ensures sum { box_ends self ≡ add_box (box_ends result) (box_ends o) }
-        ensures undoes { (part : CBox) → box_ends self ≡ add_box (box_ends part) (box_ends o) → box_ends result ≡ box_ends part }
+        requires { TakeFits (box_ends self) (box_ends o) }
+        ensures ends { box_ends result ≡ take_box (box_ends self) (box_ends o) }
+        ensures undoes { (rest : CBox) → box_ends self ≡ add_box (box_ends rest) (box_ends o) → box_ends result ≡ box_ends rest }
     {
         CBox {
             re: self.re.take(o.re),
@@ -115,8 +112,8 @@ impl CBox {
     /// The product with the whole number `k`. Condition: all its ends are at most 2^126 in size.
     #[inline]
     pub fn scale(self, k: i128) -> CBox
-        requires { BoxEndsWithin (2 ^ 126) (scale_box k (box_ends self)) }
-        ensures ends { box_ends result ≡ scale_box k (box_ends self) }
+        requires { BoxEndsWithin (2 ^ 126) (scale_box (box_ends self) k) }
+        ensures ends { box_ends result ≡ scale_box (box_ends self) k }
         ensures contains { (z : ComplexRatio) → BoxContains self z → BoxContains result (whole_complex (gaussian k (pos 0)) *ᶜ z) }
     {
         CBox {

@@ -33,7 +33,7 @@ pub EndsContain-sub : {u : ℤ} {i j : Ends} {x y : Ratio} → EndsContain u i x
 EndsContain-sub h k = contains-sub h k
 
 -- k x, for a whole number k
-pub EndsContain-scale : {u : ℤ} (k : ℤ) {i : Ends} {x : Ratio} → EndsContain u i x → EndsContain u (scale_ends k i) (mul_ratio (whole_ratio k) x)
+pub EndsContain-scale : {u : ℤ} (k : ℤ) {i : Ends} {x : Ratio} → EndsContain u i x → EndsContain u (scale_ends i k) (mul_ratio (whole_ratio k) x)
 EndsContain-scale k h = contains-scale h k
 
 -- the product counts in the product of the units
@@ -74,7 +74,7 @@ module _ {u : ℤ} {b : BoxEnds} {x : ComplexRatio} (h : BoxEndsContain u b x) w
   whole_positive = *-positive (pos 1) _ (omega (arith, ints)) h.re.fraction
 
   -- k x, for a whole number k
-  pub BoxEndsContain-scale : (k : ℤ) → BoxEndsContain u (scale_box k b) (whole_complex (gaussian k (pos 0)) *ᶜ x)
+  pub BoxEndsContain-scale : (k : ℤ) → BoxEndsContain u (scale_box b k) (whole_complex (gaussian k (pos 0)) *ᶜ x)
   BoxEndsContain-scale k = record {
     re = contains-same (contains-scale h.re k) (re_part (whole_complex (gaussian k (pos 0)) *ᶜ x)) whole_positive (one k x.re x.im x.denominator);
     im = contains-same (contains-scale h.im k) (im_part (whole_complex (gaussian k (pos 0)) *ᶜ x)) whole_positive (other k x.re x.im x.denominator);

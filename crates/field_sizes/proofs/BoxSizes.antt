@@ -27,7 +27,7 @@ use Rattle.soundness.specs.Squares.{offset}
 use Rattle.tree_field.specs.Field.{sources_in, targets, multipole_row, leaf_at, local_row, single_radius, local_value_at, multipole_values_at, pairs_at, radius_in, box_in, target_box}
 use Rattle.tree_field.specs.Lists.{TreeLists}
 use Rattle.tree_field.proofs.Leaves.{leaf_is, leaf_holds}
-use Rattle.tree_field.proofs.Members.{All-from_members}
+use Rattle.quadtree.proofs.Lists.{All-from_members}
 use Rattle.field_sizes.proofs.CellSources.{IsHeld}
 use Rattle.field_sizes.proofs.CellWeights.{weight64_in}
 use Rattle.field_sizes.proofs.EntrySums.{total_box-entries, sum_by-entries}

@@ -96,14 +96,14 @@ module _ (e : Gaussian) (positive : pos 1 ≤ℤ norm_gaussian e) where
     divisor>0 : pos 0 <ℤ divisor
     divisor>0 = let h = power_positive (k + l + 20) in omega (arith, ints)
 
-    scaled : BoxEndsContain (pos (2 ^ 40) *ℤ divisor) (scale_box (pos (choose (k + l) k)) (kernel_power e (k + l))) (unsigned_fraction k l)
-    scaled = subst (λ u. BoxEndsContain u (scale_box (pos (choose (k + l) k)) (kernel_power e (k + l))) (unsigned_fraction k l)) unit
+    scaled : BoxEndsContain (pos (2 ^ 40) *ℤ divisor) (scale_box (kernel_power e (k + l)) (pos (choose (k + l) k))) (unsigned_fraction k l)
+    scaled = subst (λ u. BoxEndsContain u (scale_box (kernel_power e (k + l)) (pos (choose (k + l) k))) (unsigned_fraction k l)) unit
         (BoxEndsContain-scale (kernel_power_contains (k + l)) (pos (choose (k + l) k)))
       where
         unit : pos (2 ^ (60 + (k + l))) ≡ pos (2 ^ 40) *ℤ divisor
         unit = ap pos (ap (λ n. 2 ^ n) {x = 60 + (k + l)} {y = 40 + (k + l + 20)} (omega arith) ∙ power_add 40 (k + l + 20))
 
-    quotient : BoxEndsContain (pos (2 ^ 40) *ℤ divisor) (quot_box (scale_box (pos (choose (k + l) k)) (kernel_power e (k + l))) divisor) (over_complex (unsigned_fraction k l) divisor)
+    quotient : BoxEndsContain (pos (2 ^ 40) *ℤ divisor) (quot_box (scale_box (kernel_power e (k + l)) (pos (choose (k + l) k))) divisor) (over_complex (unsigned_fraction k l) divisor)
     quotient = let h = divisor>0 in BoxEndsContain-quot scaled divisor (omega (arith, ints, h))
 
     -- the entry contains the exact kernel in units of 2^-40

@@ -44,9 +44,9 @@ found_column P n l table xs e holds len n<40 is l<P same =
 
 -- an entry from a power and a binomial
 pub entry-from : (e : Gaussian) (k l : ℕ) (power : BoxEnds) (ways : ℤ) → power ≡ kernel_power e (k + l) → ways ≡ pos (choose (k + l) k)
-    → alternate_box l (quot_box (scale_box ways power) (pos (2 ^ (k + l + 20)))) ≡ kernel_entry e k l
+    → alternate_box l (quot_box (scale_box power ways) (pos (2 ^ (k + l + 20)))) ≡ kernel_entry e k l
 unfolding kernel_entry
-entry-from e k l power ways p w = ap₂ (λ b n. alternate_box l (quot_box (scale_box n b) (pos (2 ^ (k + l + 20))))) p w
+entry-from e k l power ways p w = ap₂ (λ b n. alternate_box l (quot_box (scale_box b n) (pos (2 ^ (k + l + 20))))) p w
 
 -- the next entry of the distance n, where those of the distances before it stand already
 pub next_entry : (P n i j : ℕ) → IsOrder P → i < P * P → j ≡ n * (P * P) + i → {b : BoxEnds} → b ≡ kernel_entry (distance_at n) (i % P) (i / P)

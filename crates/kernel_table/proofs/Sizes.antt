@@ -131,7 +131,7 @@ pub power-fits : (e : Gaussian) → IsKernelDistance e → (n : ℕ) → n ≤ 6
 power-fits e h n small = let w = kernel_power_within e h n small in record { re = within-more (omega arith) w.re; im = within-more (omega arith) w.im }
 
 -- ---- the entries
-within-scale : (n c : ℕ) {i : Ends} → EndsWithin n i → EndsWithin (c * n) (scale_ends (pos c) i)
+within-scale : (n c : ℕ) {i : Ends} → EndsWithin n i → EndsWithin (c * n) (scale_ends i (pos c))
 within-scale n c {i} h =
     let c≥0 : pos 0 ≤ℤ pos c = omega (arith, ints) in
     let e : pos c *ℤ neg_ℤ (pos n) ≡ neg_ℤ (pos (c * n)) = times_neg (pos c) (pos n) in
@@ -145,10 +145,10 @@ within-scale n c {i} h =
     }
 
 -- the same for a factor of either sign
-pub within-factor : (n c : ℕ) (k : ℤ) {i : Ends} → Within c k → EndsWithin n i → EndsWithin (c * n) (scale_ends k i)
+pub within-factor : (n c : ℕ) (k : ℤ) {i : Ends} → Within c k → EndsWithin n i → EndsWithin (c * n) (scale_ends i k)
 within-factor n c (pos k) {i} small h = let l : k ≤ c = omega (arith, ints, small.below) in within-more (mul-le-mul_right n l) (within-scale n k h)
 within-factor n c (negsuc k) {i} small h =
-    let s : EndsWithin (suc k * n) (scale_ends (pos (suc k)) i) = within-scale n (suc k) h in
+    let s : EndsWithin (suc k * n) (scale_ends i (pos (suc k))) = within-scale n (suc k) h in
     let l = turned i.lo in
     let m = turned i.hi in
     let o : suc k ≤ c = omega (arith, ints, small.above) in
@@ -188,7 +188,7 @@ gscale-fits {b} {g} w x y =
     }
 
 -- the product of a power with a binomial coefficient fits
-pub scale-fits : {b : BoxEnds} {k : ℤ} → BoxEndsWithin (2 ^ 60) b → pos 0 ≤ℤ k → k ≤ℤ pos (2 ^ 62) → BoxEndsWithin (2 ^ 126) (scale_box k b)
+pub scale-fits : {b : BoxEnds} {k : ℤ} → BoxEndsWithin (2 ^ 60) b → pos 0 ≤ℤ k → k ≤ℤ pos (2 ^ 62) → BoxEndsWithin (2 ^ 126) (scale_box b k)
 scale-fits {b} {k} w h l =
     let small : Within (2 ^ 62) k = record { above = omega (arith, ints, h); below = l } in
     record { re = within-more (omega arith) (within-factor (2 ^ 60) (2 ^ 62) k small w.re); im = within-more (omega arith) (within-factor (2 ^ 60) (2 ^ 62) k small w.im) }
@@ -231,5 +231,5 @@ kernel_entry_within e h k l small =
         let p = power_add (k + l) 20 in
         omega arith
 
-    part : {i : Ends} → EndsWithin (2 ^ 59 + 2 ^ 20) i → EndsWithin (2 ^ 39 + 1) (quot_ends (scale_ends (pos (choose (k + l) k)) i) (pos (2 ^ (k + l + 20))))
+    part : {i : Ends} → EndsWithin (2 ^ 59 + 2 ^ 20) i → EndsWithin (2 ^ 39 + 1) (quot_ends (scale_ends i (pos (choose (k + l) k))) (pos (2 ^ (k + l + 20))))
     part {i} w = within-quot (2 ^ 39 + 1) (2 ^ (k + l + 20)) (power_positive (k + l + 20)) (within-more room (within-scale (2 ^ 59 + 2 ^ 20) (choose (k + l) k) w))

@@ -28,7 +28,7 @@ alternate_box (suc l) b = neg_box (alternate_box l b)
 
 -- (-1)^l C(k + l, k) of the power k + l, rounded outward to units of 2^-40
 unfoldable pub kernel_entry : Gaussian → ℕ → ℕ → BoxEnds
-kernel_entry e k l = alternate_box l (quot_box (scale_box (pos (choose (k + l) k)) (kernel_power e (k + l))) (pos (2 ^ (k + l + 20))))
+kernel_entry e k l = alternate_box l (quot_box (scale_box (kernel_power e (k + l)) (pos (choose (k + l) k))) (pos (2 ^ (k + l + 20))))
 
 -- ---- the exact kernel
 -- (-1)^l z

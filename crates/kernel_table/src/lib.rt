@@ -13,8 +13,6 @@ mod binomials;
 mod distances;
 mod powers;
 mod table;
-#[cfg(test)]
-mod tests;
 
 pub use binomials::binomial;
 pub use table::Kernel;

@@ -71,7 +71,7 @@ pub fn entry_of(power: CBox, ways: i128, k: usize, l: usize) -> CBox
     requires size { BoxEndsWithin (2 ^ 60) (box_ends power) }
     requires counted { pos 0 ≤ℤ ways }
     requires small { ways ≤ℤ pos (2 ^ 62) }
-    ensures { box_ends result ≡ alternate_box l (quot_box (scale_box ways (box_ends power)) (pos (2 ^ (k + l + 20)))) }
+    ensures { box_ends result ≡ alternate_box l (quot_box (scale_box (box_ends power) ways) (pos (2 ^ (k + l + 20)))) }
 {
     let entry = power.scale(ways).quot_shift((k + l + 20) as u32);
     if l % 2 == 0 { entry } else { entry.neg() }

@@ -1,9 +1,9 @@
 -- What the calls on local rows do to what a row contains and to its size.
-use Rattle.std.proofs.Common.{◌≡◌, sym, ap, ap₂, ◌∙◌, subst, ℕ, suc, ◌+◌, ◌*◌, ◌^◌, ◌≤◌, ◌<◌, arith, pos, ◌<ℤ◌}
+use Rattle.std.proofs.Common.{◌≡◌, sym, ap₂, subst, ℕ, suc, ◌+◌, ◌*◌, ◌^◌, ◌≤◌, ◌<◌, arith, pos}
 use Rattle.std.proofs.lemmas.Int.{ints}
 use Rattle.std.proofs.Math.Nat.{mul-le-mul_right}
 use Rattle.exact_math.specs.Ends.{BoxEnds, BoxEndsContain, add_box}
-use Rattle.exact_math.specs.Gaussian.{Gaussian, norm_gaussian}
+use Rattle.exact_math.specs.Gaussian.{Gaussian}
 use Rattle.exact_math.specs.Orders.{IsOrder}
 use Rattle.exact_math.specs.Ratio.{ComplexRatio, ◌+ᶜ◌}
 use Rattle.complex_box.proofs.Sizes.{box_wider}
@@ -11,10 +11,10 @@ use Rattle.cell_name.specs.declared.cell.Cell.{Cell}
 use Rattle.points.specs.Limits.{weight64}
 use Rattle.exact_math.specs.Sizes.{abs_gaussian}
 use Rattle.exact_math.proofs.Orders.{order_bounds}
-use Rattle.points.specs.Points.{place, pole, dipole}
+use Rattle.points.specs.Points.{place, pole, dipole, strength}
 use Rattle.points.specs.declared.Point.{Point}
 use Rattle.truncation.specs.Entries.{local_cut}
-use Rattle.truncation.specs.Places.{GaussianBeyond, doubled_offset}
+use Rattle.truncation.specs.Places.{GaussianBeyond}
 use Rattle.row_recursions.specs.Cells.{side_of, centre_of, offset_from, far_coefficients_of}
 use Rattle.row_recursions.specs.Fields.{HoldsField}
 use Rattle.row_recursions.specs.Rows.{RowsAdd, far_source}
@@ -56,8 +56,6 @@ module _ (P : ℕ) (c : Cell) (p : Point) (order : IsOrder P) (far : GaussianBey
   pub far_field : HoldsField P (side_of c) (centre_of c) (λ t. local_cut P (centre_of c) t (source_of p)) (far_coefficients_of c p)
   far_field =
       let apart = far_norm_positive (side_of c) (offset_from c (place p)) (side_positive c) far in
-      let z : doubled_offset (source_of p).place (centre_of c) ≡ offset_from c (place p) = ap (λ z. doubled_offset z (centre_of c)) (place_of-source (place p) p.kind) in
       field_same P (side_of c) (centre_of c) (λ t. local_cut P (centre_of c) t (source_of p)) _ (far_coefficients_of c p)
-      (λ l h. sym (ap₂ (λ a b. far_source (side_of c) a b (doubled_offset (source_of p).place (centre_of c)) l) (pole_of-source (place p) p.kind) (dipole_of-source (place p) p.kind)
-      ∙ ap (λ o. far_source (side_of c) (pole p.kind) (dipole p.kind) o l) z))
-      (field_of_source P (side_of c) (centre_of c) (source_of p) (side_positive c) (subst (λ o. pos 0 <ℤ norm_gaussian o) (sym z) (omega (arith, ints))))
+      (λ l h. sym (ap₂ (λ a b. far_source (side_of c) a b (offset_from c (place p)) l) (pole_of-source (place p) (strength p.kind)) (dipole_of-source (place p) (strength p.kind))))
+      (field_of_source P (side_of c) (centre_of c) (source_of p) (side_positive c) (omega (arith, ints)))

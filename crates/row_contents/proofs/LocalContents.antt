@@ -39,7 +39,7 @@ use Rattle.truncation.specs.Places.{doubled_offset}
 use Rattle.tree_field.specs.Field.{is_source_in, sources_in, multipole_row, converted_rows, far_rows, local_row}
 use Rattle.tree_field.specs.Lists.{TreeLists, AreTreeLists}
 use Rattle.tree_field.proofs.LocalRows.{local_row-root, local_row-below}
-use Rattle.tree_field.proofs.Members.{All-from_members}
+use Rattle.quadtree.proofs.Lists.{All-from_members}
 use Rattle.row_contents.specs.Contents.{LocalRowsHold}
 use Rattle.row_contents.specs.Fields.{sources_of, pair_terms, far_terms, entry_terms}
 use Rattle.row_contents.proofs.Ancestors.{ancestor-self, ancestor-parent, sum_complex-same}

@@ -15,7 +15,7 @@ abbrev pub units : ℂ
 units = of_int_ℂ (pos (2 ^ 40))
 
 -- k z, for a whole number k
-pub EnclosesBox-scale : (k : ℤ) {b : BoxEnds} {z : ℂ} → EnclosesBox b z → EnclosesBox (scale_box k b) (of_int_ℂ k *ℂ z)
+pub EnclosesBox-scale : (k : ℤ) {b : BoxEnds} {z : ℂ} → EnclosesBox b z → EnclosesBox (scale_box b k) (of_int_ℂ k *ℂ z)
 EnclosesBox-scale k {b} {z} h = rw (whole_times k z) (record { re = Encloses-scale k h.re; im = Encloses-scale k h.im })
 
 -- the sum of the first n terms

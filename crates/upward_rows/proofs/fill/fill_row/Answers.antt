@@ -6,7 +6,7 @@ use Rattle.exact_math.proofs.Orders.{order_bounds}
 use Rattle.quadtree.specs.TreeModel.{size}
 use Rattle.row_recursions.specs.Sizes.{RowWithin}
 use Rattle.tree_field.specs.Program.{source_children}
-use Rattle.tree_field.proofs.Members.{All-from_members}
+use Rattle.quadtree.proofs.Lists.{All-from_members}
 use Rattle.tree_rows.specs.FlatRows.{row_at}
 use Rattle.upward_rows.proofs.Children.{tree_is, child_behind}
 use Rattle.upward_rows.proofs.RowFrom.{row_small}

@@ -8,7 +8,7 @@ use Rattle.complex_box.specs.Counts.{Counts}
 use Rattle.complex_box.proofs.Sizes.{box_wider}
 use Rattle.cell_lists.proofs.TreeNumbers.{read_at}
 use Rattle.cell_name.specs.Square.{Square}
-use Rattle.quadtree.specs.Splitting.{quarter, quarters}
+use Rattle.cell_name.specs.Quarters.{quarter, quarters}
 use Rattle.quadtree.specs.TreeModel.{size, squares, square_of}
 use Rattle.row_recursions.specs.Cells.{quadrant_of}
 use Rattle.row_recursions.specs.Rows.{row_of, shifted_up}

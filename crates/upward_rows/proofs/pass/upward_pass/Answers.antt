@@ -10,7 +10,7 @@ use Rattle.quadtree.specs.TreeModel.{size, square_of}
 use Rattle.row_recursions.specs.Sizes.{RowWithin}
 use Rattle.tree_field.specs.Field.{multipole_row}
 use Rattle.tree_field.specs.Program.{source_children}
-use Rattle.tree_field.proofs.Members.{All-from_members}
+use Rattle.quadtree.proofs.Lists.{All-from_members}
 use Rattle.tree_rows.specs.FlatRows.{row_at}
 use Rattle.upward_rows.specs.Upward.{shifts_into}
 use Rattle.upward_rows.proofs.Children.{tree_is, child_behind}
