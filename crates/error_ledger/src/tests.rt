@@ -1,5 +1,6 @@
 //! Worked radii.
 use super::*;
+use points::Kind;
 
 #[test]
 fn weights(rt: HostRuntime) {

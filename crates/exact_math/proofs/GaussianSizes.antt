@@ -1,6 +1,7 @@
 -- The size |re| + |im| of Gaussian integers: it is the size of the complex number, and it is at most multiplied by a product.
 use mathlib.Core.Path.{◌≡◌, sym, ap, ap₂, subst₂, ◌∙◌}
 use Prim.Native.Nat.{ℕ, suc, ◌+◌, ◌*◌, ◌≤◌}
+use native.Mathlib.Nat.{mul-le-mul_right}
 use native.Mathlib.Omega.{arith}
 use lib.IntN.{ℤ, pos, negsuc}
 use borrow.Author.Differences.{ints}
@@ -45,3 +46,7 @@ weight_at-pole P a = omega arith
 
 pub weight_at-dipole : (P : ℕ) (b : Gaussian) → weight_at P zero_gaussian b ≡ 2 * P * abs_gaussian b
 weight_at-dipole P b = omega arith
+
+-- weights grow with the order
+pub weight_at-le : (P Q : ℕ) (a b : Gaussian) → P ≤ Q → weight_at P a b ≤ weight_at Q a b
+weight_at-le P Q a b h = let m = mul-le-mul_right (abs_gaussian b) h in omega (arith, m)
