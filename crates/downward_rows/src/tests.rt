@@ -1,6 +1,5 @@
 //! Rows and radii that are known from elsewhere: of a cell of side 4 that sees one far charge, and of one of side 1 beside nine charges.
-ghost use Rattle.std.specs.Prelude.{◌≡◌, ◌≤◌, ◌*◌, IfOk, length};
-ghost use Rattle.complex_box.specs.Rows.{AllZero};
+ghost use Rattle.std.specs.Prelude.{◌≡◌, ◌≤◌, ◌*◌, IfOk, length, All};
 ghost use Rattle.points.specs.Limits.{WithinLimits};
 ghost use Rattle.tree_rows.specs.Trees.{IsTreeOfPoints, IsTreeWithLists};
 
@@ -15,6 +14,7 @@ use std::alloc::Global;
 use std::process::Abort;
 use std::test::Fail;
 use tree_rows::weigh_cells;
+ghost use Rattle.complex_box.specs.Rows.{IsZero};
 
 /// The list of a text.
 fn points_of(alloc: Global, text: &str) -> Result<Points, Fail>
@@ -27,7 +27,7 @@ fn points_of(alloc: Global, text: &str) -> Result<Points, Fail>
 fn zeros(alloc: Global, count: usize) -> Result<Vec<CBox>, Fail>
     requires { count ≤ 65536 }
     ensures len { IfOk result (λ v. length v.items ≡ count * 4) }
-    ensures zero { IfOk result (λ v. AllZero v.items) }
+    ensures zero { IfOk result (λ v. All IsZero v.items) }
 {
     let zero = CBox::zero();
     Ok(vec![in alloc; zero; count * 4]?)

@@ -21,7 +21,7 @@ fn wide_coefficient<const P: usize>(column: &[CBox], row: Row<P>) -> CBox
     for k in 0..P {
         sum.add_product(column[k], row.get(k));
     }
-    sum.sum.quot_shift(40)
+    sum.finish_shift(40)
 }
 
 /// The same, by narrow products where the row's ends are at most 2^62 in size.
