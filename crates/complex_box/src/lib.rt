@@ -23,6 +23,12 @@ use fixed_interval::Interval;
 pub use row::{Row, clear};
 pub use work::Work;
 
+/// The boxes of the layers above count units of `2^-UNIT_BITS`.
+pub const UNIT_BITS: u32 = 40;
+
+/// How many of these units are 1.
+pub const UNIT: i128 = 1 << UNIT_BITS;
+
 /// A Gaussian integer, `re + i im`.
 #[derive(Clone, Copy, PartialEq, Eq, Debug)]
 pub struct Gauss {

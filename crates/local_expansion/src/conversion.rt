@@ -6,7 +6,7 @@ ghost use Rattle.row_recursions.specs.Rows.{row_of, sum_boxes};
 ghost use Rattle.row_recursions.specs.Sizes.{RowWithin};
 
 use crate::narrow::narrow_coefficient;
-use complex_box::{Acc, CBox, Row};
+use complex_box::{Acc, CBox, Row, UNIT_BITS};
 
 /// The sum of the products of a column of the kernel with a row, rounded once.
 #[inline]
@@ -21,7 +21,7 @@ fn wide_coefficient<const P: usize>(column: &[CBox], row: Row<P>) -> CBox
     for k in 0..P {
         sum.add_product(column[k], row.get(k));
     }
-    sum.finish_shift(40)
+    sum.finish_shift(UNIT_BITS)
 }
 
 /// The same, by narrow products where the row's ends are at most 2^62 in size.

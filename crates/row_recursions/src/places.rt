@@ -11,10 +11,7 @@ ghost use Rattle.row_recursions.specs.Cells.{side_of, offset_from};
 ghost use Rattle.row_recursions.specs.Rows.{units_box};
 
 use cell_name::Cell;
-use complex_box::{CBox, Gauss};
-
-/// How many units a box counts in 1.
-const UNIT: i128 = 1_099_511_627_776;
+use complex_box::{CBox, Gauss, UNIT};
 
 /// The number of bits by which the side is 1 shifted.
 pub fn side_bits(cell: Cell) -> u32
