@@ -7,15 +7,13 @@
 ghost use Rattle.std.specs.Prelude.{◌≡◌, ℕ, ◌^◌, ◌<◌, pos, ◌≤ℤ◌, IsTrue, ◌↔◌};
 ghost use Rattle.exact_math.specs.Ends.{BoxEndsWithin, BoxEndsContain, BoxEndsInside, EndsWithin, zero_box, point_box, add_box, take_box, neg_box, sub_box, scale_box, times_box, gscale_box, quot_box, gquot_box, widen_box};
 ghost use Rattle.exact_math.specs.Gaussian.{gaussian};
-ghost use Rattle.exact_math.specs.Ratio.{ComplexRatio, whole_complex, zero_complex, add_complex, neg_complex, sub_complex, mul_complex, over_complex};
+ghost use Rattle.exact_math.specs.Ratio.{ComplexRatio, whole_complex, zero_complex, neg_complex, over_complex, ◌+ᶜ◌, ◌-ᶜ◌, ◌*ᶜ◌};
 ghost use Rattle.exact_math.specs.Within.{Within};
 ghost use Rattle.complex_box.specs.Box.{box_ends, number, around, BoxContains, TakeFits, TimesFits, GscaleFits};
 ghost use Rattle.complex_box.specs.declared.CBox.{CBox};
 
 mod acc;
 mod row;
-#[cfg(test)]
-mod tests;
 mod work;
 
 pub use acc::Acc;
@@ -70,7 +68,7 @@ impl CBox {
     pub fn add(self, o: CBox) -> CBox
         requires { BoxEndsWithin (2 ^ 126) (add_box (box_ends self) (box_ends o)) }
         ensures ends { box_ends result ≡ add_box (box_ends self) (box_ends o) }
-        ensures contains { (z w : ComplexRatio) → BoxContains self z → BoxContains o w → BoxContains result (add_complex z w) }
+        ensures contains { (z w : ComplexRatio) → BoxContains self z → BoxContains o w → BoxContains result (z +ᶜ w) }
     {
         CBox {
             re: self.re.add(o.re),
@@ -97,7 +95,7 @@ impl CBox {
     pub fn sub(self, o: CBox) -> CBox
         requires { BoxEndsWithin (2 ^ 126) (sub_box (box_ends self) (box_ends o)) }
         ensures ends { box_ends result ≡ sub_box (box_ends self) (box_ends o) }
-        ensures contains { (z w : ComplexRatio) → BoxContains self z → BoxContains o w → BoxContains result (sub_complex z w) }
+        ensures contains { (z w : ComplexRatio) → BoxContains self z → BoxContains o w → BoxContains result (z -ᶜ w) }
     {
         CBox {
             re: self.re.sub(o.re),
@@ -122,7 +120,7 @@ impl CBox {
     pub fn scale(self, k: i128) -> CBox
         requires { BoxEndsWithin (2 ^ 126) (scale_box (box_ends self) k) }
         ensures ends { box_ends result ≡ scale_box (box_ends self) k }
-        ensures contains { (z : ComplexRatio) → BoxContains self z → BoxContains result (mul_complex (whole_complex (gaussian k (pos 0))) z) }
+        ensures contains { (z : ComplexRatio) → BoxContains self z → BoxContains result (whole_complex (gaussian k (pos 0)) *ᶜ z) }
     {
         CBox {
             re: self.re.scale(k),
@@ -137,7 +135,7 @@ impl CBox {
         requires radius { pos 0 ≤ℤ r }
         requires fits { BoxEndsWithin (2 ^ 126) (widen_box (box_ends self) r) }
         ensures ends { box_ends result ≡ widen_box (box_ends self) r }
-        ensures contains { (z w : ComplexRatio) → BoxContains self z → BoxEndsContain (pos 1) (around r) (sub_complex w z) → BoxContains result w }
+        ensures contains { (z w : ComplexRatio) → BoxContains self z → BoxEndsContain (pos 1) (around r) (w -ᶜ z) → BoxContains result w }
     {
         CBox {
             re: self.re.widen(r),
@@ -177,7 +175,7 @@ impl CBox {
     pub fn times(self, o: CBox) -> CBox
         requires { TimesFits (box_ends self) (box_ends o) }
         ensures ends { box_ends result ≡ times_box (box_ends self) (box_ends o) }
-        ensures contains { (z w : ComplexRatio) → BoxContains self z → BoxContains o w → BoxContains result (mul_complex z w) }
+        ensures contains { (z w : ComplexRatio) → BoxContains self z → BoxContains o w → BoxContains result (z *ᶜ w) }
     {
         CBox {
             re: self.re.times(o.re).sub(self.im.times(o.im)),
@@ -191,7 +189,7 @@ impl CBox {
     pub fn gscale(self, g: Gauss) -> CBox
         requires { GscaleFits (box_ends self) (number g) }
         ensures ends { box_ends result ≡ gscale_box (box_ends self) (number g) }
-        ensures contains { (z : ComplexRatio) → BoxContains self z → BoxContains result (mul_complex (whole_complex (number g)) z) }
+        ensures contains { (z : ComplexRatio) → BoxContains self z → BoxContains result (whole_complex (number g) *ᶜ z) }
     {
         let re = i128::from(g.re);
         let im = i128::from(g.im);
@@ -208,7 +206,7 @@ impl CBox {
         requires fits { GscaleFits (box_ends self) (number g) }
         requires divisor { pos 1 ≤ℤ n }
         ensures ends { box_ends result ≡ gquot_box (box_ends self) (number g) n }
-        ensures contains { (z : ComplexRatio) → BoxContains self z → BoxContains result (over_complex (mul_complex (whole_complex (number g)) z) n) }
+        ensures contains { (z : ComplexRatio) → BoxContains self z → BoxContains result (over_complex (whole_complex (number g) *ᶜ z) n) }
     {
         self.gscale(g).quot(n)
     }

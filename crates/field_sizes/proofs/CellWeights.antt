@@ -10,19 +10,18 @@ use Rattle.exact_math.specs.Sizes.{abs_gaussian}
 use Rattle.cell_name.specs.Square.{Square, child, Holds, holds_test}
 use Rattle.cell_name.proofs.Cells.{Holds-parent}
 use Rattle.cell_name.proofs.HoldsTest.{Holds-from_test, test-from_Holds}
-use Rattle.cell_name.proofs.Quarters.{lies_in_one_child}
+use Rattle.cell_name.proofs.Quarters.{lies_in_one_child, IsQuarter, quarters_are, quarters_differ}
 use Rattle.points.specs.Points.{is_source, place, pole, dipole}
 use Rattle.points.specs.Limits.{weight64, total_weight}
 use Rattle.points.specs.declared.Kind.{Kind}
 use Rattle.points.specs.declared.Kind.TheVariants.{Charge, Dipole, Vortex, Target}
 use Rattle.points.specs.declared.Point.{Point}
-use Rattle.quadtree.specs.Splitting.{quarters}
+use Rattle.cell_name.specs.Quarters.{quarters}
 use Rattle.quadtree.proofs.Distinct.{Contains-filter}
-use Rattle.quadtree.proofs.TreeCells.{IsQuarter, quarters_are, quarters_differ}
 use Rattle.row_recursions.specs.Sources.{source_at, source_of}
 use Rattle.truncation.specs.Entries.{weight}
 use Rattle.tree_field.specs.Field.{is_source_in, sources_in}
-use Rattle.tree_field.proofs.Members.{All-from_members, AllPairs-both, filter-filter}
+use Rattle.quadtree.proofs.Lists.{All-from_members, AllPairs-both, filter-filter}
 use Rattle.tree_field.proofs.Sums.{sum_by-same}
 use Rattle.field_sizes.proofs.CellSources.{sum_by-filter}
 use Rattle.field_sizes.proofs.Disjoint.{sum_by-disjoint}

@@ -8,7 +8,7 @@ use Rattle.points.specs.declared.Point.{Point}
 use Rattle.points.specs.Limits.{total_weight}
 use Rattle.quadtree.specs.Tree.{IsTreeCell}
 use Rattle.quadtree.proofs.Parents.{IsTreeCell-parent}
-use Rattle.row_recursions.proofs.RowSizes.{order_small, power_positive}
+use Rattle.row_recursions.proofs.RowSizes.{power_positive}
 use Rattle.truncation.specs.Tails.{ceiling, pair_tail, single_tail}
 use Rattle.truncation.proofs.Tails.{pair_tail_le, single_tail_le}
 use Rattle.tree_field.specs.Field.{weight_in, pair_radius, single_radius, local_radius}
@@ -16,6 +16,7 @@ use Rattle.tree_field.specs.Lists.{TreeLists}
 use Rattle.tree_field.proofs.LocalRows.{local_radius-root, local_radius-below}
 use Rattle.field_sizes.proofs.EntrySums.{sum_by-entries}
 use Rattle.field_sizes.specs.Sizes.{EntriesShareNoSource, IsLimited, RadiusSizes}
+use Rattle.exact_math.proofs.Orders.{order_bounds}
 
 ceiling_le : (a s : ℕ) → 1 ≤ s → ceiling a s ≤ a
 ceiling_le a s h =
@@ -68,6 +69,6 @@ module _ (apart : EntriesShareNoSource) (points : List Point) (cap P : ℕ) (lis
 
 pub radius_sizes : EntriesShareNoSource → RadiusSizes
 radius_sizes apart points cap P lists order limited c in_tree =
-    let few = order_small P order in
+    let few = order_bounds P order in
     let h = local_radius-light apart points cap P lists (omega arith) limited c in_tree in
     omega (arith, h)

@@ -10,8 +10,6 @@ ghost use Rattle.exact_math.specs.Within.{Within};
 
 mod products;
 mod rounding;
-#[cfg(test)]
-mod tests;
 
 use products::{high_product, low_product};
 pub use rounding::{ceil_shift, floor_shift};

@@ -9,7 +9,7 @@ use Rattle.std.proofs.lemmas.Int.{ints, clamps}
 use Rattle.exact_math.specs.Contains.{Contains}
 use Rattle.exact_math.specs.Ends.{Ends, BoxEnds, add_ends, sub_ends, neg_ends, scale_ends, scale_box, quot_ends, EndsWithin, BoxEndsWithin, EndsNarrow}
 use Rattle.exact_math.specs.Gaussian.{Gaussian, norm_gaussian}
-use Rattle.exact_math.specs.Ratio.{Ratio, ComplexRatio, mul_complex}
+use Rattle.exact_math.specs.Ratio.{Ratio, ComplexRatio, ◌*ᶜ◌, reciprocal}
 use Rattle.exact_math.specs.Rounding.{floor_div}
 use Rattle.exact_math.specs.Sums.{pow_complex}
 use Rattle.exact_math.specs.Within.{Within}
@@ -20,7 +20,6 @@ use Rattle.exact_math.specs.Binomials.{choose}
 use Rattle.exact_math.proofs.Enclosures.{floor_div_le}
 use Rattle.complex_box.specs.Box.{GscaleFits}
 use Rattle.kernel_table.specs.Kernel.{IsKernelDistance, kernel_power, kernel_entry, alternate_box}
-use Rattle.truncation.specs.CutTerms.{reciprocal}
 use Rattle.kernel_table.proofs.Contained.{kernel_power_contains}
 use Rattle.kernel_table.proofs.PowersOfTwo.{two_power, power_positive, power_add, choose_le}
 use Rattle.kernel_table.proofs.Widths.{norm_count-is, norm_count≥4, widths, widths_le, kernel_power_narrow, floor_div_gt, at_most}
@@ -64,7 +63,7 @@ step_le n s d n≥4 h =
     (Z.≤-trans a (subst (λ z. z ≤ℤ (d *ℤ d *ℤ (n *ℤ n))) (Z.*-comm (d *ℤ d) (pos 4 *ℤ n)) b))
 
 -- dividing by e shrinks by 2 at least
-shrunk-step : (e : Gaussian) → pos 4 ≤ℤ norm_gaussian e → {c : ℤ} {x : ComplexRatio} → Shrunk c x → Shrunk (pos 2 *ℤ c) (mul_complex (reciprocal e) x)
+shrunk-step : (e : Gaussian) → pos 4 ≤ℤ norm_gaussian e → {c : ℤ} {x : ComplexRatio} → Shrunk c x → Shrunk (pos 2 *ℤ c) (reciprocal e *ᶜ x)
 shrunk-step e n≥4 {c} {x} h = record {
   positive = Z.*-positive _ _ (omega (arith, ints, n≥4)) h.positive;
   square = subst (λ z. z ≤ℤ (norm_gaussian e *ℤ x.denominator *ℤ (norm_gaussian e *ℤ x.denominator))) (product_is c e.re e.im x.re x.im)
@@ -77,7 +76,7 @@ shrunk-step e n≥4 {c} {x} h = record {
 
 pub shrunk : (e : Gaussian) → pos 4 ≤ℤ norm_gaussian e → (m : ℕ) → Shrunk (pos (2 ^ m)) (pow_complex (reciprocal e) m)
 shrunk e n≥4 zero = record { positive = omega (arith, ints); square = omega (arith, ints) }
-shrunk e n≥4 (suc m) = subst (λ c. Shrunk c (mul_complex (reciprocal e) (pow_complex (reciprocal e) m))) (ap pos (sym (two_power m))) (shrunk-step e n≥4 (shrunk e n≥4 m))
+shrunk e n≥4 (suc m) = subst (λ c. Shrunk c (reciprocal e *ᶜ pow_complex (reciprocal e) m)) (ap pos (sym (two_power m))) (shrunk-step e n≥4 (shrunk e n≥4 m))
 
 -- ---- the powers
 -- ends that contain a number of at most n units, at most w apart, are at most n + w in size

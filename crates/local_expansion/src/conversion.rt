@@ -1,6 +1,6 @@
 //! One coefficient of the contribution of a far cell.
-ghost use Rattle.std.specs.Prelude.{◌≡◌, ℕ, ◌+◌, ◌^◌, ◌≤◌, pos, length, IsTrue};
-ghost use Rattle.exact_math.specs.Ends.{BoxEndsWithin, times_box, quot_box};
+ghost use Rattle.std.specs.Prelude.{◌≡◌, ◌+◌, ◌^◌, ◌≤◌, pos, length, IsTrue};
+ghost use Rattle.exact_math.specs.Ends.{times_box, quot_box};
 ghost use Rattle.complex_box.specs.Box.{box_ends};
 ghost use Rattle.row_recursions.specs.Rows.{row_of, sum_boxes};
 ghost use Rattle.row_recursions.specs.Sizes.{RowWithin};

@@ -32,13 +32,13 @@ abbrev pub most_read : ℕ
 most_read = 1_000_000_000_000_000_000
 
 -- n, or the greatest size that is read where n is greater
-abbrev pub nearest_uint : ℕ → ℕ
-nearest_uint n = min n most_read
+abbrev pub cut_uint : ℕ → ℕ
+cut_uint n = min n most_read
 
 -- z, or the number of its sign and of the greatest size that is read where z is greater in size
-abbrev pub nearest_int : ℤ → ℤ
-nearest_int (pos n) = pos (nearest_uint n)
-nearest_int (negsuc n) = neg_ℤ (pos (nearest_uint (suc n)))
+abbrev pub cut_int : ℤ → ℤ
+cut_int (pos n) = pos (cut_uint n)
+cut_int (negsuc n) = neg_ℤ (pos (cut_uint (suc n)))
 
 -- the words of the text spell these numbers, with one space between each two of them
 abbrev pub AreInts : List ℕ → List ℤ → Type 0

@@ -1,13 +1,13 @@
 -- Which places, strengths and lists the text allows.
 use Rattle.std.specs.Prelude.{ℕ, ◌+◌, ◌*◌, ◌-◌, ◌^◌, ◌<◌, ◌≤◌, ℤ, pos, neg_ℤ, ◌≤ℤ◌, ◌<ℤ◌, List, length, All, sum_by}
 use Rattle.exact_math.specs.Sizes.{abs_gaussian}
-use Rattle.exact_math.specs.Within.{Within}
 use Rattle.points.specs.declared.Kind.{Kind}
-use Rattle.points.specs.declared.Kind.TheVariants.{Charge, Dipole, Vortex, Target}
+use Rattle.points.specs.declared.Kind.TheVariants.{Charge, Vortex}
 use Rattle.points.specs.declared.Mode.{Mode}
 use Rattle.points.specs.declared.Mode.TheVariants.{Field, Velocity}
 use Rattle.points.specs.declared.Point.{Point}
-use Rattle.points.specs.Points.{pole, dipole}
+use Rattle.points.specs.Points.{strength, pole, dipole}
+use Rattle.points.specs.Strength.{StrengthWithin}
 
 -- the grid has 2^grid_bits places in a row
 abbrev pub grid_bits : ℕ
@@ -37,10 +37,7 @@ pub record InGrid (x y : ℤ) : Type 0 where
 
 -- each strength component is within its limit
 abbrev pub HasStrength : Kind → Type 0
-HasStrength (Charge q) = Within most_strength q
-HasStrength (Dipole re im) = Within most_strength re × Within most_strength im
-HasStrength (Vortex g) = Within most_strength g
-HasStrength Target = Unit {0}
+HasStrength k = StrengthWithin most_strength (strength k)
 
 -- the place is in the grid and each strength component is within its limit
 pub record InRange (p : Point) : Type 0 where

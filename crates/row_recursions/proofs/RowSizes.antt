@@ -6,8 +6,7 @@ use Rattle.std.proofs.Math.Pow.{pow_mono}
 use Rattle.std.proofs.lemmas.Int.{ints}
 use Rattle.std.specs.Prelude.{unsigned_abs}
 use Rattle.exact_math.specs.Ends.{Ends, BoxEnds, EndsWithin, BoxEndsWithin, zero_box, add_box, scale_box, gscale_box, quot_ends, quot_box, gquot_box, scale_ends}
-use Rattle.exact_math.specs.Gaussian.{Gaussian, norm_gaussian}
-use Rattle.exact_math.specs.Orders.{IsOrder}
+use Rattle.exact_math.specs.Gaussian.{Gaussian, norm_gaussian, conj, scale_gaussian}
 use Rattle.exact_math.specs.Sizes.{abs_gaussian}
 use Rattle.exact_math.specs.Within.{Within}
 use Rattle.exact_math.proofs.Ring.{int_ring}
@@ -16,7 +15,6 @@ use Rattle.exact_math.proofs.WholeSizes.{within-mul, within-neg, within-floor, w
 use Rattle.fixed_interval.proofs.Sizes.{ends_wider, add_within, sub_within, scale_within}
 use Rattle.complex_box.proofs.Sizes.{box_wider, add_box_within, neg_box_within, scale_box_within}
 use Rattle.truncation.specs.Places.{GaussianWithin, GaussianBeyond}
-use Rattle.kernel_table.specs.Kernel.{conj_multiple}
 use Rattle.row_recursions.specs.Rows.{RowsAdd, units_box, units_over, ratio_box, pole_moment, dipole_moment, source_moment, up_round, shifted_up, far_pole, far_dipole, far_source, down_round, shifted_down, local_round, local_value, multipole_round, multipole_value}
 use Rattle.row_recursions.specs.Sizes.{RowWithin, MomentSizes, UpSizes, FarSizes, DownSizes, LocalValueSizes, MultipoleValueSizes}
 
@@ -178,8 +176,8 @@ pub far_norm_positive : (s : ℕ) (g : Gaussian) → 1 ≤ s → GaussianBeyond 
 far_norm_positive s g h far = let e = norm_counts g in let p = far_positive s g h far in omega (arith, ints)
 
 pub ratio_within : (n s : ℕ) (g : Gaussian) (b : BoxEnds) → 1 ≤ s → GaussianBeyond (3 * s) g → BoxEndsWithin n b → BoxEndsWithin n (ratio_box (2 * s) g b)
-ratio_within n s g b h far w = subst (λ d. BoxEndsWithin n (gquot_box b (conj_multiple (2 * s) g) d)) (sym (norm_counts g))
-    (box_gquot_within n (2 * s * unsigned_abs g.re) (2 * s * unsigned_abs g.im) (norm_count g) b (conj_multiple (2 * s) g) (far_positive s g h far) (far_sum s g far)
+ratio_within n s g b h far w = subst (λ d. BoxEndsWithin n (gquot_box b (conj (scale_gaussian (2 * s) g)) d)) (sym (norm_counts g))
+    (box_gquot_within n (2 * s * unsigned_abs g.re) (2 * s * unsigned_abs g.im) (norm_count g) b (conj (scale_gaussian (2 * s) g)) (far_positive s g h far) (far_sum s g far)
     (within-mul (2 * s) (unsigned_abs g.re) (pos (2 * s)) g.re (number_within (2 * s)) (size_within g.re))
     (within-neg (within-mul (2 * s) (unsigned_abs g.im) (pos (2 * s)) g.im (number_within (2 * s)) (size_within g.im))) w)
 
@@ -245,10 +243,6 @@ taken_within P m n old part new adds v w k h =
       re = record { lo = left_within m n (ap (λ (x : BoxEnds). x.re.lo) e) a.re.lo b.re.lo; hi = left_within m n (ap (λ (x : BoxEnds). x.re.hi) e) a.re.hi b.re.hi };
       im = record { lo = left_within m n (ap (λ (x : BoxEnds). x.im.lo) e) a.im.lo b.im.lo; hi = left_within m n (ap (λ (x : BoxEnds). x.im.hi) e) a.im.hi b.im.hi };
     }
-
--- the orders are at most 24
-pub order_small : (P : ℕ) → IsOrder P → P ≤ 24
-order_small P h = ⊎_elim (λ e. omega arith) (λ l. ⊎_elim (λ e. omega arith) (λ k. ⊎_elim (λ e. omega arith) (λ e. omega arith) k) l) h
 
 -- ---- powers of two
 pub power_positive : (n : ℕ) → 1 ≤ 2 ^ n

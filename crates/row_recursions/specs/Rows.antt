@@ -2,11 +2,10 @@
 -- a place less the doubled centre of the cell; a quadrant q has the parts 1 and -1, 1 for the right and for the top half.
 use Rattle.std.specs.Prelude.{ℕ, zero, suc, ◌-◌, ◌*◌, ◌^◌, ◌<◌, ◌≡◌, pos, ◌*ℤ◌, List}
 use Rattle.exact_math.specs.Ends.{BoxEnds, zero_box, point_box, add_box, neg_box, scale_box, times_box, gscale_box, quot_box, gquot_box}
-use Rattle.exact_math.specs.Gaussian.{Gaussian, norm_gaussian}
+use Rattle.exact_math.specs.Gaussian.{Gaussian, norm_gaussian, conj, scale_gaussian}
 use Rattle.complex_box.specs.Box.{box_ends}
 use Rattle.complex_box.specs.Rows.{at}
 use Rattle.complex_box.specs.declared.CBox.{CBox}
-use Rattle.kernel_table.specs.Kernel.{conj_multiple}
 
 -- the row that a list of boxes holds
 abbrev pub row_of : List CBox → ℕ → BoxEnds
@@ -31,7 +30,7 @@ units_over b s = quot_box (units_box b) (pos s)
 
 -- m/g times the box: its exact product with m conj g, over the norm of g, rounded once
 abbrev pub ratio_box : ℕ → Gaussian → BoxEnds → BoxEnds
-ratio_box m g b = gquot_box b (conj_multiple m g) (norm_gaussian g)
+ratio_box m g b = gquot_box b (conj (scale_gaussian m g)) (norm_gaussian g)
 
 -- f 0 + .. + f (n - 1)
 abbrev pub sum_boxes : ℕ → (ℕ → BoxEnds) → BoxEnds

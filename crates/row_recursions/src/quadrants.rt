@@ -1,6 +1,6 @@
 //! Products of boxes with a quadrant, by signs alone, and with 2.
 ghost use Rattle.std.specs.Prelude.{◌≡◌, ◌^◌, pos};
-ghost use Rattle.exact_math.specs.Ends.{BoxEndsWithin, EndsWithin, scale_ends, scale_box, gscale_box};
+ghost use Rattle.exact_math.specs.Ends.{BoxEndsWithin, scale_ends, scale_box, gscale_box};
 ghost use Rattle.fixed_interval.specs.Interval.{ends_of};
 ghost use Rattle.complex_box.specs.Box.{box_ends};
 ghost use Rattle.row_recursions.specs.Cells.{sign, quadrant_of};

@@ -17,7 +17,7 @@ use Rattle.exact_math.proofs.Fractions.{complex_value, Stands-itself, Stands-sub
 use Rattle.exact_math.proofs.BoxEnclosures.{EnclosesBox, enclosed_from_contained}
 use Rattle.exact_math.proofs.Bridges.{contains-units}
 use Rattle.row_recursions.proofs.BoxSums.{units}
-use Rattle.truncation.specs.Entries.{Source, weight, sum_weights, exact_term}
+use Rattle.truncation.specs.Entries.{Source, weight, exact_term}
 use Rattle.truncation.specs.Tails.{ceiling}
 use Rattle.truncation.specs.Truncation.{Truncated}
 use Rattle.truncation.proofs.Tails.{ceiling_is}
@@ -42,8 +42,8 @@ cut_off exact cut m s least t = subst (EnclosesBox (slack (ceiling m s)))
 
 -- ---- all sources of an entry
 module _ (P : ℕ) (t : Gaussian) (cut : Source → ComplexRatio) (T s : ℕ) (Q : Source → Type 0)
-    (bound : (xs : List Source) → All Q xs → Truncated (sum_terms (exact_term t) xs) (sum_terms cut xs) (sum_weights P xs * T) s) where
-  weights_are : (xs : List LeafSource) → sum_weights P (sources_in xs) ≡ sum_by (λ x. weight P (source_in x)) xs
+    (bound : (xs : List Source) → All Q xs → Truncated (sum_terms (exact_term t) xs) (sum_terms cut xs) (sum_by (weight P) xs * T) s) where
+  weights_are : (xs : List LeafSource) → sum_by (weight P) (sources_in xs) ≡ sum_by (λ x. weight P (source_in x)) xs
   weights_are xs = sum_by_from (weight P) 0 (sources_in xs) ∙ from_nothing (sum_by (weight P) (sources_in xs)) ∙ images xs
     where
       from_nothing : (n : ℕ) → 0 + n ≡ n
@@ -61,7 +61,7 @@ module _ (P : ℕ) (t : Gaussian) (cut : Source → ComplexRatio) (T s : ℕ) (Q
       → IsNear (ceiling (sum_by (λ x. weight P (source_in x)) xs * T) s) (sum_list complex_rationals (term_in_units t) xs) (units *ℂ complex_value (sum_terms cut (sources_in xs)))
   entry_near least xs each =
       subst₂ (λ w z. IsNear (ceiling (w * T) s) z (units *ℂ complex_value (sum_terms cut (sources_in xs)))) (weights_are xs) (exact_sum t xs positive)
-      (cut_off _ _ (sum_weights P (sources_in xs) * T) s least (bound (sources_in xs) (All-map Q source_in xs each)))
+      (cut_off _ _ (sum_by (weight P) (sources_in xs) * T) s least (bound (sources_in xs) (All-map Q source_in xs each)))
     where
       positive : All (λ x. pos 0 <ℤ (exact_term t (source_in x)).denominator) xs
       positive k d l = one_positive t (source_in (get_or xs k d)) (bound (source_in (get_or xs k d) ∷ []) (single (source_in (get_or xs k d)) (each k d l))).exact_fraction

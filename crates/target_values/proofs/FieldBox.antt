@@ -1,12 +1,12 @@
 -- The value of a target from the rows of the field is the field's box.
-use Rattle.std.proofs.Common.{◌≡◌, ◌∙◌, ◌*◌, ◌^◌, ◌<◌, ◌≤◌, sym, ap, ap₂, arith, ℕ, ℤ, pos, ◌+ℤ◌, unsigned_abs, List, length, map, get_or, lit<}
+use Rattle.std.proofs.Common.{◌≡◌, ◌∙◌, ◌*◌, ◌^◌, ◌<◌, sym, ap, ap₂, ℕ, ℤ, pos, ◌+ℤ◌, unsigned_abs, List, length, map, get_or, lit<}
 use Rattle.std.specs.Prelude.{All, sum_by}
 use Rattle.std.proofs.lemmas.List.Elements.{Contains-get_or}
 use Rattle.std.proofs.lemmas.Option.{slice_get-get_or}
-use mathlib.Core.Logic.{⊎_elim}
 use Rattle.exact_math.specs.Ends.{BoxEnds, BoxEndsContain, add_box, widen_box}
 use Rattle.exact_math.specs.Gaussian.{Gaussian}
 use Rattle.exact_math.specs.Orders.{IsOrder}
+use Rattle.exact_math.proofs.Orders.{order_bounds}
 use Rattle.cell_name.specs.Square.{Square, side}
 use Rattle.cell_lists.specs.Lists.{AreLists, lists_of}
 use Rattle.cell_lists.specs.Row.{row}
@@ -75,10 +75,6 @@ module _ (points : List Point) (cap P : ℕ) (tree : TreeModel) (lists : EntryLi
       (ap₂ add_box (local_value-same P (row_at P local b) (local_row points cap P field (square_of tree b)) (side (square_of tree b)) (offset (square_of tree b) z) rows.local_is) (ap₂ add_box (far_same z) (near_same z)))
       (ap₂ (λ r n. r +ℤ pos n) rows.radius_is lost_same)
 
--- ---- the box of a point at a position
-order_least : (P : ℕ) → IsOrder P → 2 ≤ P
-order_least P h = ⊎_elim (λ e. omega arith) (λ l. ⊎_elim (λ e. omega arith) (λ k. ⊎_elim (λ e. omega arith) (λ e. omega arith) k) l) h
-
 pub leaf_at_position : (tree : TreeModel) (points : List Point) (cap : ℕ) → IsTreeOf 16 tree points cap → (k : ℕ) (d : Point) → k < length points → IsLeafOf 16 tree points cap (leaf_of tree k) (get_or points k d)
 leaf_at_position tree points cap h k d lt = h.leaves_are k (get_or points k d) (slice_get-get_or points k d lt)
 
@@ -93,4 +89,4 @@ box_is points cap P tree lists field inside are up local weights radius k lt row
 
 pub boxes_contain : (points : List Point) (cap P : ℕ) (tree : TreeModel) (field : TreeLists) → AreInGrid 16 points → IsOrder P → IsFieldOf points cap tree field
     → All (λ t. BoxEndsContain (pos (2 ^ 40)) (target_box points cap P field 16 (place t)) (direct_sum (place t) points)) (targets points)
-boxes_contain points cap P tree field inside order h = field_contains 16 points cap P field (lit< tt) (order_least P order) inside h.lists_are
+boxes_contain points cap P tree field inside order h = field_contains 16 points cap P field (lit< tt) (order_bounds P order).0 inside h.lists_are

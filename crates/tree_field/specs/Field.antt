@@ -9,7 +9,7 @@ use Rattle.kernel_table.specs.Kernel.{kernel_entry}
 use Rattle.points.specs.Points.{is_source, place}
 use Rattle.near_field.specs.Pair.{pair_box}
 use Rattle.points.specs.declared.Point.{Point}
-use Rattle.quadtree.specs.Splitting.{quarters}
+use Rattle.cell_name.specs.Quarters.{quarters}
 use Rattle.quadtree.specs.Tree.{count_in}
 use Rattle.row_recursions.specs.Rows.{shifted_up, converted, shifted_down, local_value, multipole_value}
 use Rattle.row_recursions.specs.Sources.{source_of}

@@ -5,7 +5,7 @@ use Rattle.cell_name.specs.Square.{Square, side, parent}
 use Rattle.letters.specs.declared.Letter.{Letter}
 use Rattle.letters.specs.declared.Letter.TheVariants.{V, X}
 use Rattle.points.specs.declared.Point.{Point}
-use Rattle.quadtree.specs.Splitting.{quarters}
+use Rattle.cell_name.specs.Quarters.{quarters}
 use Rattle.quadtree.specs.Tree.{AreInGrid, count_in, IsTreeCell}
 use Rattle.row_recursions.specs.Rows.{shifted_up, shifted_down}
 use Rattle.soundness.specs.Computed.{total_row}

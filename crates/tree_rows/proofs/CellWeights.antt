@@ -24,7 +24,7 @@ use Rattle.row_recursions.specs.Sources.{source_at, source_of}
 use Rattle.row_recursions.proofs.Points.{grid_of}
 use Rattle.truncation.specs.Entries.{weight}
 use Rattle.tree_field.specs.Field.{is_source_in, weight_in}
-use Rattle.tree_field.proofs.Members.{range_below}
+use Rattle.quadtree.proofs.Lists.{range_below}
 use Rattle.tree_field.proofs.Program.{nodes_of_tree}
 use Rattle.tree_field.proofs.Sums.{sum_by-map}
 use Rattle.tree_rows.specs.Trees.{IsTreeOfPoints}

@@ -1,11 +1,11 @@
 -- The truncation bound of one source, in whole numbers.
 use Rattle.exact_math.proofs.Common.{◌≡◌, sym, ap, ap₂, subst, ◌∙◌, ℕ, zero, suc, arith, ints, pos, pow, ℚ, rational_ring, of_int, of_int-mul, of_int-≤, ◌*ℚ◌, inverse, ◌≤ℚ◌, ◌<ℚ◌, nonneg_int, ℂ, ◌+ℂ◌, ◌-ℂ◌, norm, size}
-use Rattle.exact_math.specs.Gaussian.{Gaussian, sub_gaussian}
+use Rattle.exact_math.specs.Gaussian.{Gaussian, sub_gaussian, scale_gaussian}
 use Rattle.exact_math.specs.Sizes.{abs_gaussian}
 use Rattle.exact_math.proofs.GaussianSizes.{size_value}
 use Rattle.exact_math.proofs.Gaussians.{value}
 use Rattle.truncation.specs.CutTerms.{pair_pole_cut, pair_dipole_cut, multipole_pole_cut, multipole_dipole_cut, local_pole_cut, local_dipole_cut}
-use Rattle.truncation.specs.Places.{times_side, pair_distance, PairPlaces, SinglePlaces}
+use Rattle.truncation.specs.Places.{pair_distance, PairPlaces, SinglePlaces}
 use Rattle.truncation.specs.Tails.{pair_tail, single_tail}
 use Rattle.truncation.specs.Truncation.{Truncated, halved_pole_term, halved_dipole_term, PairTruncation, SingleTruncation}
 use Rattle.truncation.proofs.Distances.{PartsAtMost, SomePartAtLeast, double, times_ratio}
@@ -49,7 +49,7 @@ module _ (s : ℕ) (e o q : Gaussian) (h : PairPlaces s e o q) where
   large : of_int (pos 1) ≤ℚ of_int (pos s)
   large = side_large s h.side
 
-  centres_apart : SomePartAtLeast (value (times_side s e)) (of_int (pos 2) *ℚ of_int (pos s))
+  centres_apart : SomePartAtLeast (value (scale_gaussian s e)) (of_int (pos 2) *ℚ of_int (pos s))
   centres_apart = centre_parts s e h.apart
 
   source_near : PartsAtMost (double (halved o)) (of_int (pos s))
@@ -58,25 +58,25 @@ module _ (s : ℕ) (e o q : Gaussian) (h : PairPlaces s e o q) where
   target_near : PartsAtMost (double (halved q)) (of_int (pos s))
   target_near = offset_parts q s h.target
 
-  centres_positive : of_int (pos 0) <ℚ norm (value (times_side s e))
-  centres_positive = Pair.centre_positive (of_int (pos s)) large (value (times_side s e)) (halved o) (halved q) centres_apart source_near target_near
+  centres_positive : of_int (pos 0) <ℚ norm (value (scale_gaussian s e))
+  centres_positive = Pair.centre_positive (of_int (pos s)) large (value (scale_gaussian s e)) (halved o) (halved q) centres_apart source_near target_near
 
-  pair_positive : of_int (pos 0) <ℚ norm (value (times_side s e) +ℂ halved q -ℂ halved o)
-  pair_positive = Pair.delta_positive (of_int (pos s)) large (value (times_side s e)) (halved o) (halved q) centres_apart source_near target_near
+  pair_positive : of_int (pos 0) <ℚ norm (value (scale_gaussian s e) +ℂ halved q -ℂ halved o)
+  pair_positive = Pair.delta_positive (of_int (pos s)) large (value (scale_gaussian s e)) (halved o) (halved q) centres_apart source_near target_near
 
   pair_pole : (P : ℕ) → 1 ≤ P → (a : Gaussian) → Truncated (halved_pole_term a (pair_distance s e o q)) (pair_pole_cut P s e o q a) (abs_gaussian a * pair_tail P) s
   pair_pole zero k a = absurd (omega arith)
   pair_pole (suc p) k a = truncated (abs_gaussian a * pair_tail (suc p)) s h.side
       (Stands-halved_pole (pair_distance s e o q) _ (pair_distance_is s e o q) pair_positive a) (Stands-pair_pole_cut (suc p) s e o q centres_positive a)
       (recount (pole_total a (pair_tail (suc p)) (inverse (of_int (pos s))))
-      (Pair.pole_bound (of_int (pos s)) large (value (times_side s e)) (halved o) (halved q) centres_apart source_near target_near p (of_int (pos (2 ^ 40))) (of_int (pos (pair_tail (suc p)))) (nonneg_int (2 ^ 40)) (pair_tail_dominates (suc p)) (value a)))
+      (Pair.pole_bound (of_int (pos s)) large (value (scale_gaussian s e)) (halved o) (halved q) centres_apart source_near target_near p (of_int (pos (2 ^ 40))) (of_int (pos (pair_tail (suc p)))) (nonneg_int (2 ^ 40)) (pair_tail_dominates (suc p)) (value a)))
 
   pair_dipole : (P : ℕ) → 1 ≤ P → (b : Gaussian) → Truncated (halved_dipole_term b (pair_distance s e o q)) (pair_dipole_cut P s e o q b) (2 * P * abs_gaussian b * pair_tail P) s
   pair_dipole zero k b = absurd (omega arith)
   pair_dipole (suc p) k b = truncated (2 * suc p * abs_gaussian b * pair_tail (suc p)) s h.side
       (Stands-halved_dipole (pair_distance s e o q) _ (pair_distance_is s e o q) pair_positive b) (Stands-pair_dipole_cut (suc p) s e o q centres_positive b)
       (recount (dipole_total (suc p) b (pair_tail (suc p)) (inverse (of_int (pos s))))
-      (Pair.dipole_bound (of_int (pos s)) large (value (times_side s e)) (halved o) (halved q) centres_apart source_near target_near p (of_int (pos (2 ^ 40))) (of_int (pos (pair_tail (suc p)))) (nonneg_int (2 ^ 40)) (pair_tail_dominates (suc p)) (value b)))
+      (Pair.dipole_bound (of_int (pos s)) large (value (scale_gaussian s e)) (halved o) (halved q) centres_apart source_near target_near p (of_int (pos (2 ^ 40))) (of_int (pos (pair_tail (suc p)))) (nonneg_int (2 ^ 40)) (pair_tail_dominates (suc p)) (value b)))
 
 -- ---- a cell and a far place
 module _ (s : ℕ) (z o : Gaussian) (h : SinglePlaces s z o) where

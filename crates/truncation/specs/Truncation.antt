@@ -2,7 +2,7 @@
 use Rattle.std.specs.Prelude.{ℕ, pos, neg_ℤ, ◌*◌, ◌^◌, ◌≤◌, ◌<ℤ◌}
 use Rattle.exact_math.specs.Contains.{Contains}
 use Rattle.exact_math.specs.Gaussian.{Gaussian, sub_gaussian, add_gaussian}
-use Rattle.exact_math.specs.Ratio.{ComplexRatio, sub_complex, re_part, im_part}
+use Rattle.exact_math.specs.Ratio.{ComplexRatio, re_part, im_part, ◌-ᶜ◌}
 use Rattle.exact_math.specs.Sizes.{abs_gaussian}
 use Rattle.exact_math.specs.Terms.{pole_term, dipole_term}
 use Rattle.truncation.specs.CutTerms.{pair_pole_cut, pair_dipole_cut, multipole_pole_cut, multipole_dipole_cut, local_pole_cut, local_dipole_cut}
@@ -13,8 +13,8 @@ use Rattle.truncation.specs.Tails.{pair_tail, single_tail}
 pub record Truncated (exact cut : ComplexRatio) (m n : ℕ) : Type 0 where
   pub exact_fraction : pos 0 <ℤ exact.denominator
   pub cut_fraction : pos 0 <ℤ cut.denominator
-  pub re : Contains (pos (2 ^ 40 * n)) (neg_ℤ (pos m)) (pos m) (re_part (sub_complex exact cut))
-  pub im : Contains (pos (2 ^ 40 * n)) (neg_ℤ (pos m)) (pos m) (im_part (sub_complex exact cut))
+  pub re : Contains (pos (2 ^ 40 * n)) (neg_ℤ (pos m)) (pos m) (re_part (exact -ᶜ cut))
+  pub im : Contains (pos (2 ^ 40 * n)) (neg_ℤ (pos m)) (pos m) (im_part (exact -ᶜ cut))
 
 -- 2 g
 abbrev pub twice : Gaussian → Gaussian

@@ -10,11 +10,11 @@ use Rattle.cell_name.specs.Cell.{square}
 use Rattle.cell_name.specs.Square.{side}
 use Rattle.letters.specs.declared.Letter.TheVariants.{W}
 use Rattle.quadtree.specs.TreeModel.{square_of}
-use Rattle.row_recursions.proofs.RowSizes.{order_small}
 use Rattle.truncation.specs.Tails.{ceiling, single_tail}
 use Rattle.tree_rows.specs.FlatRows.{IsWeight, weight_at}
 use Rattle.target_values.proofs.FarCells.{far_below, few_far}
 use Rattle.target_values.proofs.far.far_radius.Goals as goal
+use Rattle.exact_math.proofs.Orders.{order_bounds}
 
 pub w_list-c-items-requires : goal.w_list-c-items-requires
 w_list-c-items-requires g c = let e = c.requires.lists.as_many W in omega (arith, e, c.requires.number)
@@ -57,7 +57,7 @@ loop-c-preserved g c =
     let is : square c.index-cells-n.result ≡ square_of tree n = read_at tree c.cells.result.now n c.index-cells-n.result c.cells.ensures.all h c.index-cells-n.is in
     let w : IsWeight (get_or weights n (pos 0)) = c.requires.size _ (pos 0) (omega (arith, h, c.requires.len)) in
     let fits : SFits w128 (get_or weights n (pos 0)) = omega (arith, ints, w.least, w.most) in
-    let small = order_small g.row.P c.requires.order in
+    let small = order_bounds g.row.P c.requires.order in
     let e = simp to_z-of_z at c.add_loss.ensures.added in
     let loss : c.add_loss.new.ledger.radius ≡ c.loop-c.ledger.radius + f (get_or xs i 0) =
     e ∙ ap (λ s. c.loop-c.ledger.radius + ceiling (weight_at weights n * single_tail g.row.P) (side s)) is ∙ ap (λ l. c.loop-c.ledger.radius + f (get_or l i 0)) c.w_list-c-items.ensures in
