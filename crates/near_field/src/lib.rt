@@ -10,8 +10,6 @@ ghost use Rattle.near_field.specs.Pair.{is_at, outward, pair_box, term_of};
 ghost use Rattle.near_field.specs.Term.{ratio_of};
 
 mod term;
-#[cfg(test)]
-mod tests;
 
 use complex_box::{CBox, Work};
 use points::Point;
