@@ -9,8 +9,6 @@ ghost use Rattle.row_recursions.specs.Sources.{source_of};
 ghost use Rattle.error_ledger.specs.Weights.{weight_of};
 
 mod ledger;
-#[cfg(test)]
-mod tests;
 
 pub use ledger::Ledger;
 use points::{Kind, Point};
