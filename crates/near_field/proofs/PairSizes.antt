@@ -8,7 +8,7 @@ use Rattle.exact_math.specs.Ratio.{ComplexRatio}
 use Rattle.exact_math.specs.Rounding.{floor_div, ceil_div}
 use Rattle.exact_math.specs.Within.{Within}
 use Rattle.exact_math.specs.Terms.{pole_term, dipole_term}
-use Rattle.exact_math.proofs.Integers.{*-mono_left, *-nonneg, *-comm, *-cancel_≤}
+use Rattle.exact_math.proofs.Integers.{*-mono_left, *-comm, *-cancel_≤, square_nonneg}
 use Rattle.exact_math.proofs.Enclosures.{floor_div_le, ceil_div_ge}
 use Rattle.exact_math.proofs.Ring.{int_ring}
 use Rattle.exact_math.proofs.RingTactic.{int_quotes, ring1, ring2, ring3, ring4}
@@ -60,10 +60,6 @@ bounded-add l m y z n v w =
     split_neg a b n = ring3 int_ring a b n (λ a b n. search int_quotes depth 9) tt
 
 -- ---- the parts of a distance and of its square, by its norm
-square_nonneg : (x : ℤ) → pos 0 ≤ℤ (x *ℤ x)
-square_nonneg (pos n) = *-nonneg (pos n) (pos n) (omega (arith, ints)) (omega (arith, ints))
-square_nonneg (negsuc n) = omega (arith, ints)
-
 size_square : (x : ℤ) → (neg_ℤ (x *ℤ x) ≤ℤ x) × (x ≤ℤ (x *ℤ x))
 size_square (pos zero) = (omega (arith, ints), omega (arith, ints))
 size_square (pos (suc a)) = (omega (arith, ints), omega (arith, ints))

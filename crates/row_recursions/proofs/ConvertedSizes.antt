@@ -20,7 +20,7 @@ use Rattle.complex_box.proofs.Sizes.{box_wider, add_box_within}
 use Rattle.kernel_table.specs.Kernel.{IsKernelDistance, kernel_entry, kernel_fraction, alternate_complex}
 use Rattle.kernel_table.proofs.Entries.{kernel_entries}
 use Rattle.kernel_table.proofs.Sizes.{Shrunk, shrunk, norm≥4, count_root_le}
-use Rattle.kernel_table.proofs.Widths.{square_abs}
+use Rattle.exact_math.proofs.GaussianSizes.{square_abs}
 use Rattle.row_recursions.specs.Rows.{sum_boxes, converted}
 use Rattle.row_recursions.specs.Sizes.{RowWithin, ConvertedSizes}
 use Rattle.row_recursions.proofs.KernelCounts.{column_count, column_count-next, column_count-bounded}

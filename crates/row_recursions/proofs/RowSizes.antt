@@ -1,5 +1,5 @@
 -- How large the ends of rows grow: a factor of at most 1 enlarges no end, and a quotient by d of what is at most d n is at most n.
-use Rattle.std.proofs.Common.{◌≡◌, refl, sym, ap, subst, ℕ, zero, suc, ◌+◌, ◌-◌, ◌*◌, ◌^◌, ◌≤◌, ◌<◌, arith, ℤ, pos, negsuc, neg_ℤ, ◌+ℤ◌, ◌-ℤ◌, ◌*ℤ◌, ◌≤ℤ◌}
+use Rattle.std.proofs.Common.{◌≡◌, sym, ap, subst, ℕ, zero, suc, ◌+◌, ◌-◌, ◌*◌, ◌^◌, ◌≤◌, ◌<◌, arith, ℤ, pos, negsuc, neg_ℤ, ◌+ℤ◌, ◌-ℤ◌, ◌*ℤ◌, ◌≤ℤ◌}
 use mathlib.Core.Logic.{⊎_elim}
 use Rattle.std.proofs.Math.Nat.{mul-le-mul_left, mul-le-mul_right}
 use Rattle.std.proofs.Math.Pow.{pow_mono}
@@ -11,6 +11,8 @@ use Rattle.exact_math.specs.Sizes.{abs_gaussian}
 use Rattle.exact_math.specs.Within.{Within}
 use Rattle.exact_math.proofs.Ring.{int_ring}
 use Rattle.exact_math.proofs.RingTactic.{int_quotes, ring2}
+use Rattle.exact_math.proofs.GaussianSizes.{norm_count, norm_count-is}
+use Rattle.exact_math.proofs.Integers.{square_nonneg}
 use Rattle.exact_math.proofs.WholeSizes.{within-mul, within-neg, within-floor, within-ceil}
 use Rattle.fixed_interval.proofs.Sizes.{ends_wider, add_within, sub_within, scale_within}
 use Rattle.complex_box.proofs.Sizes.{box_wider, add_box_within, neg_box_within, scale_box_within}
@@ -133,18 +135,8 @@ unfolding shifted_down
 shifted_down_within P n q m unit bounded k h = box_quot_within n 2 (down_round P m q P k) (omega arith) (box_wider (2 * n) (n * 2) _ (omega arith) (down_round_within P n q m unit bounded P k (omega arith)))
 
 -- ---- a factor 2 s/g, where a part of g is at least 3 s in size
-abbrev norm_count : Gaussian → ℕ
-norm_count g = unsigned_abs g.re * unsigned_abs g.re + unsigned_abs g.im * unsigned_abs g.im
-
-square_size : (z : ℤ) → z *ℤ z ≡ pos (unsigned_abs z * unsigned_abs z)
-square_size (pos n) = refl
-square_size (negsuc n) = refl
-
 norm_counts : (g : Gaussian) → norm_gaussian g ≡ pos (norm_count g)
-norm_counts g = let e = square_size g.re in let f = square_size g.im in omega (arith, ints)
-
-square_nonneg : (a : ℤ) → pos 0 ≤ℤ (a *ℤ a)
-square_nonneg a = let e = square_size a in omega (arith, ints)
+norm_counts g = sym (norm_count-is g)
 
 two_products : (s r : ℕ) → 2 * (s * r) ≤ s * s + r * r
 two_products s r = let h = subst (λ z. pos 0 ≤ℤ z) (expand (pos r) (pos s)) (square_nonneg (pos r -ℤ pos s)) in omega (arith, ints)
