@@ -1,10 +1,11 @@
 -- What an entry of sources of this total weight can lose, and that a radius makes up for it: once a box that contains the sum of the cut terms, in units of
 -- 2^-40, is widened by the radius, it contains the exact sum.
-use Rattle.std.specs.Prelude.{ℕ, ◌*◌, ◌^◌, ◌≡◌, pos, List, All, sum_by}
+use Rattle.std.specs.Prelude.{ℕ, ◌*◌, ◌≡◌, pos, List, All, sum_by}
 use Rattle.exact_math.specs.Ends.{BoxEnds, BoxEndsContain, widen_box}
 use Rattle.exact_math.specs.Gaussian.{Gaussian, sub_gaussian, scale_gaussian}
 use Rattle.exact_math.specs.Ratio.{ComplexRatio}
 use Rattle.exact_math.specs.Sums.{sum_terms}
+use Rattle.exact_math.specs.Units.{unit}
 use Rattle.truncation.specs.Entries.{Source, exact_term, pair_cut, multipole_cut, local_cut, weight}
 use Rattle.truncation.specs.Places.{GaussianWithin, GaussianBeyond, doubled_offset}
 use Rattle.truncation.specs.Tails.{pair_tail, single_tail}
@@ -13,7 +14,7 @@ use Rattle.truncation.specs.Truncation.{Truncated}
 -- the exact sum and the cut one differ by at most loss/s units in each part, and a box of the cut one that is widened by r contains the exact one
 pub record Covers (loss s r : ℕ) (exact cut : ComplexRatio) : Type 0 where
   pub loses : Truncated exact cut loss s
-  pub makes_up : (box : BoxEnds) → BoxEndsContain (pos (2 ^ 40)) box cut → BoxEndsContain (pos (2 ^ 40)) (widen_box box (pos r)) exact
+  pub makes_up : (box : BoxEnds) → BoxEndsContain unit box cut → BoxEndsContain unit (widen_box box (pos r)) exact
 
 -- for two cells of side s whose centres are e sides apart, e with a part of at least 2
 abbrev pub PairRadius : ℕ → ℕ → ℕ → ℕ → Type 0

@@ -1,5 +1,5 @@
 -- The truncation bound of a whole entry, all sources of one cell seen from one target, and the radius that makes up for it.
-use Rattle.std.specs.Prelude.{ℕ, pos, ◌≡◌, ◌+◌, ◌*◌, ◌^◌, ◌≤◌, Bool, cond, List, sum_by, All}
+use Rattle.std.specs.Prelude.{ℕ, pos, ◌≡◌, ◌+◌, ◌*◌, ◌≤◌, Bool, cond, List, sum_by, All}
 use Rattle.exact_math.specs.Ends.{BoxEnds, BoxEndsContain, widen_box}
 use Rattle.exact_math.specs.Gaussian.{Gaussian, sub_gaussian, scale_gaussian}
 use Rattle.exact_math.specs.Ratio.{ComplexRatio}
@@ -7,6 +7,7 @@ use Rattle.exact_math.specs.Rounding.{ceil_div}
 use Rattle.exact_math.specs.Sizes.{abs_gaussian}
 use Rattle.exact_math.specs.Sums.{sum_terms}
 use Rattle.exact_math.specs.Terms.{pole_term, dipole_term}
+use Rattle.exact_math.specs.Units.{unit}
 use Rattle.truncation.specs.CutTerms.{pair_pole_cut, pair_dipole_cut, multipole_pole_cut, multipole_dipole_cut, local_pole_cut, local_dipole_cut}
 use Rattle.truncation.specs.Places.{GaussianWithin, GaussianBeyond, doubled_offset}
 use Rattle.truncation.specs.Tails.{pair_tail, single_tail}
@@ -65,4 +66,4 @@ LocalEntries = (P s : ℕ) (b t : Gaussian) → 2 ≤ P → 1 ≤ s → Gaussian
 -- a box that contains the cut sum, in units of 2^-40, contains the exact sum once it is widened by m/n rounded up
 abbrev pub RadiusWidens : Type 0
 RadiusWidens = (m n : ℕ) (exact cut : ComplexRatio) (box : BoxEnds) → 1 ≤ n → Truncated exact cut m n
-    → BoxEndsContain (pos (2 ^ 40)) box cut → BoxEndsContain (pos (2 ^ 40)) (widen_box box (ceil_div (pos m) (pos n))) exact
+    → BoxEndsContain unit box cut → BoxEndsContain unit (widen_box box (ceil_div (pos m) (pos n))) exact
