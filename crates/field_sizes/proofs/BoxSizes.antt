@@ -24,7 +24,7 @@ use Rattle.row_recursions.proofs.Geometry.{held_places, far_places}
 use Rattle.row_recursions.proofs.RowSizes.{local_value_within, multipole_value_within, power_positive}
 use Rattle.soundness.specs.Computed.{total_box}
 use Rattle.soundness.specs.Squares.{offset}
-use Rattle.tree_field.specs.Field.{sources_in, targets, multipole_row, leaf_at, local_row, single_radius, local_value_at, multipole_values_at, pairs_at, radius_in, box_in, target_box}
+use Rattle.tree_field.specs.Field.{sources_in, targets, multipole_row, leaf_at, local_row, single_radius_in, local_value_at, multipole_values_at, pairs_at, radius_in, box_in, target_box}
 use Rattle.tree_field.specs.Lists.{TreeLists}
 use Rattle.tree_field.proofs.Leaves.{leaf_is, leaf_holds}
 use Rattle.quadtree.proofs.Lists.{All-from_members}
@@ -80,7 +80,7 @@ module _ (apart : EntriesShareNoSource) (points : List Point) (cap P : ℕ) (lis
     radius-within : radius_in points cap P lists b ≤ 2 ^ 78 + 2 ^ 40 * total_weight points
     radius-within =
         let a = local_radius-light apart points cap P lists few limited b leaf.in_tree in
-        let s = sum_by-entries apart points cap lists limited W b leaf.in_tree P (2 ^ 40) (λ c. single_radius points P (side c) c) few (λ c. single_radius-within points P c c) in
+        let s = sum_by-entries apart points cap lists limited W b leaf.in_tree P (2 ^ 40) (λ c. single_radius_in points P (side c) c) few (λ c. single_radius-within points P c c) in
         omega (arith, a, s)
 
     pub box_in-light : BoxEndsWithin (2 ^ 84) (box_in points cap P lists b z)

@@ -27,8 +27,6 @@ ghost use Rattle.row_recursions.specs.Sources.{source_of};
 mod conversion;
 mod narrow;
 mod sources;
-#[cfg(test)]
-mod tests;
 mod values;
 
 use cell_name::Cell;

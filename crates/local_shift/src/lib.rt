@@ -17,8 +17,6 @@ ghost use Rattle.row_recursions.specs.Sizes.{RowWithin};
 ghost use Rattle.row_recursions.specs.Cells.{quadrant_of};
 
 mod rounds;
-#[cfg(test)]
-mod tests;
 
 use cell_name::Quadrant;
 use complex_box::{CBox, Row, Work};

@@ -23,8 +23,6 @@ ghost use Rattle.row_recursions.specs.Sizes.{RowWithin};
 ghost use Rattle.row_recursions.specs.Sources.{source_of};
 
 mod moments;
-#[cfg(test)]
-mod tests;
 mod values;
 
 use cell_name::Cell;

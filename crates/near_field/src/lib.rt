@@ -10,8 +10,6 @@ ghost use Rattle.points.specs.Limits.{InGrid, InRange, weight64};
 ghost use Rattle.near_field.specs.Pair.{is_at, pair_box, term_of};
 
 mod term;
-#[cfg(test)]
-mod tests;
 
 use complex_box::{CBox, Work};
 use points::Point;

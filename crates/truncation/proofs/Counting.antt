@@ -1,5 +1,5 @@
 -- From bounds on complex numbers to the bound in whole numbers, and sums of it.
-use Rattle.exact_math.proofs.Common.{◌≡◌, subst, ℕ, suc, arith, ints, ℤ, pos, neg_ℤ, ◌+ℤ◌, ◌*ℤ◌, ◌<ℤ◌, int_ring, int_quotes, quotes, combine, ring1, ring4, ring6, ring8, ℚ, rational_ring, of_int, of_int-mul, ◌*ℚ◌, neg_ℚ, inverse, ◌≤ℚ◌, ≤ℚ-trans, le_equal, le_using, mul_mono, nonneg_int, int-<, inverse_right, absolute, ℂ, ◌-ℂ◌}
+use Rattle.exact_math.proofs.Common.{◌≡◌, sym, ap, subst, subst₂, ◌∙◌, ℕ, suc, arith, ints, ℤ, pos, neg_ℤ, ◌+ℤ◌, ◌*ℤ◌, ◌<ℤ◌, int_ring, int_quotes, quotes, combine, ring1, ring4, ring6, ring8, ℚ, rational_ring, of_int, of_int-mul, ◌*ℚ◌, neg_ℚ, inverse, ◌≤ℚ◌, ≤ℚ-trans, le_equal, le_using, mul_mono, nonneg_int, int-<, inverse_right, absolute, ℂ, ◌-ℂ◌}
 use Rattle.exact_math.specs.Contains.{Contains}
 use Rattle.exact_math.specs.Ratio.{Ratio, ComplexRatio, zero_complex, re_part, im_part, ◌+ᶜ◌, ◌-ᶜ◌}
 use Rattle.exact_math.specs.Rounding.{floor_div, ceil_div}
@@ -9,9 +9,10 @@ use Rattle.exact_math.proofs.RationalOrder.{le_absolute, neg_le_absolute}
 use Rattle.exact_math.proofs.Enclosures.{Encloses, of_int-neg}
 use Rattle.exact_math.proofs.Fractions.{Stands, Stands-sub, Stands-re, Stands-im}
 use Rattle.exact_math.proofs.Bridges.{contains_from_encloses, contains-add, contains-same, contains-units, contains-widen}
-use Rattle.truncation.specs.Entries.{RadiusWidens}
-use Rattle.truncation.specs.Truncation.{Truncated}
+use Rattle.truncation.specs.Truncation.{Truncated, MakesUp}
 use Rattle.truncation.proofs.Quotients.{PartsCounted}
+use Rattle.truncation.proofs.Tails.{div_ceil-is}
+use Rattle.std.specs.Int.{div_ceil}
 use Rattle.std.specs.Prelude.{List, [], ◌∷◌, fold, All}
 use Prim.Native.Nat.{◌+◌, ◌*◌, ◌^◌, ◌≤◌}
 
@@ -110,12 +111,16 @@ neg_floor m n = twice_negated (floor_div (neg_ℤ (pos m)) (pos n))
     twice_negated : (z : ℤ) → z ≡ neg_ℤ (neg_ℤ z)
     twice_negated z = ring1 int_ring z (λ z. search int_quotes depth 9) tt
 
--- a box of the cut sum, widened by m/n rounded up, contains the exact sum
-pub radius_widens : RadiusWidens
-radius_widens m n exact cut box n>0 t h = record {
-  re = contains-widen (ceil_div (pos m) (pos n)) (re_part exact) h.re (near t.re);
-  im = contains-widen (ceil_div (pos m) (pos n)) (im_part exact) h.im (near t.im);
-}
+-- at most m/n in size, in other units, is at most ceil(m/n)
+pub contains-rounded : (u : ℤ) (m n : ℕ) → 1 ≤ n → {x : Ratio} → Contains (u *ℤ pos n) (neg_ℤ (pos m)) (pos m) x → Contains u (neg_ℤ (pos (div_ceil m n))) (pos (div_ceil m n)) x
+contains-rounded u m n n>0 {x} k = subst₂ (λ l h. Contains u l h x) (neg_floor m n ∙ ap neg_ℤ (sym up)) (sym up) (contains-units u (pos n) (omega (arith, ints)) k)
   where
-    near : {x : Ratio} → Contains (pos (2 ^ 40 * n)) (neg_ℤ (pos m)) (pos m) x → Contains (pos (2 ^ 40)) (neg_ℤ (ceil_div (pos m) (pos n))) (ceil_div (pos m) (pos n)) x
-    near {x} k = subst (λ l. Contains (pos (2 ^ 40)) l (ceil_div (pos m) (pos n)) x) (neg_floor m n) (contains-units (pos (2 ^ 40)) (pos n) (omega (arith, ints)) k)
+    up : pos (div_ceil m n) ≡ ceil_div (pos m) (pos n)
+    up = div_ceil-is m n n>0
+
+-- a box of the cut sum, widened by m/n rounded up, contains the exact sum
+pub radius_widens : (m n : ℕ) → 1 ≤ n → MakesUp m n (div_ceil m n)
+radius_widens m n n>0 exact cut box t h = record {
+  re = contains-widen (pos (div_ceil m n)) (re_part exact) h.re (contains-rounded (pos (2 ^ 40)) m n n>0 t.re);
+  im = contains-widen (pos (div_ceil m n)) (im_part exact) h.im (contains-rounded (pos (2 ^ 40)) m n n>0 t.im);
+}
