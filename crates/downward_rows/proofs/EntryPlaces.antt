@@ -24,7 +24,7 @@ use Rattle.quadtree.proofs.Limits.{in_grid}
 use Rattle.quadtree.specs.Members.{holds_position, holds_point, members_of}
 use Rattle.quadtree.specs.TreeModel.{TreeModel, size, square_of, node_of}
 use Rattle.row_recursions.proofs.Geometry.{pairs_of_cells, far_places}
-use Rattle.tree_field.proofs.Members.{range_below}
+use Rattle.quadtree.proofs.Lists.{range_below}
 use Rattle.downward_rows.specs.Entries.{IsPairAt, IsFarPosition, IsFarCell, HasFarEntries}
 use Rattle.tree_rows.specs.Trees.{IsTreeWithLists}
 

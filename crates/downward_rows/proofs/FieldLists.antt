@@ -16,8 +16,8 @@ use Rattle.letters.specs.declared.Letter.TheVariants.{U, V, W, X}
 use Rattle.points.specs.declared.Point.{Point}
 use Rattle.quadtree.specs.Tree.{AreInGrid, IsTreeCell}
 use Rattle.quadtree.specs.TreeModel.{TreeModel, size, square_of}
-use Rattle.tree_field.proofs.Ascending.{same_list}
-use Rattle.tree_field.proofs.Members.{Contains-into_map, image_of, AllPairs-map, AllPairs-both}
+use Rattle.quadtree.proofs.Ascending.{same_list}
+use Rattle.quadtree.proofs.Lists.{Contains-into_map, image_of, AllPairs-map, AllPairs-both}
 use Rattle.tree_field.specs.Lists.{TreeLists, AreEntriesOf}
 use Rattle.tree_rows.specs.FieldRows.{IsFieldOf}
 

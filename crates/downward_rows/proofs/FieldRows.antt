@@ -29,7 +29,7 @@ use Rattle.row_recursions.specs.Rows.{converted, far_source}
 use Rattle.soundness.specs.Computed.{total_row, total_box, far_coefficients_in}
 use Rattle.soundness.specs.Squares.{offset, quadrant}
 use Rattle.tree_field.proofs.LocalRows.{local_row-below}
-use Rattle.tree_field.proofs.Members.{Contains-range}
+use Rattle.quadtree.proofs.Lists.{Contains-range}
 use Rattle.tree_field.proofs.Sums.{total_box-map, total_box-same}
 use Rattle.tree_field.specs.Field.{is_source_in, sources_in, multipole_row, converted_rows, far_rows, local_row}
 use Rattle.tree_field.specs.Lists.{TreeLists}

@@ -15,7 +15,7 @@ use Rattle.complex_box.specs.declared.CBox.{CBox}
 use Rattle.points.specs.declared.Point.{Point}
 use Rattle.quadtree.proofs.Limits.{in_grid}
 use Rattle.quadtree.specs.TreeModel.{TreeModel, size, square_of, node_of}
-use Rattle.tree_field.proofs.Members.{All-from_members, range_below}
+use Rattle.quadtree.proofs.Lists.{All-from_members, range_below}
 use Rattle.tree_field.proofs.Sums.{sum_by-map, sum_by-same}
 use Rattle.tree_field.specs.Lists.{TreeLists}
 use Rattle.tree_rows.specs.FieldRows.{AreMultipoleRows, AreMultipoleRowsOf, IsLocalRow, AreLocalRowsTo}

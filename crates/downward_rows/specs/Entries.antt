@@ -39,12 +39,12 @@ abbrev pub far_row_of : TreeModel → List Point → Square → ℕ → ℕ → 
 far_row_of tree points b c = total_row (far_row_at points b) (node_of tree c).members
 
 -- how heavy the point at a position is, and the points of the cells of a list together
-abbrev pub weight_of : Option Point → ℕ
-weight_of (Some p) = weight64 p
-weight_of None = 0
+abbrev pub weight64_of : Option Point → ℕ
+weight64_of (Some p) = weight64 p
+weight64_of None = 0
 
 abbrev pub far_weight_at : List Point → ℕ → ℕ
-far_weight_at points k = weight_of (slice_get points k)
+far_weight_at points k = weight64_of (slice_get points k)
 
 abbrev pub far_weight : TreeModel → List Point → ℕ → ℕ
 far_weight tree points c = sum_by (far_weight_at points) (node_of tree c).members

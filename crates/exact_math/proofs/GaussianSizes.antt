@@ -1,12 +1,13 @@
 -- The size |re| + |im| of Gaussian integers: it is the size of the complex number, and it is at most multiplied by a product.
 use mathlib.Core.Path.{◌≡◌, sym, ap, ap₂, subst₂, ◌∙◌}
 use Prim.Native.Nat.{ℕ, suc, ◌+◌, ◌*◌, ◌≤◌}
+use native.Mathlib.Nat.{mul-le-mul_right}
 use native.Mathlib.Omega.{arith}
 use lib.IntN.{ℤ, pos, negsuc}
 use borrow.Author.Differences.{ints}
 use Rattle.std.specs.Prelude.{unsigned_abs}
-use Rattle.exact_math.specs.Gaussian.{Gaussian, add_gaussian, mul_gaussian}
-use Rattle.exact_math.specs.Sizes.{abs_gaussian}
+use Rattle.exact_math.specs.Gaussian.{Gaussian, zero_gaussian, add_gaussian, mul_gaussian}
+use Rattle.exact_math.specs.Sizes.{abs_gaussian, weight_at}
 use Rattle.exact_math.proofs.Rationals.{of_int, of_int-add, of_int-mul, of_int-≤, ◌+ℚ◌, ◌*ℚ◌, ◌≤ℚ◌}
 use Rattle.exact_math.proofs.RationalOrder.{absolute, absolute_is, absolute_neg, nonneg_int}
 use Rattle.exact_math.proofs.ComplexSize.{size, size_add, size_mul}
@@ -38,3 +39,14 @@ abs_gaussian-mul g h = whole_le _ _ (subst₂ (λ a b. a ≤ℚ b)
     (ap size (sym (value-mul g h)) ∙ size_value (mul_gaussian g h))
     (ap₂ ◌*ℚ◌ (size_value g) (size_value h) ∙ sym (of_int-mul (pos (abs_gaussian g)) (pos (abs_gaussian h))))
     (size_mul (value g) (value h)))
+
+-- the weights of a pole alone and of a dipole alone
+pub weight_at-pole : (P : ℕ) (a : Gaussian) → weight_at P a zero_gaussian ≡ abs_gaussian a
+weight_at-pole P a = omega arith
+
+pub weight_at-dipole : (P : ℕ) (b : Gaussian) → weight_at P zero_gaussian b ≡ 2 * P * abs_gaussian b
+weight_at-dipole P b = omega arith
+
+-- weights grow with the order
+pub weight_at-le : (P Q : ℕ) (a b : Gaussian) → P ≤ Q → weight_at P a b ≤ weight_at Q a b
+weight_at-le P Q a b h = let m = mul-le-mul_right (abs_gaussian b) h in omega (arith, m)

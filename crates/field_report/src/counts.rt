@@ -8,12 +8,10 @@ ghost use Rattle.exact_math.specs.Ends.{Ends, BoxEnds};
 ghost use Rattle.fixed_interval.specs.Interval.{IntervalWithin, ends_of};
 ghost use Rattle.field_report.specs.Counts.{second_ends, count_below, count_above, KeepsBound};
 
+use complex_box::UNIT_BITS;
 use fixed_interval::Interval;
 use line_text::ONE;
 use points::Mode;
-
-/// The bits of the unit of boxes.
-const UNIT_BITS: u32 = 40;
 
 /// `10^12 n / 2^40` rounded down, or rounded up where `up` is set: the count of an end `n` of a box.
 ///

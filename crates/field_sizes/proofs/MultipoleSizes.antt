@@ -10,8 +10,8 @@ use Rattle.points.specs.declared.Point.{Point}
 use Rattle.points.specs.Limits.{weight64, total_weight}
 use Rattle.exact_math.specs.Sizes.{abs_gaussian}
 use Rattle.points.specs.Points.{place, pole, dipole}
-use Rattle.quadtree.specs.Splitting.{quarters}
-use Rattle.quadtree.proofs.TreeCells.{IsQuarter, quarters_are}
+use Rattle.cell_name.specs.Quarters.{quarters}
+use Rattle.cell_name.proofs.Quarters.{IsQuarter, quarters_are}
 use Rattle.row_recursions.specs.Rows.{shifted_up}
 use Rattle.row_recursions.specs.Sizes.{RowWithin}
 use Rattle.row_recursions.proofs.Geometry.{held_places}

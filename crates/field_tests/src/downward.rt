@@ -1,6 +1,6 @@
 //! Rows and radii that are known from elsewhere: of a cell of side 4 that sees one far charge, and of one of side 1 beside nine charges.
-ghost use Rattle.std.specs.Prelude.{◌≡◌, ◌≤◌, ◌*◌, IfOk, length};
-ghost use Rattle.complex_box.specs.Rows.{AllZero};
+ghost use Rattle.std.specs.Prelude.{◌≡◌, ◌≤◌, ◌*◌, IfOk, length, All};
+ghost use Rattle.complex_box.specs.Rows.{IsZero};
 ghost use Rattle.tree_rows.specs.Trees.{IsTreeOfPoints, IsTreeWithLists};
 
 use crate::compare::{Ends, NINE_CHARGES, box_is};
@@ -20,7 +20,7 @@ use tree_rows::weigh_cells;
 fn zeros(alloc: Global, count: usize) -> Result<Vec<CBox>, Fail>
     requires { count ≤ 65536 }
     ensures len { IfOk result (λ v. length v.items ≡ count * 4) }
-    ensures zero { IfOk result (λ v. AllZero v.items) }
+    ensures zero { IfOk result (λ v. All IsZero v.items) }
 {
     let zero = CBox::zero();
     Ok(vec![in alloc; zero; count * 4]?)

@@ -1,11 +1,12 @@
 -- A report is certified: the printed counts contain the exact direct sums, and one entry accounts for each target and source.
-use Rattle.std.proofs.Common.{◌≡◌, refl, subst, arith, Some, None, IfSome, ℕ, ◌≤◌, List, [], ◌∷◌, map, pos, ◌^◌, inl, inr}
+use Rattle.std.proofs.Common.{◌≡◌, refl, subst, arith, Some, None, IfSome, ℕ, List, [], ◌∷◌, map, pos, ◌^◌}
 use Rattle.std.proofs.lemmas.List.Elements.{recursion_from_All}
 use Rattle.std.specs.Io.KnownBytes.{Appends, Consumes}
 use Rattle.std.specs.List.{AllZip, AllByRecursion}
 use Rattle.std.specs.declared.option.Option.{Option}
 use Rattle.exact_math.specs.Ends.{BoxEndsContain}
 use Rattle.exact_math.specs.Orders.{IsOrder}
+use Rattle.exact_math.proofs.Orders.{order_bounds}
 use Rattle.field_report.proofs.Bounds.{CountsContain-box}
 use Rattle.field_report.specs.FieldText.{field_line}
 use Rattle.near_field.specs.DirectSum.{direct_sum}
@@ -23,12 +24,6 @@ use Rattle.fmm_program.specs.Answers.{IsCertified, IsReported, LineContains, Sol
 use Rattle.fmm_program.specs.declared.status.Status.{Status}
 use Rattle.fmm_program.specs.declared.status.Status.TheVariants.{Done}
 
-at_least_two : (order : ℕ) → IsOrder order → 2 ≤ order
-at_least_two order (inl e) = omega arith
-at_least_two order (inr (inl e)) = omega arith
-at_least_two order (inr (inr (inl e))) = omega arith
-at_least_two order (inr (inr (inr e))) = omega arith
-
 lines_contain : (mode : Mode) (points : List Point) (cap P : ℕ) (lists : TreeLists) (some : List Point)
     → AllByRecursion (λ t. BoxEndsContain (pos (2 ^ 40)) (target_box points cap P lists 16 (place t)) (direct_sum (place t) points)) some
     → AllZip (LineContains mode points) some (map (field_line mode points cap P lists) some)
@@ -39,7 +34,7 @@ lines_contain mode points cap P lists (t ∷ some) h =
 pub certified : (order cap : ℕ) (input out : List ℕ) → IsOrder order → IsReported order cap input out → IsCertified order cap input out
 certified order cap input out is_order s =
     let inside : AreInGrid 16 s.points = in_grid s.points s.spelled.limits.range in
-    let boxes = field_contains 16 s.points cap order s.lists (omega arith) (at_least_two order is_order) inside s.lists_are in
+    let boxes = field_contains 16 s.points cap order s.lists (omega arith) (order_bounds order is_order).0 inside s.lists_are in
     record {
       mode = s.mode;
       points = s.points;

@@ -37,7 +37,7 @@ narrow-neg {i} {a} h = record { ordered = omega (arith, ints, h.ordered); width 
 apart_times : (n : ℕ) (lo hi : ℤ) → pos n *ℤ (hi -ℤ lo) ≡ hi *ℤ pos n -ℤ lo *ℤ pos n
 apart_times n lo hi = ring3 int_ring (pos n) hi lo (λ n h l. search int_quotes depth 9) tt
 
-pub narrow-scale : (k : ℤ) {i : Ends} {w : ℕ} → EndsNarrow w i → EndsNarrow (unsigned_abs k * w) (scale_ends k i)
+pub narrow-scale : (k : ℤ) {i : Ends} {w : ℕ} → EndsNarrow w i → EndsNarrow (unsigned_abs k * w) (scale_ends i k)
 narrow-scale (pos n) {i} {w} h =
     let p : pos 0 ≤ℤ pos n = omega (arith, ints) in
     let e = apart_times n i.lo i.hi in

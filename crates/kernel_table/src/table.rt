@@ -3,8 +3,8 @@ ghost use Rattle.std.specs.Prelude.{◌≡◌, ◌+◌, ◌*◌, ◌^◌, ◌≤
 ghost use Rattle.exact_math.specs.Ends.{BoxEndsWithin, BoxEndsContain, BoxEndsNarrow};
 ghost use Rattle.exact_math.specs.Orders.{IsOrder};
 ghost use Rattle.complex_box.specs.Box.{box_ends, number};
-ghost use Rattle.kernel_table.specs.Kernel.{IsKernelDistance, kernel_entry, kernel_fraction};
-ghost use Rattle.kernel_table.specs.Table.{AreWays, IsKernelTable, IsKernelColumn};
+ghost use Rattle.kernel_table.specs.Kernel.{IsKernelDistance, kernel_entry, kernel_fraction, IsKernelColumn};
+ghost use Rattle.kernel_table.specs.Table.{AreWays, IsKernelTable};
 
 use crate::binomials::binomial;
 use crate::distances::{DISTANCES, distance, distance_index};
@@ -25,12 +25,10 @@ pub struct Kernel<const P: usize> {
 }
 
 impl<const P: usize> Kernel<P> {
-    ghost use Rattle.kernel_table.specs.Entries.{entries_of, HoldsKernel};
-
-    /// The table of this order. Condition: `P` is one of the orders.
+    /// The table of this order, whose entries `entry` and `column` give. The only error is memory. Condition: `P` is one of the
+    /// orders.
     pub fn new(alloc: Global) -> Result<Kernel<P>, Memory>
         requires { IsOrder P }
-        ensures { IfOk result (λ kernel. HoldsKernel P (entries_of kernel)) }
     {
         match all_entries::<P>(alloc) {
             Ok(entries) => Ok(Kernel { entries }),

@@ -1,12 +1,12 @@
 //! One coefficient of the contribution of a far cell.
-ghost use Rattle.std.specs.Prelude.{◌≡◌, ℕ, ◌+◌, ◌^◌, ◌≤◌, pos, length, IsTrue};
-ghost use Rattle.exact_math.specs.Ends.{BoxEndsWithin, times_box, quot_box};
+ghost use Rattle.std.specs.Prelude.{◌≡◌, ◌+◌, ◌^◌, ◌≤◌, pos, length, IsTrue};
+ghost use Rattle.exact_math.specs.Ends.{times_box, quot_box};
 ghost use Rattle.complex_box.specs.Box.{box_ends};
 ghost use Rattle.row_recursions.specs.Rows.{row_of, sum_boxes};
 ghost use Rattle.row_recursions.specs.Sizes.{RowWithin};
 
 use crate::narrow::narrow_coefficient;
-use complex_box::{Acc, CBox, Row};
+use complex_box::{Acc, CBox, Row, UNIT_BITS};
 
 /// The sum of the products of a column of the kernel with a row, rounded once.
 #[inline]
@@ -21,7 +21,7 @@ fn wide_coefficient<const P: usize>(column: &[CBox], row: Row<P>) -> CBox
     for k in 0..P {
         sum.add_product(column[k], row.get(k));
     }
-    sum.sum.quot_shift(40)
+    sum.finish_shift(UNIT_BITS)
 }
 
 /// The same, by narrow products where the row's ends are at most 2^62 in size.

@@ -8,7 +8,7 @@ ghost use Rattle.complex_box.specs.Box.{box_ends};
 ghost use Rattle.row_recursions.specs.Rows.{row_of, sum_boxes};
 ghost use Rattle.row_recursions.specs.Sizes.{RowWithin};
 
-use complex_box::{CBox, Row};
+use complex_box::{CBox, Row, UNIT_BITS};
 use fixed_interval::Interval;
 
 /// The greatest size of a narrow end.
@@ -180,5 +180,5 @@ pub(crate) fn narrow_coefficient<const P: usize>(column: &[CBox], row: Row<P>) -
     for k in 0..P {
         sum = sum.add(box_product(column[k], row.get(k)));
     }
-    sum.quot_shift(40)
+    sum.quot_shift(UNIT_BITS)
 }

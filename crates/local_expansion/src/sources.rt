@@ -12,7 +12,7 @@ ghost use Rattle.local_expansion.specs.FarPowers.{far_powers};
 
 use cell_name::Cell;
 use complex_box::{CBox, Gauss};
-use points::{Kind, Point};
+use points::{Point, Strength};
 use row_recursions::{far_ratio, offset, side_bits, units};
 
 /// Adds the negatives of the powers after `first`.
@@ -42,7 +42,7 @@ fn add_dipoles(into: &mut [CBox], first: CBox, zeta: Gauss, bits: u32)
     requires far { GaussianBeyond (3 * 2 ^ bits) (number zeta) }
     requires size { BoxEndsWithin (2 ^ 60) (box_ends first) }
     ensures len { length into.new ≡ length into.old }
-    ensures dipoles { RowsAdd (length into.old) (row_of into.old) (λ l. scale_box (pos (suc l)) (far_powers (box_ends first) (2 * 2 ^ bits) (number zeta) (suc (suc l)))) (row_of into.new) }
+    ensures dipoles { RowsAdd (length into.old) (row_of into.old) (λ l. scale_box (far_powers (box_ends first) (2 * 2 ^ bits) (number zeta) (suc (suc l))) (pos (suc l))) (row_of into.new) }
 {
     let ratio = far_ratio(zeta, bits);
     let mut power = first.gquot(ratio.factor, ratio.divisor);
@@ -63,10 +63,9 @@ pub(crate) fn add_far(into: &mut [CBox], cell: Cell, p: &Point)
 {
     let zeta = offset(cell, p.x, p.y);
     let s = side_bits(cell);
-    match p.kind {
-        Kind::Charge(q) => add_poles(into, units(q, 0), zeta, s),
-        Kind::Vortex(g) => add_poles(into, units(0, -g), zeta, s),
-        Kind::Dipole(re, im) => add_dipoles(into, units(re, im).quot_shift(s), zeta, s),
-        Kind::Target => {}
+    match p.kind.strength() {
+        Strength::Pole(re, im) => add_poles(into, units(re, im), zeta, s),
+        Strength::Dipole(re, im) => add_dipoles(into, units(re, im).quot_shift(s), zeta, s),
+        Strength::Nothing => {}
     }
 }

@@ -1,19 +1,20 @@
 -- What the calls on rows do to what a row contains and to its size.
-use Rattle.std.proofs.Common.{◌≡◌, sym, ap, ap₂, ◌∙◌, subst, ℕ, ◌+◌, ◌*◌, ◌^◌, ◌<◌, List, [], ◌∷◌, ◌++◌, arith, pos}
+use Rattle.std.proofs.Common.{◌≡◌, sym, ap₂, subst, ℕ, ◌+◌, ◌*◌, ◌^◌, ◌<◌, List, [], ◌∷◌, ◌++◌, arith, pos}
 use Rattle.std.proofs.lemmas.Int.{ints}
 use Rattle.exact_math.specs.Ends.{BoxEnds, BoxEndsWithin, BoxEndsContain, add_box}
 use Rattle.exact_math.specs.Gaussian.{Gaussian}
 use Rattle.exact_math.specs.Orders.{IsOrder}
 use Rattle.exact_math.specs.Sums.{sum_terms}
+use Rattle.exact_math.proofs.Orders.{order_bounds}
 use Rattle.complex_box.proofs.Sizes.{box_wider, add_box_within}
 use Rattle.cell_name.specs.Cell.{square}
 use Rattle.cell_name.specs.Square.{Holds}
 use Rattle.cell_name.specs.declared.cell.Cell.{Cell}
 use Rattle.points.specs.Limits.{InRange, weight64}
-use Rattle.points.specs.Points.{place, pole, dipole}
+use Rattle.points.specs.Points.{place, strength}
 use Rattle.points.specs.declared.Point.{Point}
 use Rattle.truncation.specs.Entries.{Source, multipole_cut}
-use Rattle.truncation.specs.Places.{GaussianBeyond, doubled_offset}
+use Rattle.truncation.specs.Places.{GaussianBeyond}
 use Rattle.row_recursions.specs.Cells.{side_of, centre_of, offset_from, moments_of}
 use Rattle.row_recursions.specs.Moments.{HoldsMoments}
 use Rattle.row_recursions.specs.Rows.{RowsAdd, source_moment, multipole_value}
@@ -21,12 +22,12 @@ use Rattle.row_recursions.specs.Sizes.{RowWithin}
 use Rattle.row_recursions.specs.Sources.{source_of}
 use Rattle.row_recursions.proofs.MomentLaws.{source_moments, sum_of_moments, multipole_values, moments_same}
 use Rattle.row_recursions.proofs.Points.{pole_of-source, dipole_of-source, place_of-source, side_positive, weight_bounded, moments_within}
-use Rattle.row_recursions.proofs.RowSizes.{order_small, far_norm_positive}
+use Rattle.row_recursions.proofs.RowSizes.{far_norm_positive}
 
 module _ (P : ℕ) (c : Cell) (p : Point) (order : IsOrder P) (inside : Holds (square c) p.x p.y) where
   -- the moments of the point
   pub part_within : RowWithin P (2 ^ 40 * weight64 p) (moments_of c p)
-  part_within k h = let few = order_small P order in moments_within c p k (omega arith) inside
+  part_within k h = let few = order_bounds P order in moments_within c p k (omega arith) inside
 
   -- the sum fits
   pub sum_fits : (old part : ℕ → BoxEnds) → InRange p → RowWithin P (2 ^ 80) old → ((k : ℕ) → k < P → part k ≡ moments_of c p k) → (k : ℕ) → k < P → BoxEndsWithin (2 ^ 126) (add_box (old k) (part k))
@@ -38,8 +39,7 @@ module _ (P : ℕ) (c : Cell) (p : Point) (order : IsOrder P) (inside : Holds (s
 -- the moments of a point are those of its source
 point_moments : (P : ℕ) (c : Cell) (p : Point) → HoldsMoments P (side_of c) (centre_of c) (source_of p ∷ []) (moments_of c p)
 point_moments P c p = moments_same P (side_of c) (centre_of c) (source_of p ∷ []) _ (moments_of c p)
-    (λ k h. sym (ap₂ (λ a b. source_moment (side_of c) a b (doubled_offset (source_of p).place (centre_of c)) k) (pole_of-source (place p) p.kind) (dipole_of-source (place p) p.kind)
-    ∙ ap (λ z. source_moment (side_of c) (pole p.kind) (dipole p.kind) (doubled_offset z (centre_of c)) k) (place_of-source (place p) p.kind)))
+    (λ k h. sym (ap₂ (λ a b. source_moment (side_of c) a b (offset_from c (place p)) k) (pole_of-source (place p) (strength p.kind)) (dipole_of-source (place p) (strength p.kind))))
     (source_moments P (side_of c) (centre_of c) (source_of p) (side_positive c))
 
 -- a row with the point's moments added contains those of all

@@ -5,7 +5,7 @@
 //! is exact as long as no rounding falls into it, and what is taken away again leaves the row as it was.
 #![tactic(auto)]
 
-ghost use Rattle.std.specs.Prelude.{◌≡◌, ℕ, ◌+◌, ◌*◌, ◌^◌, ◌<◌, pos, length, List, [], ◌∷◌, ◌++◌};
+ghost use Rattle.std.specs.Prelude.{◌≡◌, ℕ, ◌+◌, ◌*◌, ◌^◌, pos, length, List, [], ◌∷◌, ◌++◌};
 ghost use Rattle.exact_math.specs.Ends.{BoxEndsContain, BoxEndsWithin};
 ghost use Rattle.exact_math.specs.Gaussian.{gaussian};
 ghost use Rattle.exact_math.specs.Orders.{IsOrder};

@@ -1,5 +1,5 @@
 //! The moments of one source, into a row.
-ghost use Rattle.std.specs.Prelude.{◌≡◌, ℕ, ◌+◌, ◌-◌, ◌*◌, ◌^◌, ◌≤◌, ◌<◌, pos, length};
+ghost use Rattle.std.specs.Prelude.{◌≡◌, ℕ, ◌-◌, ◌^◌, ◌≤◌, ◌<◌, pos, length};
 ghost use Rattle.exact_math.specs.Ends.{BoxEndsWithin, gquot_box};
 ghost use Rattle.truncation.specs.Places.{GaussianWithin};
 ghost use Rattle.complex_box.specs.Box.{box_ends, number};
@@ -12,7 +12,7 @@ ghost use Rattle.multipole.specs.Powers.{powers, slopes};
 
 use cell_name::Cell;
 use complex_box::{CBox, Gauss, clear};
-use points::{Kind, Point};
+use points::{Point, Strength};
 use row_recursions::{offset, side_bits, units};
 
 /// The next power: times `o/2^shift`, rounded outward.
@@ -72,10 +72,9 @@ pub(crate) fn fill_moments(row: &mut [CBox], cell: Cell, p: &Point)
 {
     let o = offset(cell, p.x, p.y);
     let s = side_bits(cell);
-    match p.kind {
-        Kind::Charge(q) => fill_powers(row, units(q, 0), o, s + 1),
-        Kind::Vortex(g) => fill_powers(row, units(0, -g), o, s + 1),
-        Kind::Dipole(re, im) => fill_slopes(row, units(re, im).quot_shift(s), o, s + 1),
-        Kind::Target => clear(row),
+    match p.kind.strength() {
+        Strength::Pole(re, im) => fill_powers(row, units(re, im), o, s + 1),
+        Strength::Dipole(re, im) => fill_slopes(row, units(re, im).quot_shift(s), o, s + 1),
+        Strength::Nothing => clear(row),
     }
 }

@@ -15,7 +15,7 @@ use row_recursions::{doubled, turned};
 fn step(next: CBox, here: CBox, q: Quadrant) -> CBox
     requires next { BoxEndsWithin (2 ^ 80) (box_ends next) }
     requires here { BoxEndsWithin (2 ^ 80) (box_ends here) }
-    ensures { box_ends result ≡ quot_box (add_box (scale_box (pos 2) (box_ends next)) (gscale_box (box_ends here) (quadrant_of q))) (pos 4) }
+    ensures { box_ends result ≡ quot_box (add_box (scale_box (box_ends next) (pos 2)) (gscale_box (box_ends here) (quadrant_of q))) (pos 4) }
 {
     doubled(next).add(turned(here, q)).quot_shift(2)
 }

@@ -5,8 +5,9 @@ use Rattle.exact_math.specs.Ends.{BoxEnds, BoxEndsContain, BoxEndsNarrow, BoxEnd
 use Rattle.exact_math.specs.Gaussian.{Gaussian, gaussian}
 use Rattle.exact_math.specs.Ratio.{ComplexRatio}
 use Rattle.points.specs.Limits.{InGrid, InRange, weight64}
+use Rattle.points.specs.Points.{strength}
 use Rattle.points.specs.declared.Point.{Point}
-use Rattle.near_field.specs.Pair.{is_at, outward, pair_box, term_at, term_of}
+use Rattle.near_field.specs.Pair.{is_at, outward, pair_box, strength_term, term_of}
 use Rattle.near_field.proofs.PairContains.{distance_positive, term_denominator, pair_box-contains}
 use Rattle.near_field.proofs.PairSizes.{pair_box-narrow, pair_box-within}
 
@@ -17,7 +18,7 @@ difference : (x a : ℤ) → SFits w64 x → SFits w64 a → SFits w64 (x -ℤ a
 difference x a f g h = omega (arith, ints)
 
 pub term_is : (x y : ℤ) (p : Point) {z : ComplexRatio} → InGrid x y → InRange p
-    → z ≡ term_at p.kind (gaussian (to_z w64 (of_z w64 (to_z w64 (of_z w64 x) -ℤ to_z w64 (of_z w64 p.x)))) (to_z w64 (of_z w64 (to_z w64 (of_z w64 y) -ℤ to_z w64 (of_z w64 p.y)))))
+    → z ≡ strength_term (strength p.kind) (gaussian (to_z w64 (of_z w64 (to_z w64 (of_z w64 x) -ℤ to_z w64 (of_z w64 p.x)))) (to_z w64 (of_z w64 (to_z w64 (of_z w64 y) -ℤ to_z w64 (of_z w64 p.y)))))
     → z ≡ term_of (gaussian x y) p
 term_is x y p grid range e =
     let dx = difference x p.x (omega (arith, ints)) (omega (arith, ints)) (omega (arith, ints)) in
@@ -26,7 +27,7 @@ term_is x y p grid range e =
 
 module _ (t : Gaussian) (p : Point) {z : ComplexRatio} (apart : is_at t p ≡ false) (term : z ≡ term_of t p) where
   pub denominator_positive : pos 1 ≤ℤ z.denominator
-  denominator_positive = rw term (let h = term_denominator p.kind _ (distance_positive t p apart) in omega (arith, ints))
+  denominator_positive = rw term (let h = term_denominator (strength p.kind) _ (distance_positive t p apart) in omega (arith, ints))
 
   pub is_pair_box : {e : BoxEnds} → e ≡ outward z → e ≡ pair_box t p
   is_pair_box q = q ∙ ap outward term ∙ rw apart refl

@@ -9,12 +9,12 @@ use Rattle.exact_math.specs.Gaussian.{Gaussian, gaussian, sub_gaussian, norm_gau
 use Rattle.exact_math.specs.Ratio.{ComplexRatio, re_part, im_part}
 use Rattle.exact_math.proofs.Integers.{*-positive, *-nonneg}
 use Rattle.exact_math.proofs.Bridges.{contains-rounded}
-use Rattle.points.specs.Points.{place, is_source}
-use Rattle.points.specs.declared.Kind.{Kind}
-use Rattle.points.specs.declared.Kind.TheVariants.{Charge, Dipole, Vortex, Target}
+use Rattle.points.specs.Points.{place, strength, is_source}
 use Rattle.points.specs.declared.Point.{Point}
+use Rattle.points.specs.declared.Strength.{Strength}
+use Rattle.points.specs.declared.Strength.TheVariants.{Pole, Dipole, Nothing}
 use Rattle.near_field.specs.DirectSum.{acts_on}
-use Rattle.near_field.specs.Pair.{is_at, term_at, term_of, outward, pair_box}
+use Rattle.near_field.specs.Pair.{is_at, strength_term, term_of, outward, pair_box}
 
 -- ---- the denominators are above 0
 square_nonneg : (x : ℤ) → pos 0 ≤ℤ (x *ℤ x)
@@ -53,11 +53,10 @@ distance_positive t p e = cases (int_eq p.x t.re) refl
     cases false f = norm_positive_re (t.re -ℤ p.x) (t.im -ℤ p.y) (differ p.x t.re f)
     cases true f = norm_positive_im (t.re -ℤ p.x) (t.im -ℤ p.y) (differ p.y t.im (sym (ap (λ b. b && int_eq p.y t.im) f) ∙ e))
 
-pub term_denominator : (k : Kind) (delta : Gaussian) → pos 0 <ℤ norm_gaussian delta → pos 0 <ℤ (term_at k delta).denominator
-term_denominator (Charge q) delta h = h
+pub term_denominator : (a : Strength) (delta : Gaussian) → pos 0 <ℤ norm_gaussian delta → pos 0 <ℤ (strength_term a delta).denominator
+term_denominator (Pole re im) delta h = h
 term_denominator (Dipole re im) delta h = *-positive _ _ h h
-term_denominator (Vortex g) delta h = h
-term_denominator Target delta h = omega (arith, ints)
+term_denominator Nothing delta h = omega (arith, ints)
 
 -- ---- a fraction rounded outward contains it
 pub outward-contains : (z : ComplexRatio) → pos 0 <ℤ z.denominator → BoxEndsContain (pos (2 ^ 40)) (outward z) z
@@ -65,7 +64,7 @@ outward-contains z h = record { re = contains-rounded (pos (2 ^ 40)) (re_part z)
 
 -- the box of a pair contains the term
 pub pair_box-contains : (t : Gaussian) (p : Point) → is_at t p ≡ false → BoxEndsContain (pos (2 ^ 40)) (pair_box t p) (term_of t p)
-pair_box-contains t p e = rw e (outward-contains (term_of t p) (term_denominator p.kind _ (distance_positive t p e)))
+pair_box-contains t p e = rw e (outward-contains (term_of t p) (term_denominator (strength p.kind) _ (distance_positive t p e)))
 
 -- a source that acts on a place is at another one
 pub acts-apart : (t : Gaussian) (p : Point) → acts_on t p ≡ true → is_at t p ≡ false

@@ -12,14 +12,16 @@ use Rattle.exact_math.proofs.Integers.{*-mono_left, *-nonneg, *-comm, *-cancel_�
 use Rattle.exact_math.proofs.Enclosures.{floor_div_le, ceil_div_ge}
 use Rattle.exact_math.proofs.Ring.{int_ring}
 use Rattle.exact_math.proofs.RingTactic.{int_quotes, ring1, ring2, ring3, ring4}
-use Rattle.exact_math.proofs.WholeSizes.{within-floor, within-ceil, floor_near}
+use Rattle.exact_math.proofs.RoundedQuotients.{floor_near}
+use Rattle.exact_math.proofs.WholeSizes.{within-floor, within-ceil}
 use Rattle.points.specs.Limits.{weight64}
 use Rattle.exact_math.specs.Sizes.{abs_gaussian}
-use Rattle.points.specs.Points.{pole, dipole}
-use Rattle.points.specs.declared.Kind.{Kind}
-use Rattle.points.specs.declared.Kind.TheVariants.{Charge, Dipole, Vortex, Target}
+use Rattle.points.specs.Points.{strength}
+use Rattle.points.specs.Strength.{pole_part, dipole_part}
 use Rattle.points.specs.declared.Point.{Point}
-use Rattle.near_field.specs.Pair.{is_at, term_at, term_of, outward, pair_box}
+use Rattle.points.specs.declared.Strength.{Strength}
+use Rattle.points.specs.declared.Strength.TheVariants.{Pole, Dipole, Nothing}
+use Rattle.near_field.specs.Pair.{is_at, strength_term, term_of, outward, pair_box}
 use Rattle.near_field.proofs.TermSizes.{pole_re, dipole_re, squared}
 use Rattle.near_field.proofs.PairContains.{distance_positive, term_denominator}
 
@@ -158,15 +160,14 @@ dipole_bounded a b x y h =
 term_weaker : (l m : ℕ) (z : ComplexRatio) → pos 0 <ℤ z.denominator → l ≤ m → TermBounded l z → TermBounded m z
 term_weaker l m z h k w = record { re = bounded-weaker l m _ _ h k w.re; im = bounded-weaker l m _ _ h k w.im }
 
-abbrev weight_of : Kind → ℕ
-weight_of k = abs_gaussian (pole k) + 64 * abs_gaussian (dipole k)
+abbrev weight_of : Strength → ℕ
+weight_of a = abs_gaussian (pole_part a) + 64 * abs_gaussian (dipole_part a)
 
 -- a term is at most the weight of its source in size
-pub term_bounded : (k : Kind) (x y : ℤ) → pos 0 <ℤ norm_gaussian (gaussian x y) → TermBounded (weight_of k) (term_at k (gaussian x y))
-term_bounded (Charge q) x y h = term_weaker _ _ _ h (omega arith) (pole_bounded q (pos 0) x y)
-term_bounded (Vortex g) x y h = term_weaker _ _ _ h (omega arith) (pole_bounded (pos 0) (neg_ℤ g) x y)
+pub term_bounded : (a : Strength) (x y : ℤ) → pos 0 <ℤ norm_gaussian (gaussian x y) → TermBounded (weight_of a) (strength_term a (gaussian x y))
+term_bounded (Pole a b) x y h = term_weaker _ _ _ h (omega arith) (pole_bounded a b x y)
 term_bounded (Dipole a b) x y h = term_weaker _ _ _ (term_denominator (Dipole a b) (gaussian x y) h) (omega arith) (dipole_bounded a b x y h)
-term_bounded Target x y h = record { re = record { above = omega (arith, ints); below = omega (arith, ints) }; im = record { above = omega (arith, ints); below = omega (arith, ints) } }
+term_bounded Nothing x y h = record { re = record { above = omega (arith, ints); below = omega (arith, ints) }; im = record { above = omega (arith, ints); below = omega (arith, ints) } }
 
 -- the same in units of 1/c
 bounded-units : (c m : ℕ) (z n : ℤ) → Bounded m z n → Bounded (c * m) (pos c *ℤ z) n
@@ -202,7 +203,7 @@ pair_box-within t p = cases (is_at t p) refl
     cases true e = rw e (zero-within _)
     cases false e =
         let h = distance_positive t p e in
-        rw e (outward-within _ _ (term_denominator p.kind _ h) (term_bounded p.kind (t.re -ℤ p.x) (t.im -ℤ p.y) h))
+        rw e (outward-within _ _ (term_denominator (strength p.kind) _ h) (term_bounded (strength p.kind) (t.re -ℤ p.x) (t.im -ℤ p.y) h))
 
 -- ---- widths: a rounding adds less than one unit on each side
 rounded_width : (z n : ℤ) → pos 1 ≤ℤ n → (ceil_div z n -ℤ floor_div z n) ≤ℤ pos 1
@@ -252,4 +253,4 @@ pair_box-narrow t p = cases (is_at t p) refl
   where
     cases : (b : Bool) → is_at t p ≡ b → BoxEndsNarrow 1 (pair_box t p)
     cases true e = rw e zero-narrow
-    cases false e = rw e (outward-narrow (term_of t p) (term_denominator p.kind _ (distance_positive t p e)))
+    cases false e = rw e (outward-narrow (term_of t p) (term_denominator (strength p.kind) _ (distance_positive t p e)))

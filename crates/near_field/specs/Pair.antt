@@ -5,7 +5,6 @@ use Rattle.exact_math.specs.Ends.{BoxEnds, zero_box, point_box, quot_box}
 use Rattle.exact_math.specs.Gaussian.{Gaussian, gaussian, sub_gaussian}
 use Rattle.exact_math.specs.Ratio.{ComplexRatio, zero_complex}
 use Rattle.exact_math.specs.Terms.{pole_term, dipole_term}
-use Rattle.points.specs.declared.Kind.{Kind}
 use Rattle.points.specs.declared.Strength.{Strength}
 use Rattle.points.specs.declared.Strength.TheVariants.{Pole, Dipole, Nothing}
 use Rattle.points.specs.declared.Point.{Point}
@@ -21,12 +20,9 @@ strength_term (Pole re im) delta = pole_term (gaussian re im) delta
 strength_term (Dipole re im) delta = dipole_term (gaussian re im) delta
 strength_term Nothing delta = zero_complex
 
-abbrev pub term_at : Kind → Gaussian → ComplexRatio
-term_at k delta = strength_term (strength k) delta
-
 -- what the point contributes at t, a place other than its own; the distance is target minus source
 abbrev pub term_of : Gaussian → Point → ComplexRatio
-term_of t p = term_at p.kind (sub_gaussian t (place p))
+term_of t p = strength_term (strength p.kind) (sub_gaussian t (place p))
 
 -- a fraction in units of 2^-40, both parts rounded outward: quot of 2^40 times the numerators by the denominator
 abbrev pub outward : ComplexRatio → BoxEnds

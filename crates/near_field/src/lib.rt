@@ -1,13 +1,12 @@
 //! The near field: what one source contributes at a place, as a box that contains the exact term.
 #![tactic(auto)]
 
-ghost use Rattle.std.specs.Prelude.{◌≡◌, ℕ, ◌+◌, ◌*◌, ◌^◌, ◌<◌, pos, true, false, if◌then◌else◌};
+ghost use Rattle.std.specs.Prelude.{◌≡◌, ◌+◌, ◌*◌, ◌^◌, ◌<◌, pos, false, if◌then◌else◌};
 ghost use Rattle.exact_math.specs.Ends.{BoxEndsContain, BoxEndsNarrow, BoxEndsWithin};
-ghost use Rattle.exact_math.specs.Gaussian.{gaussian, norm_gaussian};
+ghost use Rattle.exact_math.specs.Gaussian.{gaussian};
 ghost use Rattle.complex_box.specs.Box.{box_ends};
 ghost use Rattle.points.specs.Limits.{InGrid, InRange, weight64};
-ghost use Rattle.near_field.specs.Pair.{is_at, outward, pair_box, term_of};
-ghost use Rattle.near_field.specs.Term.{ratio_of};
+ghost use Rattle.near_field.specs.Pair.{is_at, pair_box, term_of};
 
 mod term;
 

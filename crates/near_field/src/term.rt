@@ -1,18 +1,16 @@
 //! The exact term of a source, as whole numbers over a denominator.
-ghost use Rattle.std.specs.Prelude.{◌≡◌, ℕ, ◌*◌, ◌+◌, ◌^◌, ◌⊎◌, ◌≢◌, ℤ, pos, ◌+ℤ◌, ◌-ℤ◌, ◌*ℤ◌, ◌<ℤ◌, ◌≤ℤ◌};
+ghost use Rattle.std.specs.Prelude.{◌≡◌, ◌^◌, ℤ, pos, ◌+ℤ◌, ◌-ℤ◌, ◌*ℤ◌, ◌≤ℤ◌};
 ghost use Rattle.exact_math.specs.Gaussian.{gaussian, norm_gaussian};
 ghost use Rattle.exact_math.specs.Within.{Within};
-ghost use Rattle.points.specs.Limits.{InRange, weight64};
+ghost use Rattle.points.specs.Limits.{InRange};
+ghost use Rattle.points.specs.Points.{strength};
 ghost use Rattle.exact_math.specs.Terms.{pole_term, dipole_term};
 ghost use Rattle.complex_box.specs.Box.{box_ends};
-ghost use Rattle.near_field.specs.Pair.{outward, term_at};
+ghost use Rattle.near_field.specs.Pair.{outward, strength_term};
 ghost use Rattle.near_field.specs.Term.{ratio_of};
 
-use complex_box::CBox;
-use points::{Kind, Point};
-
-/// How many units a box counts in 1.
-const UNIT: i128 = 1_099_511_627_776;
+use complex_box::{CBox, UNIT};
+use points::{Point, Strength};
 
 /// The fraction `(re + i im)/denominator`.
 #[derive(Clone, Copy)]
@@ -80,17 +78,16 @@ fn dipole_over(re: i64, im: i64, dx: i64, dy: i64) -> Term
     }
 }
 
-/// The term of a point at a distance: `a/d` of a charge or a vortex, `b/d^2` of a dipole, 0 of a target.
+/// The term of a point at a distance: `a/d` of a pole `a`, `b/d^2` of a dipole `b`, 0 of a target.
 pub(crate) fn contribution(p: &Point, dx: i64, dy: i64) -> Term
     requires range { InRange p.now }
     requires distance { Within (2 ^ 16) dx × Within (2 ^ 16) dy }
-    ensures { ratio_of result ≡ term_at p.now.kind (gaussian dx dy) }
+    ensures { ratio_of result ≡ strength_term (strength p.now.kind) (gaussian dx dy) }
 {
-    match p.kind {
-        Kind::Charge(q) => pole_over(q, 0, dx, dy),
-        Kind::Vortex(g) => pole_over(0, -g, dx, dy),
-        Kind::Dipole(re, im) => dipole_over(re, im, dx, dy),
-        Kind::Target => Term {
+    match p.kind.strength() {
+        Strength::Pole(re, im) => pole_over(re, im, dx, dy),
+        Strength::Dipole(re, im) => dipole_over(re, im, dx, dy),
+        Strength::Nothing => Term {
             re: 0,
             im: 0,
             denominator: 1,

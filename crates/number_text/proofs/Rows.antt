@@ -1,20 +1,20 @@
 -- Numbers in a row, and casts of what is read.
 use Rattle.std.proofs.Common.{◌≡◌, ◌<◌, ◌≤ℤ◌, List, [], ◌∷◌, ◌++◌, length, ℕ, suc, ℤ, pos, negsuc, neg_ℤ, refl, sym, ap, ◌∙◌, subst, arith, to_z, of_z, w64, inl, inr}
 use Rattle.std.proofs.lemmas.Int.{ints}
-use Rattle.number_text.specs.Numbers.{IsDigit, IsPlainNumber, IsInt, AreInts, value_after, nearest_int, most_read}
+use Rattle.number_text.specs.Numbers.{IsDigit, IsPlainNumber, IsInt, AreInts, value_after, cut_int, most_read}
 use Rattle.std.specs.List.{AllByRecursion}
-use Rattle.number_text.specs.Parts.{IsCut, IsFreeOf}
+use Rattle.number_text.specs.Parts.{IsCut, IsFreeOf, space}
 use Rattle.number_text.proofs.Spelling.{one_word}
 use Rattle.number_text.proofs.Cuts.{same_cut, tail_of}
 
 -- behind the first word stand the other numbers
-pub later_ints : (text word rest : List ℕ) (x y : ℤ) (zs : List ℤ) → IsCut 32 text word rest → AreInts text (x ∷ y ∷ zs) → AreInts rest (y ∷ zs)
+pub later_ints : (text word rest : List ℕ) (x y : ℤ) (zs : List ℤ) → IsCut space text word rest → AreInts text (x ∷ y ∷ zs) → AreInts rest (y ∷ zs)
 later_ints text word rest x y zs cut ints =
-    let same = same_cut 32 text ints.0 ints.1 word rest ints.2 cut in
+    let same = same_cut space text ints.0 ints.1 word rest ints.2 cut in
     subst (λ t. AreInts t (y ∷ zs)) same.backs ints.4
 
 -- what is read passes through a cast
-pub kept : (v z : ℤ) → v ≡ nearest_int z → to_z w64 (of_z w64 v) ≡ nearest_int z
+pub kept : (v z : ℤ) → v ≡ cut_int z → to_z w64 (of_z w64 v) ≡ cut_int z
 kept v (pos n) read = omega (arith, ints)
 kept v (negsuc n) read = omega (arith, ints)
 
@@ -41,20 +41,20 @@ one_row text (y ∷ []) (z ∷ []) same a b = ap (λ n. n ∷ []) (one_number te
 one_row text (y ∷ []) (z ∷ w ∷ zs) same a b = absurd (omega arith)
 one_row text (y ∷ x ∷ ys) (z ∷ []) same a b = absurd (omega arith)
 one_row text (y ∷ x ∷ ys) (z ∷ w ∷ zs) same a b =
-    let cuts = same_cut 32 text a.0 a.1 b.0 b.1 a.2 b.2 in
+    let cuts = same_cut space text a.0 a.1 b.0 b.1 a.2 b.2 in
     let first = one_number b.0 y z (subst (λ t. IsInt t y) cuts.fronts a.3) b.3 in
     let rest = one_row b.1 (x ∷ ys) (w ∷ zs) (omega arith) (subst (λ t. AreInts t (x ∷ ys)) cuts.backs a.4) b.4 in
     ap (λ n. n ∷ x ∷ ys) first ∙ ap (λ ns. z ∷ ns) rest
 
 -- nothing is cut off a number below the greatest size
-pub nearest_small : (n : ℕ) (z : ℤ) → n < most_read → neg_ℤ (pos n) ≤ℤ z → z ≤ℤ pos n → nearest_int z ≡ z
-nearest_small n (pos m) small above below = omega (arith, ints)
-nearest_small n (negsuc m) small above below = omega (arith, ints)
+pub cut_small : (n : ℕ) (z : ℤ) → n < most_read → neg_ℤ (pos n) ≤ℤ z → z ≤ℤ pos n → cut_int z ≡ z
+cut_small n (pos m) small above below = omega (arith, ints)
+cut_small n (negsuc m) small above below = omega (arith, ints)
 
 -- a number that is cut lies beyond all that is below the greatest size
-pub small_nearest : (n : ℕ) (z : ℤ) → n < most_read → neg_ℤ (pos n) ≤ℤ nearest_int z → nearest_int z ≤ℤ pos n → nearest_int z ≡ z
-small_nearest n (pos m) small above below = omega (arith, ints)
-small_nearest n (negsuc m) small above below = omega (arith, ints)
+pub small_cut : (n : ℕ) (z : ℤ) → n < most_read → neg_ℤ (pos n) ≤ℤ cut_int z → cut_int z ≤ℤ pos n → cut_int z ≡ z
+small_cut n (pos m) small above below = omega (arith, ints)
+small_cut n (negsuc m) small above below = omega (arith, ints)
 
 -- the bytes of a number stand at or above the sign
 digits_free : (byte : ℕ) (digits : List ℕ) → byte < 48 → AllByRecursion IsDigit digits → IsFreeOf byte digits

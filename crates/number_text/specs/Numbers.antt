@@ -1,7 +1,7 @@
 -- Whole numbers as text, in base ten. Each number has one spelling.
 use Rattle.std.specs.Prelude.{◌≡◌, ℕ, suc, ◌+◌, ◌-◌, ◌*◌, ◌≤◌, ◌⊎◌, min, List, [], ◌∷◌, ℤ, pos, negsuc, neg_ℤ}
 use Rattle.std.specs.List.{AllByRecursion}
-use Rattle.number_text.specs.Parts.{IsCut}
+use Rattle.number_text.specs.Parts.{IsCut, space}
 
 -- a digit, `0` to `9`
 abbrev pub IsDigit : ℕ → Type 0
@@ -32,16 +32,16 @@ abbrev pub most_read : ℕ
 most_read = 1_000_000_000_000_000_000
 
 -- n, or the greatest size that is read where n is greater
-abbrev pub nearest_uint : ℕ → ℕ
-nearest_uint n = min n most_read
+abbrev pub cut_uint : ℕ → ℕ
+cut_uint n = min n most_read
 
 -- z, or the number of its sign and of the greatest size that is read where z is greater in size
-abbrev pub nearest_int : ℤ → ℤ
-nearest_int (pos n) = pos (nearest_uint n)
-nearest_int (negsuc n) = neg_ℤ (pos (nearest_uint (suc n)))
+abbrev pub cut_int : ℤ → ℤ
+cut_int (pos n) = pos (cut_uint n)
+cut_int (negsuc n) = neg_ℤ (pos (cut_uint (suc n)))
 
 -- the words of the text spell these numbers, with one space between each two of them
 abbrev pub AreInts : List ℕ → List ℤ → Type 0
 AreInts text [] = text ≡ []
 AreInts text (z ∷ []) = IsInt text z
-AreInts text (z ∷ y ∷ zs) = (word rest : List ℕ) × IsCut 32 text word rest × IsInt word z × AreInts rest (y ∷ zs)
+AreInts text (z ∷ y ∷ zs) = (word rest : List ℕ) × IsCut space text word rest × IsInt word z × AreInts rest (y ∷ zs)

@@ -1,12 +1,11 @@
 //! Reading the line of a point.
-ghost use Rattle.std.specs.Prelude.{◌≡◌, ℕ, IfOk, IfErr, Ok, Err, IfSome, IfNone};
+ghost use Rattle.std.specs.Prelude.{◌≡◌, IfOk, IfErr, Ok, Err, IfSome, IfNone};
 ghost use Rattle.points.specs.declared.Point.{Point};
 ghost use Rattle.particle_text.specs.declared.TextKind.{TextKind};
 ghost use Rattle.particle_text.specs.declared.line.Form.{Form};
 ghost use Rattle.particle_text.specs.Faults.{FormFault};
-ghost use Rattle.particle_text.specs.Forms.{word_of};
 ghost use Rattle.points.specs.Limits.{InRange};
-ghost use Rattle.particle_text.specs.Nearest.{nearest_point};
+ghost use Rattle.particle_text.specs.Private.{cut_point, word_of};
 ghost use Rattle.particle_text.specs.Text.{LineSpells};
 
 use crate::{Kind, Point, TextKind};
@@ -37,7 +36,7 @@ fn form_of(name: &[u8]) -> Option<Form>
 
 /// The point whose line this is, with each number that is greater than 10^18 in size cut to that size.
 fn read_form(line: &[u8]) -> Option<Point>
-    ensures some { IfSome result (λ p. (q : Point) × LineSpells line.now q × (p ≡ nearest_point q)) }
+    ensures some { IfSome result (λ p. (q : Point) × LineSpells line.now q × (p ≡ cut_point q)) }
     ensures none { IfNone result ((q : Point) → LineSpells line.now q → ⊥) }
 {
     let (name, numbers) = cut_at(b' ', line)?;

@@ -1,13 +1,13 @@
 -- Which places, strengths and lists the text allows.
-use Rattle.std.specs.Prelude.{ℕ, ◌+◌, ◌*◌, ◌-◌, ◌^◌, ◌<◌, ◌≤◌, ℤ, pos, neg_ℤ, ◌≤ℤ◌, ◌<ℤ◌, List, length, All, sum_by}
-use Rattle.exact_math.specs.Sizes.{abs_gaussian}
-use Rattle.exact_math.specs.Within.{Within}
+use Rattle.std.specs.Prelude.{ℕ, ◌+◌, ◌*◌, ◌-◌, ◌^◌, ◌≤◌, ℤ, pos, neg_ℤ, ◌≤ℤ◌, ◌<ℤ◌, List, length, All, sum_by}
+use Rattle.exact_math.specs.Sizes.{weight_at}
 use Rattle.points.specs.declared.Kind.{Kind}
-use Rattle.points.specs.declared.Kind.TheVariants.{Charge, Dipole, Vortex, Target}
+use Rattle.points.specs.declared.Kind.TheVariants.{Charge, Vortex}
 use Rattle.points.specs.declared.Mode.{Mode}
 use Rattle.points.specs.declared.Mode.TheVariants.{Field, Velocity}
 use Rattle.points.specs.declared.Point.{Point}
-use Rattle.points.specs.Points.{pole, dipole}
+use Rattle.points.specs.Points.{strength, pole, dipole}
+use Rattle.points.specs.Strength.{StrengthWithin}
 
 -- the grid has 2^grid_bits places in a row
 abbrev pub grid_bits : ℕ
@@ -37,19 +37,16 @@ pub record InGrid (x y : ℤ) : Type 0 where
 
 -- each strength component is within its limit
 abbrev pub HasStrength : Kind → Type 0
-HasStrength (Charge q) = Within most_strength q
-HasStrength (Dipole re im) = Within most_strength re × Within most_strength im
-HasStrength (Vortex g) = Within most_strength g
-HasStrength Target = Unit {0}
+HasStrength k = StrengthWithin most_strength (strength k)
 
 -- the place is in the grid and each strength component is within its limit
 pub record InRange (p : Point) : Type 0 where
   pub grid : InGrid p.x p.y
   pub strength : HasStrength p.kind
 
--- abs(a) + 64 abs(b) of the pole a and the dipole b
+-- |a| + 64 |b| of the pole a and the dipole b
 abbrev pub weight64 : Point → ℕ
-weight64 p = abs_gaussian (pole p.kind) + 64 * abs_gaussian (dipole p.kind)
+weight64 p = weight_at 32 (pole p.kind) (dipole p.kind)
 
 abbrev pub total_weight : List Point → ℕ
 total_weight points = sum_by weight64 points
@@ -66,9 +63,3 @@ pub record WithinLimits (mode : Mode) (points : List Point) : Type 0 where
   pub mode_fits : All (λ p. FitsMode mode p.kind) points
   pub count : length points ≤ most_points
   pub weight : total_weight points ≤ most_weight
-
--- the point may join a list of this mode, which has `live` points and this total weight
-pub record CanJoin (mode : Mode) (live weight : ℕ) (p : Point) : Type 0 where
-  pub mode_fits : FitsMode mode p.kind
-  pub room : live < most_points
-  pub light : weight + weight64 p ≤ most_weight

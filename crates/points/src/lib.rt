@@ -3,8 +3,9 @@
 
 ghost use Rattle.std.specs.Prelude.{◌≡◌, List, [], ◌∷◌, ◌++◌, ◌↔◌, IsTrue, OnOk, OnErr};
 ghost use Rattle.exact_math.specs.Gaussian.{gaussian};
-ghost use Rattle.points.specs.Limits.{InRange, HasStrength, weight64};
+ghost use Rattle.points.specs.Limits.{InRange, HasStrength, most_strength, weight64};
 ghost use Rattle.points.specs.Points.{pole, dipole, strength, is_source};
+ghost use Rattle.points.specs.Strength.{StrengthWithin};
 
 mod limits;
 
@@ -44,7 +45,8 @@ impl Kind {
     /// The kind's strength is within its limit.
     pub fn strength(self) -> Strength
         requires { HasStrength self }
-        ensures { result ≡ strength self }
+        ensures value { result ≡ strength self }
+        ensures size { StrengthWithin most_strength result }
     {
         match self {
             Kind::Charge(q) => Strength::Pole(q, 0),

@@ -11,7 +11,8 @@ use Rattle.points.specs.declared.Point.{Point}
 use Rattle.cell_name.specs.Cell.{square}
 use Rattle.cell_name.specs.Square.{Square, root}
 use Rattle.quadtree.specs.declared.split.Run.{Run}
-use Rattle.quadtree.specs.Splitting.{squares_of, occupied, quarters, below, IsRun, AreRuns}
+use Rattle.cell_name.specs.Quarters.{quarters}
+use Rattle.quadtree.specs.Splitting.{squares_of, occupied, below, IsRun, AreRuns}
 use Rattle.quadtree.specs.Tree.{count_in}
 use Rattle.quadtree.proofs.Positions.{length-members}
 

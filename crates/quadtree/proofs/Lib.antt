@@ -1,10 +1,12 @@
 -- Lemmas on the tree.
+pub mod Ascending
 pub mod Counts
 pub mod Distinct
 pub mod Faults
 pub mod PointKinds
 pub mod LeafLevel
 pub mod Levels
+pub mod Lists
 pub mod Limits
 pub mod Members
 pub mod Parents

@@ -15,6 +15,7 @@ use Rattle.quadtree.specs.Members.{holds_point, holds_position, members_of}
 use Rattle.quadtree.specs.Splitting.{squares_of, occupied, IsRun, AreRuns}
 use Rattle.quadtree.specs.Tree.{AreInGrid, count_in}
 use Rattle.cell_name.proofs.HoldsTest.{test-from_Holds}
+use Rattle.quadtree.proofs.Lists.{filter_whole}
 use Rattle.quadtree.proofs.Positions.{length-members}
 use Rattle.quadtree.proofs.Runs.{range_below, occupied-one, occupied-none}
 
@@ -27,14 +28,10 @@ root_holds grid (p ∷ ps) k positive inside lt =
     let q : Point = get_or (p ∷ ps) k p in
     ap (holds_point (root grid)) (slice_get-get_or (p ∷ ps) k p lt) ∙ test-from_Holds (root grid) q.x q.y (Holds-root grid q.x q.y positive (inside k p lt))
 
-filter_all : (p : ℕ → Bool) (xs : List ℕ) → All (λ k. p k ≡ true) xs → filter p xs ≡ xs
-filter_all p [] h = refl
-filter_all p (x ∷ xs) h = ap (λ b. cond b (x ∷ filter p xs) (filter p xs)) (All-head (λ k. p k ≡ true) x xs h) ∙ ap (λ l. x ∷ l) (filter_all p xs (All-tail (λ k. p k ≡ true) x xs h))
-
 members_of-root : (grid : ℕ) (points : List Point) → 0 < grid → AreInGrid grid points → members_of points (root grid) ≡ range_with_len 0 (length points)
 members_of-root grid points positive inside =
     let below : All (λ k. k < 0 + length points) (range_with_len 0 (length points)) = range_below 0 (length points) in
-    filter_all (λ k. holds_position (root grid) points k) (range_with_len 0 (length points))
+    filter_whole (λ k. holds_position (root grid) points k) (range_with_len 0 (length points))
     (All-weaker (λ k. k < 0 + length points) (λ k. holds_position (root grid) points k ≡ true) (λ k lt. root_holds grid points k positive inside (omega arith)) (range_with_len 0 (length points)) below)
 
 count_in-root : (grid : ℕ) (points : List Point) → 0 < grid → AreInGrid grid points → count_in points (root grid) ≡ length points

@@ -11,10 +11,11 @@ use Rattle.cell_name.specs.declared.cell.Cell.{Cell}
 use Rattle.cell_name.specs.declared.cell.Quadrant.{Quadrant}
 use Rattle.cell_name.specs.Cell.{square, half_number}
 use Rattle.cell_name.specs.Square.{Square, parent}
-use Rattle.cell_name.proofs.Quarters.{parent-child}
+use Rattle.cell_name.proofs.Quarters.{parent-quarter, level-quarter}
 use Rattle.quadtree.specs.declared.split.Run.{Run}
 use Rattle.quadtree.specs.Members.{holds_position, members_among, members_of}
-use Rattle.quadtree.specs.Splitting.{occupied, quarter, squares_of, IsRun, AreRuns}
+use Rattle.cell_name.specs.Quarters.{quarter}
+use Rattle.quadtree.specs.Splitting.{occupied, squares_of, IsRun, AreRuns}
 use Rattle.quadtree.specs.Tree.{count_in}
 use Rattle.quadtree.proofs.Positions.{length-members, members-parent}
 
@@ -61,17 +62,6 @@ pub record AddsQuarter (points : List Point) (xs ys : List ℕ) (runs : List Run
   pub new_run : (from to : ℕ) → from ≡ length xs → to ≡ length ys → IsRun points ys (record { cell = cell; from = from; to = to })
   pub with_points : length xs < length ys → occupied points (c ∷ []) ≡ c ∷ []
   pub without_points : length ys ≤ length xs → occupied points (c ∷ []) ≡ []
-
-half_number-at_most : (b : Bool) → half_number b ≤ 1
-half_number-at_most true = omega arith
-half_number-at_most false = omega arith
-
--- a quarter of a cell has it as its parent
-pub parent-quarter : (cell whole : Cell) (q : Quadrant) → square cell ≡ quarter (square whole) q → parent (square cell) ≡ square whole
-parent-quarter cell whole q e = ap parent e ∙ parent-child (square whole) (half_number q.right) (half_number q.top) (half_number-at_most q.right) (half_number-at_most q.top)
-
-pub level-quarter : (cell whole : Cell) (q : Quadrant) → square cell ≡ quarter (square whole) q → cell.level ≡ whole.level + 1
-level-quarter cell whole q e = ap (λ (c : Square). c.level) e
 
 pub adds_quarter : (points : List Point) (xs ys : List ℕ) (runs : List Run) (run : Run) (cell : Cell) → AreRuns points xs runs → IsRun points xs run → parent (square cell) ≡ square run.cell → 0 < cell.level → cell.level ≤ 16 → ys ≡ xs ++ members_among points (square cell) (slice_range xs run.from run.to) → AddsQuarter points xs ys runs run cell (square cell)
 adds_quarter points xs ys runs run cell a r e lo hi added =

@@ -8,64 +8,13 @@ use Rattle.std.proofs.lemmas.List.Kept.{AllPairs-cons, AllPairs-filter}
 use Rattle.points.specs.declared.Point.{Point}
 use Rattle.cell_name.specs.Square.{Square, root, parent, child}
 use Rattle.cell_name.proofs.Cells.{same_square}
-use Rattle.cell_name.proofs.Quarters.{parent-child}
-use Rattle.quadtree.specs.Splitting.{quarters, occupied, below, cells_of_level}
+use Rattle.cell_name.proofs.Quarters.{IsQuarter, quarters_are, quarters_contain, quarters_differ}
+use Rattle.cell_name.specs.Quarters.{quarters}
+use Rattle.quadtree.specs.Splitting.{occupied, below, cells_of_level}
 use Rattle.quadtree.specs.Tree.{AreInGrid, count_in, IsSplit, IsTreeCell}
 use Rattle.quadtree.proofs.Distinct.{Contains-filter, Contains-into_filter, Contains-flat_map, All-flat_map, different-flat_map}
 use Rattle.quadtree.proofs.Levels.{below-split, below-whole}
 use Rattle.quadtree.proofs.Parents.{IsTreeCell-parent}
-
--- ---- the quarters of a cell
-
--- what a quarter of a cell is
-pub record IsQuarter (c q : Square) : Type 0 where
-  pub of_grid : q.grid ≡ c.grid
-  pub level : q.level ≡ c.level + 1
-  pub parent_is : parent q ≡ c
-
-quarter_is : (c : Square) (right top : ℕ) → right ≤ 1 → top ≤ 1 → IsQuarter c (child c right top)
-quarter_is c right top p q = record { of_grid = refl; level = refl; parent_is = parent-child c right top p q }
-
-pub quarters_are : (c : Square) → All (IsQuarter c) (quarters c)
-quarters_are c = All-from_recursion (IsQuarter c) (quarters c) (quarter_is c 0 0 (omega arith) (omega arith), (quarter_is c 0 1 (omega arith) (omega arith), (quarter_is c 1 0 (omega arith) (omega arith), (quarter_is c 1 1 (omega arith) (omega arith), tt))))
-
--- a cell below the root is a quarter of its parent
-pub quarters_contain : (c : Square) → 0 < c.level → Contains (quarters (parent c)) c
-quarters_contain c lo = by_rest (c.i % 2) (c.j % 2) (omega arith) (omega arith) (omega arith) (omega arith)
-  where
-    named : (right top : ℕ) → c.i ≡ 2 * (c.i / 2) + right → c.j ≡ 2 * (c.j / 2) + top → child (parent c) right top ≡ c
-    named right top ei ej = same_square (child (parent c) right top) c refl (omega arith) (sym ei) (sym ej)
-
-    by_rest : (right top : ℕ) → right < 2 → top < 2 → c.i ≡ 2 * (c.i / 2) + right → c.j ≡ 2 * (c.j / 2) + top → Contains (quarters (parent c)) c
-    by_rest zero zero p q ei ej = (0, omega arith, named 0 0 ei ej)
-    by_rest zero (suc zero) p q ei ej = (1, omega arith, named 0 1 ei ej)
-    by_rest (suc zero) zero p q ei ej = (2, omega arith, named 1 0 ei ej)
-    by_rest (suc zero) (suc zero) p q ei ej = (3, omega arith, named 1 1 ei ej)
-    by_rest zero (suc (suc n)) p q ei ej = absurd (omega arith)
-    by_rest (suc zero) (suc (suc n)) p q ei ej = absurd (omega arith)
-    by_rest (suc (suc n)) top p q ei ej = absurd (omega arith)
-
-abbrev Differ : Square → Square → Type 0
-Differ a b = a ≢ b
-
--- the four quarters differ
-pub quarters_differ : (c : Square) → AllPairs (λ a b. a ≢ b) (quarters c)
-quarters_differ c =
-    let sw : Square = child c 0 0 in
-    let nw : Square = child c 0 1 in
-    let se : Square = child c 1 0 in
-    let ne : Square = child c 1 1 in
-    AllPairs-cons Differ sw (nw ∷ se ∷ ne ∷ []) (All-from_recursion (Differ sw) (nw ∷ se ∷ ne ∷ []) (rows 0, (columns 0 0, (columns 0 1, tt))))
-    (AllPairs-cons Differ nw (se ∷ ne ∷ []) (All-from_recursion (Differ nw) (se ∷ ne ∷ []) (columns 1 0, (columns 1 1, tt))) (AllPairs-cons Differ se (ne ∷ []) (All-from_recursion (Differ se) (ne ∷ []) (rows 1, tt)) (AllPairs-cons Differ ne [] (All-nil (Differ ne)) none)))
-  where
-    none : AllPairs Differ []
-    none i j d lt inside = absurd (omega arith)
-
-    rows : (right : ℕ) → child c right 0 ≢ child c right 1
-    rows right e = let n : 2 * c.j + 0 ≡ 2 * c.j + 1 = ap (λ (s : Square). s.j) e in omega arith
-
-    columns : (top top' : ℕ) → child c 0 top ≢ child c 1 top'
-    columns top top' e = let n : 2 * c.i + 0 ≡ 2 * c.i + 1 = ap (λ (s : Square). s.i) e in omega arith
 
 -- ---- the cells below a cell
 

@@ -2,21 +2,13 @@
 use Rattle.std.specs.Prelude.{ℕ, ◌≡◌, ◌-◌, ◌<◌, ◌≤◌, zero, suc, cond, nat_lt, List, [], ◌∷◌, ◌++◌, length, map, filter, slice_range, slice_index_or, All}
 use Rattle.std.specs.List.{flat_map}
 use Rattle.points.specs.declared.Point.{Point}
-use Rattle.cell_name.specs.declared.cell.Quadrant.{Quadrant}
-use Rattle.cell_name.specs.Cell.{square, half_number}
-use Rattle.cell_name.specs.Square.{Square, root, child}
+use Rattle.cell_name.specs.Cell.{square}
+use Rattle.cell_name.specs.Quarters.{quarters}
+use Rattle.cell_name.specs.Square.{Square, root}
 use Rattle.quadtree.specs.declared.split.Run.{Run}
 use Rattle.quadtree.specs.Faults.{most_at_a_place}
 use Rattle.quadtree.specs.Members.{members_of}
 use Rattle.quadtree.specs.Tree.{count_in}
-
--- a quarter of a cell
-abbrev pub quarter : Square → Quadrant → Square
-quarter c q = child c (half_number q.right) (half_number q.top)
-
--- the four quarters of a cell
-abbrev pub quarters : Square → List Square
-quarters c = child c 0 0 ∷ child c 0 1 ∷ child c 1 0 ∷ child c 1 1 ∷ []
 
 -- the cells of a list that have a point
 abbrev pub occupied : List Point → List Square → List Square

@@ -6,7 +6,8 @@ ghost use Rattle.cell_name.specs.Cell.{square};
 ghost use Rattle.cell_name.specs.Square.{Square, holds_test};
 ghost use Rattle.points.specs.Limits.{most_points};
 ghost use Rattle.quadtree.specs.Members.{holds_position, members_among};
-ghost use Rattle.quadtree.specs.Splitting.{squares_of, occupied, quarter, quarters, below, cells_to_level, IsRun, AreRuns};
+ghost use Rattle.cell_name.specs.Quarters.{quarter, quarters};
+ghost use Rattle.quadtree.specs.Splitting.{squares_of, occupied, below, cells_to_level, IsRun, AreRuns};
 ghost use Rattle.quadtree.specs.Tree.{AreInGrid, AreTreeCells};
 
 use cell_name::{Cell, GRID, Quadrant};

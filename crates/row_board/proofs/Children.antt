@@ -12,14 +12,14 @@ use Rattle.cell_name.specs.declared.cell.Quadrant.{Quadrant}
 use Rattle.cell_lists.proofs.CellNumbers.{same_number}
 use Rattle.cell_lists.proofs.TreeNumbers.{tree_cell_at}
 use Rattle.points.specs.declared.Point.{Point}
-use Rattle.quadtree.specs.Splitting.{quarter, quarters}
+use Rattle.cell_name.specs.Quarters.{quarter, quarters}
 use Rattle.quadtree.specs.Tree.{AreInGrid, IsLeaf}
 use Rattle.quadtree.specs.TreeModel.{TreeModel, size, squares, square_of, node_of, IsTreeOf}
 use Rattle.quadtree.proofs.Distinct.{Contains-filter, Contains-into_filter}
 use Rattle.quadtree.proofs.Parents.{IsTreeCell-below}
 use Rattle.tree_field.specs.Field.{has_source}
 use Rattle.tree_field.specs.Program.{source_children}
-use Rattle.tree_field.proofs.Members.{Contains-range, range_below, filter_none, All-from_members}
+use Rattle.quadtree.proofs.Lists.{Contains-range, range_below, filter_none, All-from_members}
 use Rattle.tree_field.proofs.Numbers.{level_positive}
 use Rattle.tree_field.proofs.Program.{nodes_of_tree}
 use Rattle.upward_rows.proofs.Trees.{inner_is, no_quarter, quarter_is_one, quarter_read, source_from_node}

@@ -21,7 +21,7 @@ use Rattle.quadtree.specs.Tree.{AreInGrid, HasTarget}
 use Rattle.quadtree.specs.TreeModel.{TreeModel, IsTreeOf, size, square_of, node_of, leaf_of}
 use Rattle.target_values.specs.Field.{AreRowsOfLeaf}
 use Rattle.target_values.specs.Points.{point_at}
-use Rattle.tree_field.proofs.Members.{All-from_members}
+use Rattle.quadtree.proofs.Lists.{All-from_members}
 use Rattle.tree_field.specs.Field.{multipole_row, target_box}
 use Rattle.tree_field.specs.Lists.{TreeLists, AreTreeLists}
 use Rattle.tree_field.specs.Program.{source_children}

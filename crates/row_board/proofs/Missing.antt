@@ -9,7 +9,7 @@ use Rattle.cell_lists.specs.Lists.{lists_of}
 use Rattle.cell_lists.specs.Row.{row}
 use Rattle.quadtree.specs.TreeModel.{size, node_of}
 use Rattle.target_values.proofs.Positions.{IsTargetPosition, leaf_in_tree, position_at}
-use Rattle.tree_field.proofs.Members.{Contains-into_map}
+use Rattle.quadtree.proofs.Lists.{Contains-into_map}
 use Rattle.tree_rows.specs.FieldRows.{AreMultipoleRowsOf}
 use Rattle.row_board.specs.Board.{IsBoard}
 use Rattle.row_board.specs.Names.{is_filled, needs, target_leaf, AreFilled, IsFirstMissing}

@@ -9,7 +9,7 @@ use Rattle.std.proofs.lemmas.List.{get_or_default}
 use Rattle.std.proofs.lemmas.Nat.{div-add-mod'}
 use mathlib.Core.Logic.{⊎_elim}
 use Rattle.exact_math.specs.Ends.{BoxEnds, BoxEndsWithin, zero_box}
-use Rattle.exact_math.specs.Orders.{IsOrder}
+use Rattle.exact_math.proofs.Orders.{order_bounds}
 use Rattle.cell_lists.proofs.TreeNumbers.{tree_cell_at}
 use Rattle.complex_box.specs.Box.{BoxWithin}
 use Rattle.complex_box.specs.Rows.{at, zero_cbox}
@@ -34,9 +34,6 @@ use Rattle.row_board.specs.Board.{IsBoard}
 use Rattle.row_board.specs.Names.{is_filled}
 use Rattle.row_board.specs.Parts.{BoardParts}
 use Rattle.row_board.specs.declared.name.Name.TheVariants.{Up, Local}
-
-pub order_least : (P : ℕ) → IsOrder P → 2 ≤ P
-order_least P h = ⊎_elim (λ e. omega arith) (λ l. ⊎_elim (λ e. omega arith) (λ k. ⊎_elim (λ e. omega arith) (λ e. omega arith) k) l) h
 
 zero_row_within : (P n : ℕ) (m : ℕ → BoxEnds) → AreSameRows P m (λ k. zero_box) → RowWithin P n m
 zero_row_within P n m h k lt = subst (BoxEndsWithin n) (sym (h k lt)) (zero_within n)
@@ -82,10 +79,10 @@ module _ (P : ℕ) (b : BoardParts) (is : IsBoard P b) where
   local_within n lt = ⊎_elim (λ t. within_same P (2 ^ 82) _ _ (is.filled (Local n) t some_field.0 some_field.1).row_is (rows_within n lt).local) (λ f. zero_row_within P (2 ^ 82) _ (is.empty (Local n) f).row_is) (cases_Bool (is_filled b (Local n)))
 
   pub all_up_within : All (BoxWithin (2 ^ 80)) b.up
-  all_up_within = boxes_within P (size b.tree) (2 ^ 80) b.up (omega (arith, order_least P is.order)) is.up_rows (λ m lt. row_wider P (2 ^ 74) (2 ^ 80) _ (omega arith) (up_within m lt))
+  all_up_within = boxes_within P (size b.tree) (2 ^ 80) b.up (omega (arith, order_bounds P is.order)) is.up_rows (λ m lt. row_wider P (2 ^ 74) (2 ^ 80) _ (omega arith) (up_within m lt))
 
   pub all_local_within : All (BoxWithin (2 ^ 90)) b.local
-  all_local_within = boxes_within P (size b.tree) (2 ^ 90) b.local (omega (arith, order_least P is.order)) is.local_rows (λ m lt. row_wider P (2 ^ 82) (2 ^ 90) _ (omega arith) (local_within m lt))
+  all_local_within = boxes_within P (size b.tree) (2 ^ 90) b.local (omega (arith, order_bounds P is.order)) is.local_rows (λ m lt. row_wider P (2 ^ 82) (2 ^ 90) _ (omega arith) (local_within m lt))
 
   pub radius_within : (n : ℕ) → n < size b.tree → IsRadiusWithin (get_or b.radii n (pos 0))
   radius_within n lt = ⊎_elim

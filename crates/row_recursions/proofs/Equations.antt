@@ -24,7 +24,7 @@ pub source_moment-zero : (s : ℕ) (a b o : Gaussian) → source_moment s a b o 
 unfolding source_moment
 source_moment-zero s a b o = refl
 
-pub source_moment-suc : (s : ℕ) (a b o : Gaussian) (k : ℕ) → source_moment s a b o (suc k) ≡ add_box (pole_moment s a o (suc k)) (scale_box (pos (suc k)) (dipole_moment s b o k))
+pub source_moment-suc : (s : ℕ) (a b o : Gaussian) (k : ℕ) → source_moment s a b o (suc k) ≡ add_box (pole_moment s a o (suc k)) (scale_box (dipole_moment s b o k) (pos (suc k)))
 unfolding source_moment
 source_moment-suc s a b o k = refl
 
@@ -32,11 +32,11 @@ pub up_round-zero : (m : ℕ → BoxEnds) (q : Gaussian) (i : ℕ) → up_round 
 unfolding up_round
 up_round-zero m q i = refl
 
-pub up_round-next : (m : ℕ → BoxEnds) (q : Gaussian) (r i : ℕ) → up_round m q (r + 1) i ≡ quot_box (add_box (scale_box (pos 2) (up_round m q r (i + 1))) (gscale_box (up_round m q r i) q)) (pos 4)
+pub up_round-next : (m : ℕ → BoxEnds) (q : Gaussian) (r i : ℕ) → up_round m q (r + 1) i ≡ quot_box (add_box (scale_box (up_round m q r (i + 1)) (pos 2)) (gscale_box (up_round m q r i) q)) (pos 4)
 unfolding up_round
 up_round-next m q r i =
     ap (λ n. up_round m q n i) {x = r + 1} {y = suc r} (omega arith)
-    ∙ ap (λ n. quot_box (add_box (scale_box (pos 2) (up_round m q r n)) (gscale_box (up_round m q r i) q)) (pos 4)) {x = suc i} {y = i + 1} (omega arith)
+    ∙ ap (λ n. quot_box (add_box (scale_box (up_round m q r n) (pos 2)) (gscale_box (up_round m q r i) q)) (pos 4)) {x = suc i} {y = i + 1} (omega arith)
 
 pub shifted_up-is : (m : ℕ → BoxEnds) (q : Gaussian) (k : ℕ) → shifted_up m q k ≡ up_round m q k 0
 unfolding shifted_up
@@ -62,7 +62,7 @@ pub far_dipole-next : (s : ℕ) (b zeta : Gaussian) (l : ℕ) → far_dipole s b
 unfolding far_dipole
 far_dipole-next s b zeta l = ap (far_dipole s b zeta) {x = l + 1} {y = suc l} (omega arith)
 
-pub far_source-is : (s : ℕ) (a b zeta : Gaussian) (l : ℕ) → far_source s a b zeta l ≡ add_box (neg_box (far_pole s a zeta l)) (scale_box (pos (suc l)) (far_dipole s b zeta (suc l)))
+pub far_source-is : (s : ℕ) (a b zeta : Gaussian) (l : ℕ) → far_source s a b zeta l ≡ add_box (neg_box (far_pole s a zeta l)) (scale_box (far_dipole s b zeta (suc l)) (pos (suc l)))
 unfolding far_source
 far_source-is s a b zeta l = refl
 
@@ -75,7 +75,7 @@ unfolding down_round
 down_round-first P m q n = refl
 
 pub down_round-suc : (P : ℕ) (m : ℕ → BoxEnds) (q : Gaussian) (n k : ℕ)
-    → down_round P m q (suc n) (suc k) ≡ quot_box (add_box (gscale_box (down_round P m q n (suc k)) q) (scale_box (pos 2) (down_round P m q n k))) (pos 4)
+    → down_round P m q (suc n) (suc k) ≡ quot_box (add_box (gscale_box (down_round P m q n (suc k)) q) (scale_box (down_round P m q n k) (pos 2))) (pos 4)
 unfolding down_round
 down_round-suc P m q n k = refl
 

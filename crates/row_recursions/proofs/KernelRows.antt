@@ -4,13 +4,12 @@ use Prim.Native.Nat.{◌+◌, ◌^◌, ◌<◌}
 use Rattle.exact_math.specs.Binomials.{choose}
 use Rattle.exact_math.specs.Ends.{BoxEnds, times_box}
 use Rattle.exact_math.specs.Gaussian.{Gaussian, norm_gaussian}
-use Rattle.exact_math.specs.Ratio.{ComplexRatio}
+use Rattle.exact_math.specs.Ratio.{ComplexRatio, reciprocal}
 use Rattle.exact_math.proofs.BoxEnclosures.{EnclosesBox, EnclosesBox-times, EnclosesBox-quot, enclosed_from_contained}
 use Rattle.exact_math.proofs.Enclosures.{of_int-neg}
 use Rattle.exact_math.proofs.Fractions.{Stands, Stands-neg, Stands-mul, Stands-count, Stands-pow}
 use Rattle.exact_math.proofs.Gaussians.{value, value-norm}
 use Rattle.exact_math.proofs.QuadraticExtension.{same_pair}
-use Rattle.truncation.specs.CutTerms.{reciprocal}
 use Rattle.kernel_table.specs.Kernel.{kernel_entry, kernel_fraction, alternate_complex}
 use Rattle.kernel_table.proofs.Contained.{kernel_entry_contains}
 use Rattle.row_recursions.specs.Rows.{sum_boxes, converted}

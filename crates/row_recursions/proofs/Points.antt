@@ -1,46 +1,54 @@
 -- Points in cells, and their strengths.
-use Rattle.std.proofs.Common.{◌≡◌, refl, ℕ, zero, suc, ◌+◌, ◌*◌, ◌^◌, ◌≤◌, arith, ℤ, pos, negsuc, neg_ℤ, ◌+ℤ◌, ◌-ℤ◌, ◌≤ℤ◌, ◌<ℤ◌, SFits, w64, lit<}
+use Rattle.std.proofs.Common.{◌≡◌, refl, ℕ, zero, suc, ◌+◌, ◌*◌, ◌^◌, ◌≤◌, arith, ℤ, pos, negsuc, neg_ℤ, ◌+ℤ◌, ◌-ℤ◌, ◌≤ℤ◌, ◌<ℤ◌, SFits, w64, to_z, of_z, to_z-of_z, lit<}
 use Rattle.std.proofs.lemmas.Int.{ints}
 use Rattle.std.proofs.Math.Nat.{mul-le-mul_right}
 use Rattle.std.specs.Prelude.{unsigned_abs}
-use Rattle.exact_math.specs.Ends.{BoxEndsWithin}
+use Rattle.exact_math.specs.Ends.{BoxEnds, BoxEndsWithin}
 use Rattle.exact_math.specs.Gaussian.{Gaussian, gaussian}
 use Rattle.exact_math.specs.Within.{Within}
-use Rattle.points.specs.declared.Kind.{Kind}
-use Rattle.points.specs.declared.Kind.TheVariants.{Charge, Dipole, Vortex, Target}
 use Rattle.points.specs.declared.Point.{Point}
-use Rattle.points.specs.Points.{place, pole, dipole}
-use Rattle.points.specs.Limits.{most_strength, InGrid, HasStrength, InRange, weight64}
-use Rattle.exact_math.specs.Sizes.{abs_gaussian}
+use Rattle.points.specs.declared.Strength.{Strength}
+use Rattle.points.specs.declared.Strength.TheVariants.{Pole, Dipole, Nothing}
+use Rattle.points.specs.Limits.{most_strength, InGrid, InRange, weight64}
+use Rattle.points.specs.Points.{place, strength, pole, dipole}
+use Rattle.points.specs.Strength.{pole_part, dipole_part, StrengthWithin}
+use Rattle.exact_math.specs.Sizes.{abs_gaussian, weight_at}
 use Rattle.cell_name.specs.Cell.{square}
 use Rattle.cell_name.specs.Square.{side, corner_x, corner_y, Holds, IsInGrid}
 use Rattle.cell_name.specs.declared.cell.Cell.{Cell}
 use Rattle.cell_name.proofs.Cells.{inside_from_name}
+use Rattle.exact_math.proofs.GaussianSizes.{weight_at-le}
+use Rattle.truncation.specs.Entries.{weight}
 use Rattle.truncation.specs.Places.{GaussianWithin, doubled_offset}
 use Rattle.complex_box.proofs.Sizes.{box_wider}
 use Rattle.row_recursions.specs.Cells.{side_of, centre_of, offset_from, moments_of}
 use Rattle.row_recursions.specs.Moments.{pole_of, dipole_of}
-use Rattle.row_recursions.specs.Sources.{source_at}
+use Rattle.row_recursions.specs.Rows.{units_box}
+use Rattle.row_recursions.specs.Sources.{source_at, source_of}
 use Rattle.row_recursions.proofs.RowSizes.{source_moment_within}
 
 -- the strengths of a point's source are those of the point
-pub pole_of-source : (z : Gaussian) (k : Kind) → pole_of (source_at z k) ≡ pole k
-pole_of-source z (Charge q) = refl
+pub pole_of-source : (z : Gaussian) (a : Strength) → pole_of (source_at z a) ≡ pole_part a
+pole_of-source z (Pole re im) = refl
 pole_of-source z (Dipole re im) = refl
-pole_of-source z (Vortex g) = refl
-pole_of-source z Target = refl
+pole_of-source z Nothing = refl
 
-pub dipole_of-source : (z : Gaussian) (k : Kind) → dipole_of (source_at z k) ≡ dipole k
-dipole_of-source z (Charge q) = refl
+pub dipole_of-source : (z : Gaussian) (a : Strength) → dipole_of (source_at z a) ≡ dipole_part a
+dipole_of-source z (Pole re im) = refl
 dipole_of-source z (Dipole re im) = refl
-dipole_of-source z (Vortex g) = refl
-dipole_of-source z Target = refl
+dipole_of-source z Nothing = refl
 
-pub place_of-source : (z : Gaussian) (k : Kind) → (source_at z k).place ≡ z
-place_of-source z (Charge q) = refl
-place_of-source z (Dipole re im) = refl
-place_of-source z (Vortex g) = refl
-place_of-source z Target = refl
+-- a point weighs what its source does, and up to order 32 no more than at 32
+pub weight-source_of : (P : ℕ) (p : Point) → weight P (source_of p) ≡ weight_at P (pole p.kind) (dipole p.kind)
+weight-source_of P p = by (place p) (strength p.kind)
+  where
+    by : (z : Gaussian) (a : Strength) → weight P (source_at z a) ≡ weight_at P (pole_part a) (dipole_part a)
+    by z (Pole re im) = refl
+    by z (Dipole re im) = refl
+    by z Nothing = refl
+
+pub weight-le-weight64 : (P : ℕ) (p : Point) → P ≤ 32 → weight P (source_of p) ≤ weight64 p
+weight-le-weight64 P p few = let e = weight-source_of P p in let h = weight_at-le P 32 (pole p.kind) (dipole p.kind) few in omega (arith, e, h)
 
 -- the grid, as cells see it
 pub grid_of : (x y : ℤ) → InGrid x y → IsInGrid 16 x y
@@ -78,18 +86,21 @@ part_small : (n : ℕ) (z : ℤ) → Within n z → unsigned_abs z ≤ n
 part_small n (pos a) h = let l = h.below in omega (arith, ints)
 part_small n (negsuc a) h = let l = h.above in omega (arith, ints)
 
-weight_at : (k : Kind) → HasStrength k → abs_gaussian (pole k) + 64 * abs_gaussian (dipole k) ≤ 2 ^ 27
-weight_at (Charge q) h = let a = part_small _ q h in omega arith
-weight_at (Dipole re im) h = let a = part_small _ re h.0 in let b = part_small _ im h.1 in omega arith
-weight_at (Vortex g) h =
-    let a : Within most_strength (neg_ℤ g) = record { above = omega (arith, ints, h.below); below = omega (arith, ints, h.above) } in
-    let b = part_small _ (neg_ℤ g) a in
-    omega arith
-weight_at Target h = omega arith
+weight_bounded_at : (a : Strength) → StrengthWithin most_strength a → abs_gaussian (pole_part a) + 64 * abs_gaussian (dipole_part a) ≤ 2 ^ 27
+weight_bounded_at (Pole re im) h = let a = part_small _ re h.0 in let b = part_small _ im h.1 in omega arith
+weight_bounded_at (Dipole re im) h = let a = part_small _ re h.0 in let b = part_small _ im h.1 in omega arith
+weight_bounded_at Nothing h = omega arith
+
+-- the box of a strength whose components are in their limits, as calls have it
+pub units_fit : {x y : ℤ} {b : BoxEnds} → Within most_strength x → Within most_strength y → b ≡ units_box (gaussian (to_z w64 (of_z w64 x)) (to_z w64 (of_z w64 y))) → b ≡ units_box (gaussian x y)
+units_fit {x} {y} v w e =
+    let f : SFits w64 x = omega (arith, ints) in
+    let g : SFits w64 y = omega (arith, ints) in
+    simp to_z-of_z at e
 
 -- a point in range is at most 2^27 in weight
 pub weight_bounded : (p : Point) → InRange p → weight64 p ≤ 2 ^ 27
-weight_bounded p h = weight_at p.kind h.strength
+weight_bounded p h = weight_bounded_at (strength p.kind) h.strength
 
 -- each moment of a point in the cell is at most 2^40 times its weight
 pub moments_within : (c : Cell) (p : Point) (k : ℕ) → k ≤ 64 → Holds (square c) p.x p.y → BoxEndsWithin (2 ^ 40 * weight64 p) (moments_of c p k)

@@ -5,10 +5,10 @@ use Rattle.exact_math.specs.Ends.{BoxEnds, point_ends, add_ends, sub_ends, zero_
 use Rattle.exact_math.specs.Gaussian.{Gaussian}
 use Rattle.exact_math.specs.Rounding.{floor_div}
 
-zero_times : (k : ℤ) → scale_ends k (point_ends (pos 0)) ≡ point_ends (pos 0)
+zero_times : (k : ℤ) → scale_ends (point_ends (pos 0)) k ≡ point_ends (pos 0)
 zero_times k = let e : pos 0 *ℤ k ≡ pos 0 = omega (arith, ints) in rw e refl
 
-pub zero_scaled : (k : ℤ) → scale_box k zero_box ≡ zero_box
+pub zero_scaled : (k : ℤ) → scale_box zero_box k ≡ zero_box
 zero_scaled k = λ i. record { re = zero_times k i; im = zero_times k i }
 
 pub zero_gscaled : (g : Gaussian) → gscale_box zero_box g ≡ zero_box

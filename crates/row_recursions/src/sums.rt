@@ -1,5 +1,5 @@
 //! Sums of rows.
-ghost use Rattle.std.specs.Prelude.{◌≡◌, ℕ, ◌^◌, length};
+ghost use Rattle.std.specs.Prelude.{◌≡◌, ◌^◌, length};
 ghost use Rattle.exact_math.specs.Ends.{add_box};
 ghost use Rattle.row_recursions.specs.Rows.{row_of, RowsAdd, HasPart};
 ghost use Rattle.row_recursions.specs.Sizes.{RowWithin};

@@ -19,7 +19,7 @@ use Rattle.quadtree.specs.Tree.{count_in, AreInGrid, IsTreeCell, IsLeaf}
 use Rattle.quadtree.specs.TreeModel.{TreeModel, squares, size, square_of, node_of, IsTreeOf}
 use Rattle.tree_field.specs.Lists.{TreeLists, AreTreeLists}
 use Rattle.tree_field.proofs.Leaves.{same_test}
-use Rattle.tree_field.proofs.Members.{All-from_members, range_below}
+use Rattle.quadtree.proofs.Lists.{All-from_members, range_below}
 use Rattle.tree_field.proofs.Program.{lists_of_tree}
 use Rattle.tree_field.proofs.Sums.{sum_by-map, sum_by-same}
 use Rattle.sample_summary.specs.Summary.{is_leaf, entry_count}

@@ -2,9 +2,9 @@
 use Rattle.std.proofs.Common.{ℕ, ◌≡◌, ◌+◌, ◌*◌, ◌^◌, ◌/◌, ◌%◌, ◌<◌, ℤ, List, length, get_or, ap, subst, ◌∙◌, arith}
 use Rattle.std.specs.Prelude.{All}
 use Rattle.std.proofs.lemmas.List.{get_or_default}
-use mathlib.Core.Logic.{⊎_elim}
 use Rattle.exact_math.specs.Ends.{BoxEndsWithin}
 use Rattle.exact_math.specs.Orders.{IsOrder}
+use Rattle.exact_math.proofs.Orders.{order_bounds}
 use Rattle.complex_box.specs.Box.{box_ends, BoxWithin}
 use Rattle.complex_box.specs.Rows.{zero_cbox}
 use Rattle.complex_box.specs.declared.CBox.{CBox}
@@ -16,9 +16,6 @@ use Rattle.tree_rows.specs.FieldRows.{AreFieldRows, IsFieldOf}
 use Rattle.tree_rows.specs.FlatRows.{row_at}
 use Rattle.tree_rows.specs.Trees.{IsTreeOfPoints}
 use Rattle.downward_rows.proofs.FieldSizes.{some_field, multipole_small, local_small}
-
-positive : (P : ℕ) → IsOrder P → 0 < P
-positive P h = ⊎_elim (λ e. omega arith) (λ l. ⊎_elim (λ e. omega arith) (λ k. ⊎_elim (λ e. omega arith) (λ e. omega arith) k) l) h
 
 -- the k-th box is one of the row k / P
 record Place (P count k : ℕ) : Type 0 where
@@ -43,9 +40,9 @@ module _ (P : ℕ) (order : IsOrder P) (points : List Point) (tree : TreeModel) 
   pub up_small : length up ≡ size tree * P → All (BoxWithin (2 ^ 80)) up
   up_small e =
       let f = some_field points tree has in
-      flat_within P (size tree) (2 ^ 80) up (positive P order) e (λ m lt. multipole_small points tree has f.0 f.1 P order m lt up field_rows.up_are)
+      flat_within P (size tree) (2 ^ 80) up (omega (arith, order_bounds P order)) e (λ m lt. multipole_small points tree has f.0 f.1 P order m lt up field_rows.up_are)
 
   pub local_small_all : length local ≡ size tree * P → All (BoxWithin (2 ^ 90)) local
   local_small_all e =
       let f = some_field points tree has in
-      flat_within P (size tree) (2 ^ 90) local (positive P order) e (λ m lt. local_small points tree has f.0 f.1 P order m lt local (field_rows.local_are.each m lt))
+      flat_within P (size tree) (2 ^ 90) local (omega (arith, order_bounds P order)) e (λ m lt. local_small points tree has f.0 f.1 P order m lt local (field_rows.local_are.each m lt))

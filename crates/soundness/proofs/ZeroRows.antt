@@ -9,7 +9,7 @@ use Rattle.row_recursions.specs.Rows.{up_round, shifted_up, down_round, shifted_
 use Rattle.soundness.specs.Computed.{total_box}
 
 -- ---- shifts
-scale-zero : (k : ℤ) → scale_ends k (point_ends (pos 0)) ≡ point_ends (pos 0)
+scale-zero : (k : ℤ) → scale_ends (point_ends (pos 0)) k ≡ point_ends (pos 0)
 scale-zero k = λ i. record { lo = int_min (times k i) (times k i); hi = int_max (times k i) (times k i) }
   where
     times : (k : ℤ) → pos 0 *ℤ k ≡ pos 0
@@ -26,7 +26,7 @@ up-zero : (q : Gaussian) (r i : ℕ) → up_round (λ k. zero_box) q r i ≡ zer
 unfolding up_round
 up-zero q zero i = refl
 up-zero q (suc r) i =
-    ap₂ (λ a b. quot_box (add_box (scale_box (pos 2) a) (gscale_box b q)) (pos 4)) (up-zero q r (suc i)) (up-zero q r i)
+    ap₂ (λ a b. quot_box (add_box (scale_box a (pos 2)) (gscale_box b q)) (pos 4)) (up-zero q r (suc i)) (up-zero q r i)
     ∙ ap (λ b. quot_box (add_box zero_box b) (pos 4)) (gscale-zero q)
 
 pub shifted_up-zero : (q : Gaussian) (k : ℕ) → shifted_up (λ k. zero_box) q k ≡ zero_box
@@ -40,7 +40,7 @@ down-zero P q (suc n) zero =
     ap (λ b. add_box zero_box (quot_box (gscale_box b q) (pos 4))) (down-zero P q n zero)
     ∙ ap (λ b. add_box zero_box (quot_box b (pos 4))) (gscale-zero q)
 down-zero P q (suc n) (suc k) =
-    ap₂ (λ a b. quot_box (add_box (gscale_box a q) (scale_box (pos 2) b)) (pos 4)) (down-zero P q n (suc k)) (down-zero P q n k)
+    ap₂ (λ a b. quot_box (add_box (gscale_box a q) (scale_box b (pos 2))) (pos 4)) (down-zero P q n (suc k)) (down-zero P q n k)
     ∙ ap (λ b. quot_box (add_box b zero_box) (pos 4)) (gscale-zero q)
 
 pub shifted_down-zero : (P : ℕ) (q : Gaussian) (k : ℕ) → shifted_down P (λ k. zero_box) q k ≡ zero_box

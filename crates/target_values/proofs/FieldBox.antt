@@ -1,12 +1,12 @@
 -- The value of a target from the rows of the field is the field's box.
-use Rattle.std.proofs.Common.{◌≡◌, ◌∙◌, ◌*◌, ◌^◌, ◌<◌, ◌≤◌, sym, ap, ap₂, arith, ℕ, ℤ, pos, ◌+ℤ◌, unsigned_abs, List, length, map, get_or, lit<}
+use Rattle.std.proofs.Common.{◌≡◌, ◌∙◌, ◌^◌, ◌<◌, sym, ap, ap₂, ℕ, ℤ, pos, ◌+ℤ◌, unsigned_abs, List, length, map, get_or, lit<}
 use Rattle.std.specs.Prelude.{All, sum_by}
 use Rattle.std.proofs.lemmas.List.Elements.{Contains-get_or}
 use Rattle.std.proofs.lemmas.Option.{slice_get-get_or}
-use mathlib.Core.Logic.{⊎_elim}
 use Rattle.exact_math.specs.Ends.{BoxEnds, BoxEndsContain, add_box, widen_box}
 use Rattle.exact_math.specs.Gaussian.{Gaussian}
 use Rattle.exact_math.specs.Orders.{IsOrder}
+use Rattle.exact_math.proofs.Orders.{order_bounds}
 use Rattle.cell_name.specs.Square.{Square, side}
 use Rattle.cell_lists.specs.Lists.{AreLists, lists_of}
 use Rattle.cell_lists.specs.Row.{row}
@@ -23,14 +23,14 @@ use Rattle.quadtree.specs.TreeModel.{TreeModel, IsTreeOf, IsLeafOf, size, square
 use Rattle.row_recursions.specs.Rows.{multipole_value}
 use Rattle.soundness.specs.Computed.{total_box}
 use Rattle.soundness.specs.Squares.{offset}
-use Rattle.tree_field.specs.Field.{sources_in, multipole_row, local_row, single_radius, multipole_values_at, pairs_at, box_in, target_box, targets}
+use Rattle.tree_field.specs.Field.{sources_in, multipole_row, local_row, single_radius_in, multipole_values_at, pairs_at, box_in, target_box, targets}
 use Rattle.tree_field.specs.Lists.{TreeLists}
 use Rattle.tree_field.proofs.Program.{lists_of_tree, nodes_of_tree, leaves_of_tree}
 use Rattle.tree_field.proofs.Sums.{total_box-map, total_box-same, sum_by-map, sum_by-same}
 use Rattle.tree_field.proofs.Whole.{field_contains}
 use Rattle.tree_rows.specs.FieldRows.{IsFieldOf}
-use Rattle.tree_rows.specs.FlatRows.{row_at, weight_at}
-use Rattle.truncation.specs.Tails.{ceiling, single_tail}
+use Rattle.tree_rows.specs.FlatRows.{row_at, stored_weight}
+use Rattle.truncation.specs.Tails.{single_radius}
 use Rattle.target_values.specs.Field.{AreRowsOfLeaf}
 use Rattle.target_values.specs.Points.{no_point, point_at}
 use Rattle.target_values.specs.Values.{sources_of, near_pairs, far_values, far_radius, value_at}
@@ -62,11 +62,11 @@ module _ (points : List Point) (cap P : ℕ) (tree : TreeModel) (lists : EntryLi
       (λ i d l. let n : ℕ = get_or (row lists.w b) i d in multipole_value-same P (row_at P up n) (multipole_row points cap (square_of tree n)) (side (square_of tree n)) (offset (square_of tree n) z) (rows.up_are.each n (Contains-get_or (row lists.w b) i d l)))
       ∙ sym (ap (total_box f) (entries_same W) ∙ total_box-map f (square_of tree) (row lists.w b))
 
-  lost_same : far_radius P tree lists weights b ≡ sum_by (λ c. single_radius points P (side c) c) (field.entries W (square_of tree b))
+  lost_same : far_radius P tree lists weights b ≡ sum_by (λ c. single_radius_in points P (side c) c) (field.entries W (square_of tree b))
   lost_same =
-      let f : Square → ℕ = λ c. single_radius points P (side c) c in
-      sum_by-same (λ n. ceiling (weight_at weights n * single_tail P) (side (square_of tree n))) (λ n. f (square_of tree n)) (row lists.w b)
-      (λ i d l. let n : ℕ = get_or (row lists.w b) i d in ap (λ w. ceiling (unsigned_abs w * single_tail P) (side (square_of tree n))) (rows.weights_are.each n (number_below W i d l)))
+      let f : Square → ℕ = λ c. single_radius_in points P (side c) c in
+      sum_by-same (λ n. single_radius P (stored_weight weights n) (side (square_of tree n))) (λ n. f (square_of tree n)) (row lists.w b)
+      (λ i d l. let n : ℕ = get_or (row lists.w b) i d in ap (λ w. single_radius P (unsigned_abs w) (side (square_of tree n))) (rows.weights_are.each n (number_below W i d l)))
       ∙ sym (ap (sum_by f) (entries_same W) ∙ sum_by-map f (square_of tree) (row lists.w b))
 
   pub value_is : (z : Gaussian) → value_at P tree lists points up local weights radius b z ≡ box_in points cap P field (square_of tree b) z
@@ -74,10 +74,6 @@ module _ (points : List Point) (cap P : ℕ) (tree : TreeModel) (lists : EntryLi
       ap₂ widen_box
       (ap₂ add_box (local_value-same P (row_at P local b) (local_row points cap P field (square_of tree b)) (side (square_of tree b)) (offset (square_of tree b) z) rows.local_is) (ap₂ add_box (far_same z) (near_same z)))
       (ap₂ (λ r n. r +ℤ pos n) rows.radius_is lost_same)
-
--- ---- the box of a point at a position
-order_least : (P : ℕ) → IsOrder P → 2 ≤ P
-order_least P h = ⊎_elim (λ e. omega arith) (λ l. ⊎_elim (λ e. omega arith) (λ k. ⊎_elim (λ e. omega arith) (λ e. omega arith) k) l) h
 
 pub leaf_at_position : (tree : TreeModel) (points : List Point) (cap : ℕ) → IsTreeOf 16 tree points cap → (k : ℕ) (d : Point) → k < length points → IsLeafOf 16 tree points cap (leaf_of tree k) (get_or points k d)
 leaf_at_position tree points cap h k d lt = h.leaves_are k (get_or points k d) (slice_get-get_or points k d lt)
@@ -93,4 +89,4 @@ box_is points cap P tree lists field inside are up local weights radius k lt row
 
 pub boxes_contain : (points : List Point) (cap P : ℕ) (tree : TreeModel) (field : TreeLists) → AreInGrid 16 points → IsOrder P → IsFieldOf points cap tree field
     → All (λ t. BoxEndsContain (pos (2 ^ 40)) (target_box points cap P field 16 (place t)) (direct_sum (place t) points)) (targets points)
-boxes_contain points cap P tree field inside order h = field_contains 16 points cap P field (lit< tt) (order_least P order) inside h.lists_are
+boxes_contain points cap P tree field inside order h = field_contains 16 points cap P field (lit< tt) (order_bounds P order).0 inside h.lists_are

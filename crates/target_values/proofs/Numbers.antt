@@ -26,7 +26,7 @@ use Rattle.quadtree.proofs.Distinct.{Contains-filter}
 use Rattle.row_recursions.proofs.Points.{grid_of}
 use Rattle.row_recursions.specs.Rows.{row_of}
 use Rattle.row_recursions.specs.Sizes.{RowWithin}
-use Rattle.tree_field.proofs.Members.{All-from_members, range_below}
+use Rattle.quadtree.proofs.Lists.{All-from_members, range_below}
 use Rattle.tree_rows.specs.FlatRows.{row_at, AreSameRows}
 
 -- ascending numbers below n are no more than n

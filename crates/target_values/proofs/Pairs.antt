@@ -19,7 +19,7 @@ use Rattle.tree_field.specs.Field.{sources_in}
 use Rattle.tree_field.specs.Lists.{TreeLists, AreTreeLists}
 use Rattle.tree_field.specs.Work.{targets_in, pairs_between, pairs}
 use Rattle.tree_field.proofs.Leaves.{only_leaf}
-use Rattle.tree_field.proofs.Members.{All-from_members, AllPairs-both, AllPairs-range, Contains-range, filter-filter, range_below}
+use Rattle.quadtree.proofs.Lists.{All-from_members, AllPairs-both, AllPairs-range, Contains-range, filter-filter, range_below}
 use Rattle.tree_field.proofs.Program.{nodes_of_tree, leaves_of_tree}
 use Rattle.tree_field.proofs.Sums.{sum_by-map, sum_by-same}
 use Rattle.tree_field.proofs.Work.{work_of_tree}

@@ -20,7 +20,7 @@ use Rattle.quadtree.specs.TreeModel.{TreeModel, IsTreeOf, size, square_of, leaf_
 use Rattle.quadtree.proofs.Distinct.{Contains-filter}
 use Rattle.tree_field.specs.Field.{targets}
 use Rattle.tree_field.specs.Lists.{TreeLists}
-use Rattle.tree_field.proofs.Members.{All-from_members, filter-map, range_below}
+use Rattle.quadtree.proofs.Lists.{All-from_members, filter-map, range_below}
 use Rattle.tree_field.proofs.Occupants.{is_target_from}
 use Rattle.tree_rows.specs.FieldRows.{AreFieldRows, AreWeights}
 use Rattle.target_values.specs.Field.{AreRowsOfLeaf}

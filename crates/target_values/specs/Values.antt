@@ -12,8 +12,8 @@ use Rattle.quadtree.specs.TreeModel.{TreeModel, square_of, node_of}
 use Rattle.row_recursions.specs.Rows.{local_value, multipole_value}
 use Rattle.soundness.specs.Computed.{total_box}
 use Rattle.soundness.specs.Squares.{offset}
-use Rattle.tree_rows.specs.FlatRows.{row_at, weight_at}
-use Rattle.truncation.specs.Tails.{ceiling, single_tail}
+use Rattle.tree_rows.specs.FlatRows.{row_at, stored_weight}
+use Rattle.truncation.specs.Tails.{single_radius}
 use Rattle.target_values.specs.Points.{sources_at, count_apart}
 
 module _ (tree : TreeModel) (lists : EntryLists) where
@@ -35,7 +35,7 @@ module _ (P : ℕ) (tree : TreeModel) (lists : EntryLists) where
 
   -- what the W entries can lose
   abbrev pub far_radius : List ℤ → ℕ → ℕ
-  far_radius weights b = sum_by (λ c. ceiling (weight_at weights c * single_tail P) (side (square_of tree c))) (row lists.w b)
+  far_radius weights b = sum_by (λ c. single_radius P (stored_weight weights c) (side (square_of tree c))) (row lists.w b)
 
   abbrev pub value_at : List Point → List CBox → List CBox → List ℤ → ℤ → ℕ → Gaussian → BoxEnds
   value_at points up local weights radius b z =

@@ -12,7 +12,7 @@ ghost use Rattle.quadtree.specs.TreeModel.{size, square_of, IsTree};
 ghost use Rattle.row_recursions.specs.Cells.{side_of, offset_from};
 ghost use Rattle.row_recursions.specs.Rows.{multipole_value};
 ghost use Rattle.truncation.specs.Places.{GaussianBeyond};
-ghost use Rattle.truncation.specs.Tails.{ceiling, single_tail};
+ghost use Rattle.truncation.specs.Tails.{single_radius};
 ghost use Rattle.tree_rows.specs.FlatRows.{IsWeight, row_at};
 ghost use Rattle.target_values.specs.Values.{far_values, far_radius};
 
@@ -71,9 +71,9 @@ fn add_loss(ledger: &mut Ledger, weight: i128, cell: Cell, order: u32)
     requires weight { IsWeight weight }
     requires least { 1 ≤ order }
     requires most { order ≤ 32 }
-    requires room { ledger.old.radius ≤ 2 ^ 99 }
-    ensures added { ledger.new.radius ≡ ledger.old.radius + ceiling (unsigned_abs weight * single_tail order) (side (square cell)) }
-    ensures little { ledger.new.radius ≤ ledger.old.radius + 2 ^ 73 }
+    requires room { ledger.old ≤ 2 ^ 99 }
+    ensures added { ledger.new ≡ ledger.old + single_radius order (unsigned_abs weight) (side (square cell)) }
+    ensures little { ledger.new ≤ ledger.old + 2 ^ 73 }
 {
     ledger.add_single(weight, cell.side(), order);
 }

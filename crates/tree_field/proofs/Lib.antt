@@ -1,6 +1,5 @@
 -- What the proofs of this crate rest on.
 pub mod Accounts
-pub mod Ascending
 pub mod EachList
 pub mod Entries
 pub mod Leaves

@@ -20,19 +20,19 @@ use Rattle.cell_lists.proofs.TreeNumbers.{tree_cell_at}
 use Rattle.points.specs.Points.{is_source}
 use Rattle.points.specs.declared.Point.{Point}
 use Rattle.quadtree.specs.Members.{holds_point, holds_position, members_of}
-use Rattle.quadtree.specs.Splitting.{quarters}
+use Rattle.cell_name.specs.Quarters.{quarters}
 use Rattle.quadtree.specs.Tree.{AreInGrid, IsTreeCell, IsSplit}
 use Rattle.quadtree.specs.TreeModel.{TreeModel, squares, size, square_of, node_of, leaf_of, IsTreeOf}
 use Rattle.quadtree.proofs.Distinct.{Contains-filter, Contains-into_filter}
 use Rattle.quadtree.proofs.Parents.{leaf_or_split, IsTreeCell-from_below}
 use Rattle.quadtree.proofs.PointKinds.{point_at}
-use Rattle.quadtree.proofs.TreeCells.{IsQuarter, quarters_are, quarters_contain}
+use Rattle.cell_name.proofs.Quarters.{IsQuarter, quarters_are, quarters_contain}
 use Rattle.tree_field.specs.Field.{is_source_in, sources_in, has_source}
 use Rattle.tree_field.specs.Program.{ListsOfTree, source_children, IsNodeOfField, NodesOfTree, LeavesOfTree}
 use Rattle.tree_field.specs.Work.{has_target}
-use Rattle.tree_field.proofs.Ascending.{same_list, quarters_ascend}
+use Rattle.quadtree.proofs.Ascending.{same_list, quarters_ascend}
 use Rattle.tree_field.proofs.Leaves.{same_test, only_leaf}
-use Rattle.tree_field.proofs.Members.{image_of, Contains-into_map, AllPairs-map, AllPairs-both, AllPairs-range, Contains-range, range_below, filter-filter}
+use Rattle.quadtree.proofs.Lists.{image_of, Contains-into_map, AllPairs-map, AllPairs-both, AllPairs-range, Contains-range, range_below, filter-filter}
 use Rattle.tree_field.proofs.Numbers.{first_is_root, level_positive}
 use Rattle.tree_field.proofs.Occupants.{HasTarget-from_test, test-from_HasTarget, HasSource-from_test, test-from_HasSource, occupied_from_source}
 

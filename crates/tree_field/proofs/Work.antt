@@ -19,7 +19,7 @@ use Rattle.tree_field.specs.Laws.{TranslationsAreFew}
 use Rattle.tree_field.specs.Program.{WorkOfTree}
 use Rattle.tree_field.specs.Work.{has_target, pairs_between}
 use Rattle.tree_field.proofs.Leaves.{same_test}
-use Rattle.tree_field.proofs.Members.{All-from_members, range_below}
+use Rattle.quadtree.proofs.Lists.{All-from_members, range_below}
 use Rattle.tree_field.proofs.Numbers.{first_is_root, level_positive}
 use Rattle.tree_field.proofs.Program.{lists_of_tree, nodes_of_tree}
 use Rattle.tree_field.proofs.Sums.{sum_by-map, sum_by-same}

@@ -9,14 +9,14 @@ use Rattle.kernel_table.specs.Kernel.{kernel_entry}
 use Rattle.points.specs.Points.{is_source, place}
 use Rattle.near_field.specs.Pair.{pair_box}
 use Rattle.points.specs.declared.Point.{Point}
-use Rattle.quadtree.specs.Splitting.{quarters}
+use Rattle.cell_name.specs.Quarters.{quarters}
 use Rattle.quadtree.specs.Tree.{count_in}
 use Rattle.row_recursions.specs.Rows.{shifted_up, converted, shifted_down, local_value, multipole_value}
 use Rattle.row_recursions.specs.Sources.{source_of}
 use Rattle.soundness.specs.Computed.{total_box, total_row, moments_in, far_coefficients_in}
 use Rattle.soundness.specs.Squares.{offset, quadrant, sides_between}
 use Rattle.truncation.specs.Entries.{weight}
-use Rattle.truncation.specs.Tails.{ceiling, pair_tail, single_tail}
+use Rattle.truncation.specs.Tails.{pair_radius, single_radius}
 use Rattle.tree_field.specs.Lists.{TreeLists}
 
 -- ---- points and cells
@@ -47,12 +47,12 @@ module _ (points : List Point) where
     weight_in c = sum_by (λ p. weight P (source_of p)) (sources_in c)
 
     -- two cells of the side s
-    abbrev pub pair_radius : ℕ → Square → ℕ
-    pair_radius s c = ceiling (weight_in c * pair_tail P) s
+    abbrev pub pair_radius_in : ℕ → Square → ℕ
+    pair_radius_in s c = pair_radius P (weight_in c) s
 
     -- a cell of the side s, and the other seen by its points
-    abbrev pub single_radius : ℕ → Square → ℕ
-    single_radius s c = ceiling (weight_in c * single_tail P) s
+    abbrev pub single_radius_in : ℕ → Square → ℕ
+    single_radius_in s c = single_radius P (weight_in c) s
 
   module _ (cap : ℕ) where
     -- whether the cell has more points than a leaf may have
@@ -101,7 +101,7 @@ module _ (points : List Point) where
       -- ---- radii
       unfoldable pub radius_at_level : ℕ → Square → ℕ
       radius_at_level zero b = 0
-      radius_at_level (suc level) b = radius_at_level level (parent b) + (sum_by (pair_radius P (side b)) (lists.entries V b) + sum_by (single_radius P (side b)) (lists.entries X b))
+      radius_at_level (suc level) b = radius_at_level level (parent b) + (sum_by (pair_radius_in P (side b)) (lists.entries V b) + sum_by (single_radius_in P (side b)) (lists.entries X b))
 
       abbrev pub local_radius : Square → ℕ
       local_radius b = radius_at_level b.level b
@@ -118,7 +118,7 @@ module _ (points : List Point) where
 
       -- what all entries on the way to the leaf can lose
       abbrev pub radius_in : Square → ℕ
-      radius_in b = local_radius b + sum_by (λ c. single_radius P (side c) c) (lists.entries W b)
+      radius_in b = local_radius b + sum_by (λ c. single_radius_in P (side c) c) (lists.entries W b)
 
       abbrev pub box_in : Square → Gaussian → BoxEnds
       box_in b z = widen_box (add_box (local_value_at b z) (add_box (multipole_values_at b z) (pairs_at b z))) (pos (radius_in b))

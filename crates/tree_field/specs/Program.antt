@@ -7,7 +7,7 @@ use Rattle.cell_lists.specs.declared.entry_lists.EntryLists.{EntryLists}
 use Rattle.letters.specs.declared.Letter.{Letter}
 use Rattle.points.specs.Points.{is_source, place}
 use Rattle.points.specs.declared.Point.{Point}
-use Rattle.quadtree.specs.Splitting.{quarters}
+use Rattle.cell_name.specs.Quarters.{quarters}
 use Rattle.quadtree.specs.Tree.{AreInGrid}
 use Rattle.quadtree.specs.TreeModel.{TreeModel, squares, size, square_of, node_of, leaf_of, IsTreeOf}
 use Rattle.tree_field.specs.Field.{sources_in, has_source, leaf_at}

@@ -1,5 +1,5 @@
 -- What the members of a cell weigh together.
-use Rattle.std.proofs.Common.{ℕ, ◌≡◌, ◌+◌, ◌*◌, ◌^◌, ◌≤◌, ◌<◌, ℤ, pos, ◌+ℤ◌, SFits, to_z, of_z, List, [], ◌∷◌, length, get_or, map, take, Bool, true, false, cond, not, filter, refl, sym, ap, ◌∙◌, subst, arith}
+use Rattle.std.proofs.Common.{ℕ, ◌≡◌, ◌+◌, ◌^◌, ◌≤◌, ◌<◌, ℤ, pos, ◌+ℤ◌, SFits, to_z, of_z, List, [], ◌∷◌, length, get_or, map, take, Bool, true, false, cond, not, filter, refl, sym, ap, ◌∙◌, subst, arith}
 use Rattle.std.specs.Int.{w128}
 use Rattle.std.specs.Prelude.{Contains, sum_by}
 use Rattle.std.specs.List.{range_with_len}
@@ -8,11 +8,9 @@ use Rattle.std.proofs.lemmas.Int.{ints}
 use Rattle.std.proofs.lemmas.List.Elements.{All-weaker, Contains-get_or}
 use Rattle.std.proofs.lemmas.List.Filters.{sum_by-filter_both}
 use Rattle.std.proofs.lemmas.List.Sums.{sum_by-cons, sum_by-le-sum_by, sum_by_more_le}
-use Rattle.std.proofs.Math.Nat.{mul-le-mul_right}
 use Rattle.exact_math.specs.Gaussian.{Gaussian}
-use Rattle.exact_math.specs.Sizes.{abs_gaussian}
 use Rattle.cell_name.specs.Square.{Square}
-use Rattle.points.specs.Points.{is_source, place, pole, dipole}
+use Rattle.points.specs.Points.{is_source, place}
 use Rattle.points.specs.Limits.{InRange, weight64, total_weight}
 use Rattle.points.specs.declared.Kind.{Kind}
 use Rattle.points.specs.declared.Kind.TheVariants.{Charge, Dipole, Vortex, Target}
@@ -21,10 +19,10 @@ use Rattle.quadtree.specs.Members.{holds_position, members_of}
 use Rattle.quadtree.specs.TreeModel.{TreeModel, size, square_of, node_of}
 use Rattle.quadtree.proofs.Distinct.{Contains-filter}
 use Rattle.row_recursions.specs.Sources.{source_at, source_of}
-use Rattle.row_recursions.proofs.Points.{grid_of}
+use Rattle.row_recursions.proofs.Points.{grid_of, weight-le-weight64}
 use Rattle.truncation.specs.Entries.{weight}
 use Rattle.tree_field.specs.Field.{is_source_in, weight_in}
-use Rattle.tree_field.proofs.Members.{range_below}
+use Rattle.quadtree.proofs.Lists.{range_below}
 use Rattle.tree_field.proofs.Program.{nodes_of_tree}
 use Rattle.tree_field.proofs.Sums.{sum_by-map}
 use Rattle.tree_rows.specs.Trees.{IsTreeOfPoints}
@@ -40,23 +38,10 @@ weighs P p = weight P (source_of p)
 abbrev pub weighs_at : ℕ → List Point → ℕ → ℕ
 weighs_at P points k = weighs P (get_or points k no_point)
 
--- 2 P is at most 64
-lighter : (P : ℕ) (p : Point) → P ≤ 32 → weighs P p ≤ weight64 p
-lighter P p few = by (place p) p.kind
-  where
-    more : (b : ℕ) → 2 * P * b ≤ 64 * b
-    more b = mul-le-mul_right b (omega arith)
-
-    by : (z : Gaussian) (k : Kind) → weight P (source_at z k) ≤ abs_gaussian (pole k) + 64 * abs_gaussian (dipole k)
-    by z (Charge q) = omega arith
-    by z (Dipole re im) = let h = more (abs_gaussian (dipole (Dipole re im))) in omega (arith, h)
-    by z (Vortex g) = omega arith
-    by z Target = omega arith
-
 pub cell_light : (points : List Point) (P : ℕ) (c : Square) → P ≤ 32 → weight_in points P c ≤ total_weight points
 cell_light points P c few =
     let a = sum_by-filter_both (is_source_in c) (λ p. not (is_source_in c p)) (λ p. refl) (weighs P) points in
-    let b = sum_by-le-sum_by (weighs P) weight64 points (λ p. lighter P p few) in
+    let b = sum_by-le-sum_by (weighs P) weight64 points (λ p. weight-le-weight64 P p few) in
     omega (arith, a, b)
 
 -- ---- a target weighs nothing

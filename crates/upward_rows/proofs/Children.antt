@@ -9,11 +9,11 @@ use Rattle.cell_name.specs.Square.{Square, parent}
 use Rattle.cell_name.specs.declared.cell.Quadrant.{Quadrant}
 use Rattle.cell_name.proofs.Quarters.{parent-child}
 use Rattle.points.specs.declared.Point.{Point}
-use Rattle.quadtree.specs.Splitting.{quarter}
+use Rattle.cell_name.specs.Quarters.{quarter}
 use Rattle.quadtree.specs.TreeModel.{TreeModel, size, square_of, node_of, IsTree, IsTreeOf}
 use Rattle.quadtree.proofs.Distinct.{Contains-filter, Contains-into_filter}
 use Rattle.tree_field.specs.Program.{source_children}
-use Rattle.tree_field.proofs.Members.{Contains-range, range_below}
+use Rattle.quadtree.proofs.Lists.{Contains-range, range_below}
 use Rattle.tree_rows.specs.Trees.{IsTreeOfPoints}
 use Rattle.upward_rows.proofs.Counts.{in_grid}
 use Rattle.upward_rows.proofs.Trees.{quarter_behind}

@@ -9,7 +9,7 @@ use Rattle.cell_name.specs.Square.{Square}
 use Rattle.field_sizes.proofs.MultipoleSizes.{multipole_row-light}
 use Rattle.field_sizes.proofs.RowTotals.{wider}
 use Rattle.points.specs.declared.Point.{Point}
-use Rattle.quadtree.specs.Splitting.{quarters}
+use Rattle.cell_name.specs.Quarters.{quarters}
 use Rattle.quadtree.specs.TreeModel.{TreeModel, size, squares, square_of, node_of, IsTreeOf}
 use Rattle.row_recursions.specs.Rows.{shifted_up}
 use Rattle.row_recursions.specs.Sizes.{RowWithin}

@@ -13,12 +13,12 @@ use Rattle.points.specs.Points.{is_source, IsSource}
 use Rattle.points.specs.declared.Kind.{Kind}
 use Rattle.points.specs.declared.Kind.TheVariants.{Charge, Dipole, Vortex, Target}
 use Rattle.points.specs.declared.Point.{Point}
-use Rattle.quadtree.specs.Splitting.{quarter, quarters}
+use Rattle.cell_name.specs.Quarters.{quarter, quarters}
 use Rattle.quadtree.specs.Tree.{count_in, IsTreeCell, IsSplit, HasSource}
 use Rattle.quadtree.specs.TreeModel.{TreeModel, size, squares, square_of, node_of, IsTreeOf}
 use Rattle.quadtree.proofs.Counts.{count_by-listed}
 use Rattle.quadtree.proofs.Parents.{leaf_or_split, IsTreeCell-from_below}
-use Rattle.quadtree.proofs.TreeCells.{IsQuarter, quarters_are}
+use Rattle.cell_name.proofs.Quarters.{IsQuarter, quarters_are}
 use Rattle.row_recursions.specs.Cells.{sign, quadrant_of}
 use Rattle.exact_math.specs.Gaussian.{gaussian}
 use Rattle.soundness.specs.Squares.{quadrant}

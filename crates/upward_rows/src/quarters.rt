@@ -1,7 +1,7 @@
 //! The quarters of a cell, by their numbers in the tree.
 ghost use Rattle.std.specs.Prelude.{◌≡◌, ◌/◌, ◌%◌, ◌≤◌, ◌<◌, true, MatchOption, ℕ};
 ghost use Rattle.cell_name.specs.Cell.{half_number};
-ghost use Rattle.quadtree.specs.Splitting.{quarter};
+ghost use Rattle.cell_name.specs.Quarters.{quarter};
 ghost use Rattle.quadtree.specs.TreeModel.{size, square_of, node_of};
 
 use cell_name::Quadrant;

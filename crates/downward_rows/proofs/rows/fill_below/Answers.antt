@@ -2,6 +2,7 @@ use Rattle.std.proofs.Common.{ℕ, ◌≡◌, ◌+◌, ◌*◌, ◌^◌, List, l
 use Rattle.std.specs.Prelude.{All, sum_by}
 use Rattle.exact_math.specs.Ends.{add_box}
 use Rattle.cell_name.specs.Cell.{square}
+use Rattle.cell_name.proofs.Quarters.{right_of_parent, top_of_parent}
 use Rattle.cell_lists.proofs.TreeNumbers.{read_at}
 use Rattle.cell_lists.specs.Row.{row}
 use Rattle.local_shift.proofs.Sums.{nothing_at}
@@ -58,7 +59,7 @@ returns-clause-row g c = λ k h.
     (total_row (far_row_of c.args.tree.now c.args.points.now (square c.index-cells-n.result)) c.x_list.result.now)
     (nothing_at g.row.P c.clear.new.cells (c.clear.auto.cells ∙ c.requires.len) c.clear.ensures) c.shift_down.ensures.adds c.add_pairs.ensures.adds c.add_far_cells.ensures.adds k h
     ∙ ap₂ add_box
-    (ap (λ q. shifted_down g.row.P (row_of c.args.parent.cells.now) q k) (quadrant_read c.quadrant.result (square c.index-cells-n.result) c.quadrant.ensures.right c.quadrant.ensures.top ∙ ap quadrant e))
+    (ap (λ q. shifted_down g.row.P (row_of c.args.parent.cells.now) q k) (quadrant_read c.quadrant.result (square c.index-cells-n.result) (right_of_parent (square c.index-cells-n.result) c.quadrant.result c.quadrant.ensures) (top_of_parent (square c.index-cells-n.result) c.quadrant.result c.quadrant.ensures) ∙ ap quadrant e))
     (ap₂ add_box (ap (λ l. total_row (pair_row g.row.P c.args.tree.now c.args.up.now c.args.n) l k) c.v_list.ensures)
     (ap₂ (λ b l. total_row (far_row_of c.args.tree.now c.args.points.now b) l k) e c.x_list.ensures))
 

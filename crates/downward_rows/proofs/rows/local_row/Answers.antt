@@ -2,10 +2,10 @@ use Rattle.std.proofs.Common.{◌*◌, ◌+◌, ◌^◌, ◌≤◌, length, ap, 
 use Rattle.std.specs.Prelude.{sum_by}
 use Rattle.std.proofs.lemmas.Bool.{false≢true}
 use Rattle.exact_math.specs.Ends.{add_box}
+use Rattle.exact_math.proofs.Orders.{order_bounds}
 use Rattle.cell_lists.proofs.CellNumbers.{level_positive, parent_before}
 use Rattle.cell_lists.specs.Row.{row}
 use Rattle.quadtree.specs.TreeModel.{square_of, node_of}
-use Rattle.row_recursions.proofs.RowSizes.{order_small}
 use Rattle.row_recursions.specs.Rows.{row_of}
 use Rattle.soundness.specs.Computed.{total_row}
 use Rattle.soundness.specs.Squares.{quadrant}
@@ -24,7 +24,7 @@ pub row_of_cell-parent-requires : goal.row_of_cell-parent-requires
 row_of_cell-parent-requires g c =
     let some = some_tree c.args.points.now c.args.tree.now c.requires.tree.tree_is in
     let p = parent_before c.args.tree.now some c.args.n c.if-n-gt0.true c.requires.number in
-    let small = order_small g.row.P c.requires.order in
+    let small = order_bounds g.row.P c.requires.order in
     let few = c.requires.tree.tree_is.is_tree.few in
     (lit< tt, (omega (arith, small), (omega (arith, c.parent.ensures, p.before, few, c.requires.number), subst (λ m. m * g.row.P + g.row.P ≤ length c.args.above.now) (sym c.parent.ensures) (c.requires.above c.if-n-gt0.true))))
 

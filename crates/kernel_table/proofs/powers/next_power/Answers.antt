@@ -1,9 +1,8 @@
 use Rattle.std.proofs.Common.{◌∙◌, ap₂, arith, pos, neg_ℤ, ◌*ℤ◌}
 use Rattle.std.proofs.lemmas.Int.{ints}
 use Rattle.exact_math.specs.Ends.{gquot_box}
-use Rattle.exact_math.specs.Gaussian.{gaussian, norm_gaussian}
+use Rattle.exact_math.specs.Gaussian.{gaussian, norm_gaussian, conj, scale_gaussian}
 use Rattle.complex_box.specs.Box.{box_ends, number}
-use Rattle.kernel_table.specs.Kernel.{conj_multiple}
 use Rattle.kernel_table.proofs.Norms.{parts, wide-is}
 use Rattle.kernel_table.proofs.Sizes.{gscale-fits}
 use Rattle.kernel_table.proofs.powers.next_power.Goals as goal
@@ -21,7 +20,7 @@ returns c =
     let low = c.norm.ensures.positive in
     let high = c.norm.ensures.small in
     c.gquot.ensures.ends
-    ∙ ap₂ (λ g n. gquot_box (box_ends c.args.power) g n) {y = conj_multiple 2 (number c.args.e)} {v = norm_gaussian (number c.args.e)}
+    ∙ ap₂ (λ g n. gquot_box (box_ends c.args.power) g n) {y = conj (scale_gaussian 2 (number c.args.e))} {v = norm_gaussian (number c.args.e)}
     (ap₂ gaussian {y = pos 2 *ℤ c.args.e.re} {v = neg_ℤ (pos 2 *ℤ c.args.e.im)}
     (omega (arith, ints, p.re_low, p.re)) (omega (arith, ints, p.im_low, p.im)))
     (wide-is c.norm.result (omega (arith, ints, low)) (omega (arith, ints, high)) ∙ c.norm.ensures.value)

@@ -2,7 +2,7 @@ use Rattle.std.proofs.Common.{◌≡◌, ℕ, List, Ok, Err, sym, ap, ◌∙◌,
 use Rattle.std.proofs.lemmas.Bool.{false≢true}
 use Rattle.points.specs.declared.Point.{Point}
 use Rattle.points.specs.Limits.{InRange}
-use Rattle.particle_text.specs.Nearest.{nearest_point}
+use Rattle.particle_text.specs.Private.{cut_point}
 use Rattle.particle_text.specs.Text.{LineSpells}
 use Rattle.particle_text.proofs.FormFaults.{syntax_alone, range_alone, no_form_fault}
 use Rattle.particle_text.proofs.OneForm.{one_form}
@@ -16,7 +16,7 @@ pub returns-in-None-clause-refuses : goal.returns-in-None-clause-refuses
 returns-in-None-clause-refuses c = λ kind fault. ap Err (syntax_alone c.args.line.now c.in-None.ensures.none kind fault)
 
 -- a point that is read as one out of range is out of range
-outside : (p q : Point) → p ≡ nearest_point q → (InRange p → ⊥) → InRange q → ⊥
+outside : (p q : Point) → p ≡ cut_point q → (InRange p → ⊥) → InRange q → ⊥
 outside p q read out range = out (subst InRange (sym (read ∙ point_kept q range)) range)
 
 pub returns-in-Some-clause-accepts : goal.returns-in-Some-clause-accepts
@@ -31,7 +31,7 @@ returns-in-Some-clause-refuses c = λ kind fault.
     ap Err (range_alone c.args.line.now found.0 found.1 kind fault)
 
 -- a point that is read as one in range is the one that is read
-inside : (line : List ℕ) (p q : Point) → LineSpells line q → p ≡ nearest_point q → InRange p → LineSpells line p
+inside : (line : List ℕ) (p q : Point) → LineSpells line q → p ≡ cut_point q → InRange p → LineSpells line p
 inside line p q spells read range = subst (LineSpells line) (sym (read ∙ point_back q (subst InRange read range))) spells
 
 pub returns-in-Some-2-clause-ok : goal.returns-in-Some-2-clause-ok

@@ -2,11 +2,11 @@
 use Rattle.std.proofs.Common.{◌+◌, ◌-◌, ◌^◌, ◌≤◌, length, sym, subst, ◌∙◌, arith}
 use Rattle.std.proofs.lemmas.List.Elements.{All-contains}
 use Rattle.exact_math.specs.Ends.{BoxEndsWithin}
+use Rattle.exact_math.proofs.Orders.{order_bounds}
 use Rattle.quadtree.specs.TreeModel.{size}
 use Rattle.row_recursions.specs.Sizes.{RowWithin}
-use Rattle.row_recursions.proofs.RowSizes.{order_small}
 use Rattle.tree_field.specs.Program.{source_children}
-use Rattle.tree_field.proofs.Members.{All-from_members}
+use Rattle.quadtree.proofs.Lists.{All-from_members}
 use Rattle.tree_rows.specs.FlatRows.{row_at}
 use Rattle.upward_rows.proofs.Children.{tree_is, child_behind}
 use Rattle.upward_rows.proofs.RowFrom.{row_small}
@@ -53,4 +53,4 @@ returns-clause-row g c = λ cap is rows k lt.
 pub returns-clause-small : goal.returns-clause-small
 returns-clause-small g c = λ cap is rows k lt.
     subst (BoxEndsWithin (2 ^ 74)) (sym (returns-clause-row g c cap is rows k lt))
-    (row_small c.args.tree.now c.args.points.now c.requires.tree c.args.n c.requires.cell g.row.P cap (omega (arith, order_small g.row.P c.requires.order)) is k lt)
+    (row_small c.args.tree.now c.args.points.now c.requires.tree c.args.n c.requires.cell g.row.P cap (omega (arith, order_bounds g.row.P c.requires.order)) is k lt)

@@ -3,16 +3,16 @@ use Rattle.std.proofs.Common.{◌≡◌, ℕ, ◌+◌, ◌-◌, ◌*◌, ◌^◌
 use Rattle.std.proofs.lemmas.List.{take_all}
 use Rattle.std.proofs.lemmas.List.Elements.{All-contains}
 use Rattle.exact_math.specs.Ends.{BoxEnds, BoxEndsWithin, add_box}
+use Rattle.exact_math.proofs.Orders.{order_bounds}
 use Rattle.complex_box.specs.Counts.{Counts}
 use Rattle.complex_box.proofs.Sizes.{box_wider}
 use Rattle.cell_lists.proofs.TreeNumbers.{read_at}
 use Rattle.cell_name.specs.Square.{Square}
-use Rattle.quadtree.specs.Splitting.{quarter, quarters}
+use Rattle.cell_name.specs.Quarters.{quarter, quarters}
 use Rattle.quadtree.specs.TreeModel.{size, squares, square_of}
 use Rattle.row_recursions.specs.Cells.{quadrant_of}
 use Rattle.row_recursions.specs.Rows.{row_of, shifted_up}
 use Rattle.row_recursions.specs.Sizes.{RowWithin}
-use Rattle.row_recursions.proofs.RowSizes.{order_small}
 use Rattle.soundness.specs.Computed.{total_row}
 use Rattle.soundness.specs.Squares.{quadrant}
 use Rattle.tree_field.specs.Field.{has_source, leaf_row}
@@ -149,7 +149,7 @@ returns-then-is_leaf-clause-row g c = λ cap is same k h.
 pub returns-then-is_leaf-clause-small : goal.returns-then-is_leaf-clause-small
 returns-then-is_leaf-clause-small g c = λ cap is same k h.
     subst (BoxEndsWithin (2 ^ 74)) (sym (returns-then-is_leaf-clause-row g c cap is same k h))
-    (row_small c.args.tree.now c.args.points.now c.requires.tree c.args.n (omega (arith, c.requires.cell, c.requires.first)) g.row.P cap (omega (arith, order_small g.row.P c.requires.order)) is k h)
+    (row_small c.args.tree.now c.args.points.now c.requires.tree c.args.n (omega (arith, c.requires.cell, c.requires.first)) g.row.P cap (omega (arith, order_bounds g.row.P c.requires.order)) is k h)
 
 -- ---- another cell
 pub returns-after-loop-k-clause-made : goal.returns-after-loop-k-clause-made
@@ -170,4 +170,4 @@ returns-after-loop-k-clause-row g c = λ cap is same k h.
 pub returns-after-loop-k-clause-small : goal.returns-after-loop-k-clause-small
 returns-after-loop-k-clause-small g c = λ cap is same k h.
     subst (BoxEndsWithin (2 ^ 74)) (sym (returns-after-loop-k-clause-row g c cap is same k h))
-    (row_small c.args.tree.now c.args.points.now c.requires.tree c.args.n (omega (arith, c.requires.cell, c.requires.first)) g.row.P cap (omega (arith, order_small g.row.P c.requires.order)) is k h)
+    (row_small c.args.tree.now c.args.points.now c.requires.tree c.args.n (omega (arith, c.requires.cell, c.requires.first)) g.row.P cap (omega (arith, order_bounds g.row.P c.requires.order)) is k h)

@@ -1,6 +1,6 @@
 -- The rows of the quarters so far that have a source, shifted up.
 use Rattle.std.proofs.Common.{◌≡◌, ◌+◌, ◌-◌, ◌*◌, ◌^◌, ◌≤◌, take, length, filter}
-use Rattle.quadtree.specs.Splitting.{quarters}
+use Rattle.cell_name.specs.Quarters.{quarters}
 use Rattle.quadtree.specs.TreeModel.{square_of}
 use Rattle.row_recursions.specs.Rows.{row_of}
 use Rattle.row_recursions.specs.Sizes.{RowWithin}

@@ -4,13 +4,13 @@ use Rattle.std.specs.Prelude.{sum_by}
 use Rattle.std.specs.List.{range_with_len}
 use Rattle.std.proofs.lemmas.Bool.{cases_lt}
 use Rattle.exact_math.specs.Ends.{BoxEndsWithin}
+use Rattle.exact_math.proofs.Orders.{order_bounds}
 use Rattle.complex_box.specs.Box.{box_ends}
 use Rattle.quadtree.specs.TreeModel.{size, square_of}
 use Rattle.row_recursions.specs.Sizes.{RowWithin}
-use Rattle.row_recursions.proofs.RowSizes.{order_small}
 use Rattle.tree_field.specs.Field.{multipole_row}
 use Rattle.tree_field.specs.Program.{source_children}
-use Rattle.tree_field.proofs.Members.{All-from_members}
+use Rattle.quadtree.proofs.Lists.{All-from_members}
 use Rattle.tree_rows.specs.FlatRows.{row_at}
 use Rattle.upward_rows.specs.Upward.{shifts_into}
 use Rattle.upward_rows.proofs.Children.{tree_is, child_behind}
@@ -29,7 +29,7 @@ fill_row-requires-clause-small g c =
     let capacity = c.requires.tree.cap in
     let is = c.requires.tree.is_tree in
     let n = c.loop-n.n - 1 in
-    let few = order_small P c.requires.order in
+    let few = order_bounds P c.requires.order in
     All-from_members (λ m. RowWithin P (2 ^ 74) (row_at P c.loop-n.rows m)) (source_children tree n) (λ m listed k h.
     let child = child_behind tree (tree_is points tree c.requires.tree) n m listed in
     let cell = cell_is tree points capacity is m child.inside in

@@ -6,7 +6,7 @@ use Rattle.std.proofs.lemmas.List.Elements.{Contains-get_or}
 use Rattle.cell_lists.proofs.TreeNumbers.{read_at}
 use Rattle.cell_name.specs.Cell.{square}
 use Rattle.cell_name.specs.Square.{root}
-use Rattle.quadtree.specs.Splitting.{quarter}
+use Rattle.cell_name.specs.Quarters.{quarter}
 use Rattle.quadtree.specs.TreeModel.{squares, square_of}
 use Rattle.upward_rows.proofs.quarters.quarter_with_source.Goals as goal
 

@@ -2,7 +2,8 @@
 use Rattle.std.proofs.Common.{◌++◌, List, sym, ap, ◌∙◌, subst, arith, append-nil}
 use Rattle.cell_name.specs.Cell.{square}
 use Rattle.quadtree.specs.declared.split.Run.{Run}
-use Rattle.quadtree.specs.Splitting.{squares_of, quarter, AreRuns}
+use Rattle.cell_name.specs.Quarters.{quarter}
+use Rattle.quadtree.specs.Splitting.{squares_of, AreRuns}
 use Rattle.quadtree.proofs.Runs.{adds, AreRuns-push, squares_of-push}
 use Rattle.quadtree.proofs.split.Splits.push_quarter.Goals as goal
 

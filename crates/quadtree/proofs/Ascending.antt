@@ -6,8 +6,8 @@ use Rattle.std.proofs.lemmas.List.Kept.{AllPairs-cons}
 use Rattle.cell_name.specs.Order.{IsBefore}
 use Rattle.cell_name.specs.Square.{Square, child}
 use Rattle.cell_name.proofs.Order.{IsBefore-irrefl, IsBefore-asym}
-use Rattle.quadtree.specs.Splitting.{quarters}
-use Rattle.tree_field.proofs.Members.{rest_differ, later}
+use Rattle.cell_name.specs.Quarters.{quarters}
+use Rattle.quadtree.proofs.Lists.{rest_differ, later}
 
 before_later : (x y : Square) (xs : List Square) → AllPairs IsBefore (x ∷ xs) → Contains xs y → IsBefore x y
 before_later x y xs up h = subst (IsBefore x) h.2 (up 0 (suc h.0) y (omega arith) (omega (arith, h.1)))
