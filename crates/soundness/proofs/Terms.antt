@@ -116,7 +116,7 @@ elsewhere t p h = by (is_at t p) refl
 same_term : (t z : Gaussian) (a : Strength) → complex_value (exact_term t (source_at z a)) ≡ complex_value (strength_term a (sub_gaussian t z))
 same_term t z (Pole re im) = refl
 same_term t z (Dipole re im) = refl
-same_term t z Nothing = pole-value nothing (sub_gaussian t z) ∙ ap (λ a. a *ℂ inverse_ℂ (value (sub_gaussian t z))) value-nothing ∙ times_zero (inverse_ℂ (value (sub_gaussian t z))) ∙ sym (Stands-zero.is)
+same_term t z Nothing = pole-value zero_gaussian (sub_gaussian t z) ∙ ap (λ a. a *ℂ inverse_ℂ (value (sub_gaussian t z))) value-nothing ∙ times_zero (inverse_ℂ (value (sub_gaussian t z))) ∙ sym (Stands-zero.is)
   where
     times_zero : (z : ℂ) → of_int_ℂ (pos 0) *ℂ z ≡ of_int_ℂ (pos 0)
     times_zero z = ring1 complex_rationals z (λ z. search quotes depth 9) tt
