@@ -12,6 +12,3 @@ mod walk;
 pub use entry_lists::EntryLists;
 pub use gather::lists;
 pub use walk::first_apart;
-
-#[cfg(test)]
-mod tests;

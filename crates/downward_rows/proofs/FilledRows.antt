@@ -4,6 +4,7 @@ use Rattle.std.specs.Prelude.{All, IsTrue, ◌==◌}
 use Rattle.std.proofs.lemmas.Bool.{cases_lt}
 use Rattle.std.proofs.lemmas.List.{take-append-drop, length-append, length-take}
 use Rattle.exact_math.specs.Ends.{BoxEnds, BoxEndsWithin, zero_box, add_box}
+use Rattle.complex_box.specs.Rows.{IsZero}
 use Rattle.exact_math.specs.Gaussian.{gaussian}
 use Rattle.cell_name.specs.Cell.{half_number}
 use Rattle.cell_name.specs.Square.{Square}
@@ -11,7 +12,6 @@ use Rattle.cell_name.specs.declared.cell.Quadrant.{Quadrant}
 use Rattle.cell_lists.proofs.CellNumbers.{first_level, level_positive, parent_before, IsParentOf}
 use Rattle.cell_lists.specs.Row.{row}
 use Rattle.cell_lists.specs.declared.entry_lists.EntryLists.{EntryLists}
-use Rattle.complex_box.specs.Rows.{AllZero}
 use Rattle.complex_box.specs.declared.CBox.{CBox}
 use Rattle.local_shift.proofs.Sums.{nothing_at}
 use Rattle.points.specs.declared.Point.{Point}
@@ -38,7 +38,7 @@ use Rattle.downward_rows.proofs.FlatPlaces.{room, row_before, row_here, other_ro
 use Rattle.downward_rows.proofs.Totals.{add_box-assoc}
 use Rattle.downward_rows.proofs.Trees.{some_tree, target_of_parent}
 
-pub zero_row_within : (P : ℕ) (xs : List CBox) → length xs ≡ P → AllZero xs → RowWithin P 0 (row_of xs)
+pub zero_row_within : (P : ℕ) (xs : List CBox) → length xs ≡ P → All IsZero xs → RowWithin P 0 (row_of xs)
 zero_row_within P xs e z k h = subst (BoxEndsWithin 0) (sym (nothing_at P xs e z k h)) (zero_within 0)
 
 -- what is added to a row of zeros, one after another

@@ -8,8 +8,6 @@ ghost use Rattle.points.specs.Limits.{InRange};
 ghost use Rattle.points.specs.Points.{pole, dipole};
 
 mod ledger;
-#[cfg(test)]
-mod tests;
 
 pub use ledger::Ledger;
 use points::{Point, Strength};

@@ -6,7 +6,8 @@ use lib.Signed.{◌<ℤ◌, ◌≤ℤ◌}
 use borrow.Author.Differences.{ints}
 use Prim.Native.Nat.{suc}
 use Rattle.std.specs.Prelude.{List, [], ◌∷◌, fold, All}
-use Rattle.exact_math.specs.Ends.{Ends, BoxEnds, point_ends, point_box, zero_box, add_box, neg_box, scale_box, times_box, gscale_box, quot_box, gquot_box, widen_box, EndsContain, BoxEndsContain, EndsInside, BoxEndsInside}
+use Rattle.exact_math.specs.Contains.{Contains}
+use Rattle.exact_math.specs.Ends.{BoxEnds, point_box, zero_box, add_box, neg_box, scale_box, times_box, gscale_box, quot_box, gquot_box, widen_box, BoxEndsContain, BoxEndsInside}
 use Rattle.exact_math.specs.Gaussian.{Gaussian, gaussian}
 use Rattle.exact_math.specs.Ratio.{Ratio, whole_ratio, ComplexRatio, zero_complex, whole_complex, neg_complex, over_complex, re_part, im_part, ◌+ᶜ◌, ◌-ᶜ◌, ◌*ᶜ◌}
 use Rattle.exact_math.specs.Sums.{sum_terms}
@@ -15,15 +16,6 @@ use Rattle.exact_math.proofs.RingTactic.{int_quotes, ring4, ring5, ring6}
 use Rattle.exact_math.proofs.Integers.{*-positive}
 use Rattle.exact_math.proofs.Bridges.{contains-wider, contains-same, contains-neg, contains-add, contains-sub, contains-scale, contains-mul, contains-quot, contains-widen}
 
--- ---- intervals, in units of 1/u
-pub EndsContain-point : (n : ℤ) → EndsContain (pos 1) (point_ends n) (whole_ratio n)
-EndsContain-point n = record { fraction = omega (arith, ints); above = omega (arith, ints); below = omega (arith, ints) }
-
--- wider ends
-pub EndsContain-inside : {u : ℤ} {i j : Ends} {x : Ratio} → EndsInside i j → EndsContain u i x → EndsContain u j x
-EndsContain-inside l h = contains-wider h l.lo l.hi
-
--- ---- boxes
 module _ {u : ℤ} {b : BoxEnds} {x : ComplexRatio} (h : BoxEndsContain u b x) where
   -- -x
   pub BoxEndsContain-neg : BoxEndsContain u (neg_box b) (neg_complex x)
@@ -31,7 +23,7 @@ module _ {u : ℤ} {b : BoxEnds} {x : ComplexRatio} (h : BoxEndsContain u b x) w
 
   -- wider ends
   pub BoxEndsContain-inside : {c : BoxEnds} → BoxEndsInside b c → BoxEndsContain u c x
-  BoxEndsContain-inside l = record { re = EndsContain-inside l.re h.re; im = EndsContain-inside l.im h.im }
+  BoxEndsContain-inside l = record { re = contains-wider h.re l.re.lo l.re.hi; im = contains-wider h.im l.im.lo l.im.hi }
 
   -- x/n, rounded outward
   pub BoxEndsContain-quot : (n : ℤ) → pos 1 ≤ℤ n → BoxEndsContain u (quot_box b n) (over_complex x n)
@@ -69,12 +61,15 @@ BoxEndsContain-zero {u} = record { re = contains-whole_zero; im = contains-whole
     zero_times : (u : ℤ) → u *ℤ pos 0 ≡ pos 0
     zero_times u = omega (arith, ints)
 
-    contains-whole_zero : EndsContain u (point_ends (pos 0)) (whole_ratio (pos 0))
+    contains-whole_zero : Contains u (pos 0) (pos 0) (whole_ratio (pos 0))
     contains-whole_zero = let e = zero_times u in record { fraction = omega (arith, ints); above = omega (arith, ints); below = omega (arith, ints) }
 
 -- a Gaussian integer
 pub BoxEndsContain-point : (x y : ℤ) → BoxEndsContain (pos 1) (point_box x y) (whole_complex (gaussian x y))
-BoxEndsContain-point x y = record { re = EndsContain-point x; im = EndsContain-point y }
+BoxEndsContain-point x y = record { re = contains-point x; im = contains-point y }
+  where
+    contains-point : (n : ℤ) → Contains (pos 1) n n (whole_ratio n)
+    contains-point n = record { fraction = omega (arith, ints); above = omega (arith, ints); below = omega (arith, ints) }
 
 -- g x/n, rounded once
 pub BoxEndsContain-gquot : {u : ℤ} {b : BoxEnds} {x : ComplexRatio} → BoxEndsContain u b x → (g : Gaussian) (n : ℤ) → pos 1 ≤ℤ n

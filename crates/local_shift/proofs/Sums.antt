@@ -1,10 +1,10 @@
 -- What a row holds to which a shifted row was added, and how large it is.
-use Rattle.std.proofs.Common.{◌≡◌, sym, ap, ◌∙◌, subst, ℕ, ◌+◌, ◌*◌, ◌^◌, ◌≤◌, ◌<◌, List, length, arith, ℤ, pos, ◌+ℤ◌}
+use Rattle.std.proofs.Common.{◌≡◌, sym, ap, ◌∙◌, subst, ℕ, ◌+◌, ◌*◌, ◌^◌, ◌≤◌, ◌<◌, List, length, arith, ℤ, pos, ◌+ℤ◌, All}
 use Rattle.std.proofs.lemmas.Int.{ints}
 use Rattle.exact_math.specs.Ends.{BoxEnds, BoxEndsWithin, BoxEndsContain, zero_box, add_box, quot_box}
 use Rattle.exact_math.specs.Gaussian.{Gaussian, add_gaussian, scale_gaussian}
 use Rattle.exact_math.specs.Ratio.{ComplexRatio, ◌+ᶜ◌}
-use Rattle.complex_box.specs.Rows.{AllZero, zero_cbox}
+use Rattle.complex_box.specs.Rows.{zero_cbox, IsZero}
 use Rattle.complex_box.specs.declared.CBox.{CBox}
 use Rattle.complex_box.proofs.Sizes.{box_wider, add_box_within, quot_box_within}
 use Rattle.cell_name.specs.declared.cell.Quadrant.{Quadrant}
@@ -71,5 +71,5 @@ module _ (P : ℕ) (q : Quadrant) (m : ℕ → BoxEnds) where
         (add_box_within n k (old i) (shifted_down P m (quadrant_of q) i) (w i h) (shifted_down_within P k (quadrant_of q) m (quadrant_within q) v i h)))
 
 -- the boxes of a row of zero boxes
-pub nothing_at : (P : ℕ) (xs : List CBox) → length xs ≡ P → AllZero xs → (k : ℕ) → k < P → row_of xs k ≡ zero_box
+pub nothing_at : (P : ℕ) (xs : List CBox) → length xs ≡ P → All IsZero xs → (k : ℕ) → k < P → row_of xs k ≡ zero_box
 nothing_at P xs e z k h = z k zero_cbox (omega arith)

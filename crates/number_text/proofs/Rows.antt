@@ -3,14 +3,14 @@ use Rattle.std.proofs.Common.{◌≡◌, ◌<◌, ◌≤ℤ◌, List, [], ◌∷
 use Rattle.std.proofs.lemmas.Int.{ints}
 use Rattle.number_text.specs.Numbers.{IsDigit, IsPlainNumber, IsInt, AreInts, value_after, cut_int, most_read}
 use Rattle.std.specs.List.{AllByRecursion}
-use Rattle.number_text.specs.Parts.{IsCut, IsFreeOf}
+use Rattle.number_text.specs.Parts.{IsCut, IsFreeOf, space}
 use Rattle.number_text.proofs.Spelling.{one_word}
 use Rattle.number_text.proofs.Cuts.{same_cut, tail_of}
 
 -- behind the first word stand the other numbers
-pub later_ints : (text word rest : List ℕ) (x y : ℤ) (zs : List ℤ) → IsCut 32 text word rest → AreInts text (x ∷ y ∷ zs) → AreInts rest (y ∷ zs)
+pub later_ints : (text word rest : List ℕ) (x y : ℤ) (zs : List ℤ) → IsCut space text word rest → AreInts text (x ∷ y ∷ zs) → AreInts rest (y ∷ zs)
 later_ints text word rest x y zs cut ints =
-    let same = same_cut 32 text ints.0 ints.1 word rest ints.2 cut in
+    let same = same_cut space text ints.0 ints.1 word rest ints.2 cut in
     subst (λ t. AreInts t (y ∷ zs)) same.backs ints.4
 
 -- what is read passes through a cast
@@ -41,7 +41,7 @@ one_row text (y ∷ []) (z ∷ []) same a b = ap (λ n. n ∷ []) (one_number te
 one_row text (y ∷ []) (z ∷ w ∷ zs) same a b = absurd (omega arith)
 one_row text (y ∷ x ∷ ys) (z ∷ []) same a b = absurd (omega arith)
 one_row text (y ∷ x ∷ ys) (z ∷ w ∷ zs) same a b =
-    let cuts = same_cut 32 text a.0 a.1 b.0 b.1 a.2 b.2 in
+    let cuts = same_cut space text a.0 a.1 b.0 b.1 a.2 b.2 in
     let first = one_number b.0 y z (subst (λ t. IsInt t y) cuts.fronts a.3) b.3 in
     let rest = one_row b.1 (x ∷ ys) (w ∷ zs) (omega arith) (subst (λ t. AreInts t (x ∷ ys)) cuts.backs a.4) b.4 in
     ap (λ n. n ∷ x ∷ ys) first ∙ ap (λ ns. z ∷ ns) rest

@@ -1,7 +1,7 @@
 -- Whole numbers as text, in base ten. Each number has one spelling.
 use Rattle.std.specs.Prelude.{◌≡◌, ℕ, suc, ◌+◌, ◌-◌, ◌*◌, ◌≤◌, ◌⊎◌, min, List, [], ◌∷◌, ℤ, pos, negsuc, neg_ℤ}
 use Rattle.std.specs.List.{AllByRecursion}
-use Rattle.number_text.specs.Parts.{IsCut}
+use Rattle.number_text.specs.Parts.{IsCut, space}
 
 -- a digit, `0` to `9`
 abbrev pub IsDigit : ℕ → Type 0
@@ -44,4 +44,4 @@ cut_int (negsuc n) = neg_ℤ (pos (cut_uint (suc n)))
 abbrev pub AreInts : List ℕ → List ℤ → Type 0
 AreInts text [] = text ≡ []
 AreInts text (z ∷ []) = IsInt text z
-AreInts text (z ∷ y ∷ zs) = (word rest : List ℕ) × IsCut 32 text word rest × IsInt word z × AreInts rest (y ∷ zs)
+AreInts text (z ∷ y ∷ zs) = (word rest : List ℕ) × IsCut space text word rest × IsInt word z × AreInts rest (y ∷ zs)

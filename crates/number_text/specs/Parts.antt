@@ -2,6 +2,14 @@
 use Rattle.std.specs.Prelude.{◌≡◌, ◌≢◌, ℕ, List, ◌∷◌, ◌++◌}
 use Rattle.std.specs.List.{AllByRecursion}
 
+-- ends a line
+abbrev pub line_feed : ℕ
+line_feed = 10
+
+-- stands between two words
+abbrev pub space : ℕ
+space = 32
+
 -- the byte stands nowhere in the text
 abbrev pub IsFreeOf : ℕ → List ℕ → Type 0
 IsFreeOf byte text = AllByRecursion (λ b. b ≢ byte) text

@@ -1,7 +1,7 @@
 //! Reading numbers that stand in a row, with one space between each two.
 ghost use Rattle.std.specs.Prelude.{◌≡◌, ℕ, ℤ, List, [], ◌∷◌, IfSome, IfNone};
 ghost use Rattle.number_text.specs.Numbers.{IsInt, AreInts, cut_int};
-ghost use Rattle.number_text.specs.Parts.{IsCut};
+ghost use Rattle.number_text.specs.Parts.{IsCut, space};
 
 use crate::number::read_int;
 use crate::part::cut_at;
@@ -11,8 +11,8 @@ use crate::part::cut_at;
 /// `None` where no space ends the first word, or the word spells no number.
 pub fn next_int(text: &[u8]) -> Option<(i64, &[u8])>
     ensures some { IfSome result (λ found.
-        (word : List ℕ) × (z : ℤ) × IsCut 32 text.now word found.1.now × IsInt word z × (found.0 ≡ cut_int z)) }
-    ensures none { IfNone result ((word back : List ℕ) (z : ℤ) → IsCut 32 text.now word back → IsInt word z → ⊥) }
+        (word : List ℕ) × (z : ℤ) × IsCut space text.now word found.1.now × IsInt word z × (found.0 ≡ cut_int z)) }
+    ensures none { IfNone result ((word back : List ℕ) (z : ℤ) → IsCut space text.now word back → IsInt word z → ⊥) }
 {
     let (word, back) = cut_at(b' ', text)?;
     Some((read_int(word)?, back))

@@ -9,7 +9,7 @@ use Rattle.points.specs.declared.Kind.TheVariants.{Charge, Dipole, Vortex, Targe
 use Rattle.points.specs.declared.Point.{Point}
 use Rattle.particle_text.specs.declared.line.Form.{Form}
 use Rattle.particle_text.specs.declared.line.Form.TheVariants as forms
-use Rattle.particle_text.specs.Forms.{word_of}
+use Rattle.particle_text.specs.Private.{word_of}
 use Rattle.particle_text.specs.Text.{LineSpells, name_of, strength_of, numbers_of}
 
 -- a line that is cut at its first space is read by its first word and its numbers

@@ -6,8 +6,7 @@ use Rattle.points.specs.declared.Mode.{Mode}
 use Rattle.points.specs.declared.Point.{Point}
 use Rattle.particle_text.specs.declared.TextKind.{TextKind}
 use Rattle.particle_text.specs.declared.TextKind.TheVariants.{Syntax, Range, Mixed, Many, Strength}
-use Rattle.particle_text.specs.Faults.{IsFirstKind, PointFault, FormFault, LineFault, rank}
-use Rattle.points.specs.Limits.{InRange, CanJoin}
+use Rattle.particle_text.specs.Faults.{CanJoin, IsFirstKind, PointFault, FormFault, LineFault, rank}
 use Rattle.particle_text.specs.Text.{LineSpells, BeginsWith}
 use Rattle.particle_text.proofs.OneForm.{one_form}
 
@@ -52,7 +51,7 @@ form_fault_first mode live weight bytes line rest cut Strength fault = absurd fa
 
 -- what is wrong with the point of a line, as a fault of the line, and back
 to_line : (mode : Mode) (live weight : ℕ) (bytes : List ℕ) (p : Point) (rest : List ℕ) → BeginsWith bytes p rest → (kind : TextKind) → PointFault mode live weight p kind → LineFault mode live weight bytes kind
-to_line mode live weight bytes p rest begins Syntax fault = absurd fault
+to_line mode live weight bytes p rest begins Syntax fault = absurd (fault tt)
 to_line mode live weight bytes p rest begins Range fault = (p, rest, begins, fault)
 to_line mode live weight bytes p rest begins Mixed fault = (p, rest, begins, fault)
 to_line mode live weight bytes p rest begins Many fault = (p, rest, begins, fault)
@@ -73,13 +72,5 @@ point_fault_first mode live weight bytes p rest begins kind first = record {
 }
 
 -- nothing is wrong with a point in range that can join
-no_point_fault : (mode : Mode) (live weight : ℕ) (p : Point) → InRange p → CanJoin mode live weight p → (kind : TextKind) → PointFault mode live weight p kind → ⊥
-no_point_fault mode live weight p range joins Syntax fault = fault
-no_point_fault mode live weight p range joins Range fault = fault range
-no_point_fault mode live weight p range joins Mixed fault = fault joins.mode_fits
-no_point_fault mode live weight p range joins Many fault = omega (arith, fault, joins.room)
-no_point_fault mode live weight p range joins Strength fault = omega (arith, fault, joins.light)
-
-pub no_line_fault : (mode : Mode) (live weight : ℕ) (bytes : List ℕ) (p : Point) (rest : List ℕ) → BeginsWith bytes p rest → InRange p → CanJoin mode live weight p → (kind : TextKind) → LineFault mode live weight bytes kind → ⊥
-no_line_fault mode live weight bytes p rest begins range joins kind fault =
-    no_point_fault mode live weight p range joins kind (of_line mode live weight bytes p rest begins kind fault)
+pub no_line_fault : (mode : Mode) (live weight : ℕ) (bytes : List ℕ) (p : Point) (rest : List ℕ) → BeginsWith bytes p rest → CanJoin mode live weight p → (kind : TextKind) → LineFault mode live weight bytes kind → ⊥
+no_line_fault mode live weight bytes p rest begins joins kind fault = of_line mode live weight bytes p rest begins kind fault (joins kind)

@@ -6,8 +6,9 @@ use Rattle.std.proofs.lemmas.List.Sums.{sum_by_push}
 use Rattle.points.specs.declared.Mode.{Mode}
 use Rattle.points.specs.declared.Point.{Point}
 use Rattle.particle_text.specs.declared.TextKind.{TextKind}
-use Rattle.particle_text.specs.Faults.{FirstFault, IsFirstKind, LineFault}
-use Rattle.points.specs.Limits.{InRange, FitsMode, WithinLimits, CanJoin, weight64, total_weight}
+use Rattle.particle_text.specs.declared.TextKind.TheVariants.{Range, Mixed, Many, Strength}
+use Rattle.particle_text.specs.Faults.{CanJoin, FirstFault, IsFirstKind, LineFault}
+use Rattle.points.specs.Limits.{InRange, FitsMode, WithinLimits, weight64, total_weight}
 use Rattle.particle_text.specs.Text.{BeginsWith, AreLines, Spells, head_line}
 
 -- what follows the line may be anything
@@ -33,12 +34,12 @@ one_more_line bytes (q ∷ points) line p lines begins =
 pub no_points : (mode : Mode) → WithinLimits mode []
 no_points mode = record { range = All-nil InRange; mode_fits = All-nil (λ p. FitsMode mode p.kind); count = omega arith; weight = omega arith }
 
-pub one_more_point : (mode : Mode) (points : List Point) (p : Point) → WithinLimits mode points → InRange p → CanJoin mode (length points) (total_weight points) p → WithinLimits mode (points ++ p ∷ [])
-one_more_point mode points p limits range joins = record {
-  range = All-push InRange points p limits.range range;
-  mode_fits = All-push (λ q. FitsMode mode q.kind) points p limits.mode_fits joins.mode_fits;
-  count = omega (arith, length_push points p, joins.room);
-  weight = omega (arith, sum_by_push weight64 points p, joins.light);
+pub one_more_point : (mode : Mode) (points : List Point) (p : Point) → WithinLimits mode points → CanJoin mode (length points) (total_weight points) p → WithinLimits mode (points ++ p ∷ [])
+one_more_point mode points p limits joins = record {
+  range = All-push InRange points p limits.range (joins Range);
+  mode_fits = All-push (λ q. FitsMode mode q.kind) points p limits.mode_fits (joins Mixed);
+  count = omega (arith, length_push points p, joins Many);
+  weight = omega (arith, sum_by_push weight64 points p, joins Strength);
 }
 
 -- The bytes up to the rest spell these points, whose total weight is given.
@@ -56,16 +57,16 @@ start bytes rest mode whole = record {
   weight_is = refl;
 }
 
-pub step : (bytes rest : List ℕ) (mode : Mode) (points : List Point) (weight : ℕ) (p : Point) (more : List ℕ) → SoFar bytes rest mode points weight → BeginsWith rest p more → InRange p → CanJoin mode (length points) weight p
+pub step : (bytes rest : List ℕ) (mode : Mode) (points : List Point) (weight : ℕ) (p : Point) (more : List ℕ) → SoFar bytes rest mode points weight → BeginsWith rest p more → CanJoin mode (length points) weight p
     → SoFar bytes more mode (points ++ p ∷ []) (weight + weight64 p)
-step bytes rest mode points weight p more far begins range joins =
+step bytes rest mode points weight p more far begins joins =
     let line = begins.line ++ 10 ∷ [] in
     let same = subst (λ w. CanJoin mode (length points) w p) far.weight_is joins in
     record {
       good = far.good ++ line;
       parts = far.parts ∙ ap (λ text. far.good ++ text) (begins.cut.whole ∙ sym (append_assoc begins.line (10 ∷ []) more)) ∙ sym (append_assoc far.good line more);
       spelled = record {
-        limits = one_more_point mode points p far.spelled.limits range same;
+        limits = one_more_point mode points p far.spelled.limits same;
         lines = far.spelled.lines ++ line;
         head = ap (λ text. text ++ line) far.spelled.head ∙ append_assoc (head_line mode) (10 ∷ far.spelled.lines) line;
         body = one_more_line far.spelled.lines points line p far.spelled.body (alone rest p more begins);
@@ -107,14 +108,14 @@ pub record SomeSoFar (bytes rest : List ℕ) (mode : Mode) (live weight : ℕ) :
 pub some_start : (bytes rest : List ℕ) (mode : Mode) → bytes ≡ head_line mode ++ 10 ∷ rest → SomeSoFar bytes rest mode 0 0
 some_start bytes rest mode whole = record { points = []; far = start bytes rest mode whole; live_is = refl; few = omega arith; light = omega arith }
 
-pub some_step : (bytes rest : List ℕ) (mode : Mode) (live weight : ℕ) (p : Point) (more : List ℕ) → SomeSoFar bytes rest mode live weight → BeginsWith rest p more → InRange p → CanJoin mode live weight p
+pub some_step : (bytes rest : List ℕ) (mode : Mode) (live weight : ℕ) (p : Point) (more : List ℕ) → SomeSoFar bytes rest mode live weight → BeginsWith rest p more → CanJoin mode live weight p
     → SomeSoFar bytes more mode (live + 1) (weight + weight64 p)
-some_step bytes rest mode live weight p more some begins range joins = record {
+some_step bytes rest mode live weight p more some begins joins = record {
   points = some.points ++ p ∷ [];
-  far = step bytes rest mode some.points weight p more some.far begins range (subst (λ n. CanJoin mode n weight p) some.live_is joins);
+  far = step bytes rest mode some.points weight p more some.far begins (subst (λ n. CanJoin mode n weight p) some.live_is joins);
   live_is = omega (arith, some.live_is, length_push some.points p);
-  few = omega (arith, joins.room);
-  light = omega (arith, joins.light);
+  few = omega (arith, joins Many);
+  light = omega (arith, joins Strength);
 }
 
 pub some_fault : (bytes rest : List ℕ) (mode : Mode) (live weight : ℕ) (kind : TextKind) → SomeSoFar bytes rest mode live weight → rest ≢ [] → IsFirstKind (LineFault mode live weight rest) kind → FirstFault bytes (live + 2) kind

@@ -8,8 +8,9 @@ use Rattle.number_text.proofs.Cuts.{same_cut}
 use Rattle.points.specs.declared.Mode.{Mode}
 use Rattle.points.specs.declared.Point.{Point}
 use Rattle.particle_text.specs.declared.TextKind.{TextKind}
-use Rattle.particle_text.specs.Faults.{LineFault}
-use Rattle.points.specs.Limits.{InRange, FitsMode, WithinLimits, CanJoin, weight64, total_weight}
+use Rattle.particle_text.specs.declared.TextKind.TheVariants.{Syntax, Range, Mixed, Many, Strength}
+use Rattle.particle_text.specs.Faults.{CanJoin, LineFault}
+use Rattle.points.specs.Limits.{InRange, FitsMode, WithinLimits, weight64, total_weight}
 use Rattle.particle_text.specs.Text.{BeginsWith, AreLines, Spells, head_line}
 use Rattle.particle_text.proofs.Heads.{head_cut, one_head}
 use Rattle.particle_text.proofs.LineFaults.{one_line, no_line_fault}
@@ -68,20 +69,17 @@ fronts bytes good rest fine other a b before after parts spells cuts reads =
     let start = same_start bytes _ _ a b (behind bytes good rest spells.lines a parts spells.head) (behind bytes fine other reads.lines b cuts reads.head) in
     record { modes = start.modes; either = compare spells.lines reads.lines rest other before after spells.body reads.body start.rests }
 
--- a point that stands in a list within the limits is in range and could join those before it
+-- a point that stands in a list within the limits could join those before it
 all_of_append : {X : Type 0} (P : X → Type 0) (xs ys : List X) → All P (xs ++ ys) → All P ys
 all_of_append P [] ys all = all
 all_of_append P (x ∷ xs) ys all = all_of_append P xs ys (All-tail P x (xs ++ ys) all)
 
-pub member_in_range : (mode : Mode) (before : List Point) (p : Point) (tail : List Point) → WithinLimits mode (before ++ p ∷ tail) → InRange p
-member_in_range mode before p tail limits = All-head InRange p tail (all_of_append InRange before (p ∷ tail) limits.range)
-
 pub member_joins : (mode : Mode) (before : List Point) (p : Point) (tail : List Point) → WithinLimits mode (before ++ p ∷ tail) → CanJoin mode (length before) (total_weight before) p
-member_joins mode before p tail limits = record {
-  mode_fits = All-head (λ q. FitsMode mode q.kind) p tail (all_of_append (λ q. FitsMode mode q.kind) before (p ∷ tail) limits.mode_fits);
-  room = omega (arith, limits.count, length-append before (p ∷ tail));
-  light = omega (arith, limits.weight, sum_by-append weight64 before (p ∷ tail), sum_by-cons weight64 p tail);
-}
+member_joins mode before p tail limits Syntax = tt
+member_joins mode before p tail limits Range = All-head InRange p tail (all_of_append InRange before (p ∷ tail) limits.range)
+member_joins mode before p tail limits Mixed = All-head (λ q. FitsMode mode q.kind) p tail (all_of_append (λ q. FitsMode mode q.kind) before (p ∷ tail) limits.mode_fits)
+member_joins mode before p tail limits Many = omega (arith, limits.count, length-append before (p ∷ tail))
+member_joins mode before p tail limits Strength = omega (arith, limits.weight, sum_by-append weight64 before (p ∷ tail), sum_by-cons weight64 p tail)
 
 -- a line that another reading goes on with is not at fault
 pub no_fault_inside : (rest other : List ℕ) (mode : Mode) (before after : List Point) (on : GoesOn rest other before after) (p : Point) (tail : List Point) → on.tail ≡ p ∷ tail → WithinLimits mode after
@@ -91,7 +89,7 @@ no_fault_inside rest other mode before after on p tail shape limits kind fault =
     let within = subst (WithinLimits mode) points limits in
     let lines = subst (AreLines on.lines) shape on.spelled in
     let begins = subst (λ text. BeginsWith text p (lines.0 ++ other)) (sym on.bytes) (longer on.lines p lines.0 other lines.1) in
-    no_line_fault mode (length before) (total_weight before) rest p (lines.0 ++ other) begins (member_in_range mode before p tail within) (member_joins mode before p tail within) kind fault
+    no_line_fault mode (length before) (total_weight before) rest p (lines.0 ++ other) begins (member_joins mode before p tail within) kind fault
 
 -- no line begins with nothing
 nothing_begins : (p : Point) (rest : List ℕ) → BeginsWith [] p rest → ⊥

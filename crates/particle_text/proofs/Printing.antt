@@ -1,5 +1,5 @@
 -- The printed text spells its points, and no other text does.
-use Rattle.std.proofs.Common.{◌≡◌, ◌<◌, ◌^◌, ℕ, ℤ, pos, negsuc, List, [], ◌∷◌, ◌++◌, sym, ap, ◌∙◌, subst, refl, arith}
+use Rattle.std.proofs.Common.{◌≡◌, ◌<◌, ◌^◌, ℕ, ℤ, pos, negsuc, neg_ℤ, List, [], ◌∷◌, ◌++◌, sym, ap, ◌∙◌, subst, refl, arith}
 use Rattle.std.proofs.lemmas.Int.{ints}
 use Rattle.std.specs.Fmt.{signed_decimal}
 use Rattle.std.specs.List.{flat_map, All, AllByRecursion}
@@ -31,10 +31,14 @@ component_small : (z : ℤ) → Within 1048576 z → IsSmall z
 component_small (pos n) fits = omega (arith, ints, fits.above, fits.below)
 component_small (negsuc n) fits = omega (arith, ints, fits.above, fits.below)
 
+turned_small : (z : ℤ) → Within 1048576 (neg_ℤ z) → IsSmall z
+turned_small (pos n) fits = omega (arith, ints, fits.above, fits.below)
+turned_small (negsuc n) fits = omega (arith, ints, fits.above, fits.below)
+
 strength_small : (kind : Kind) → HasStrength kind → AllByRecursion IsSmall (strength_of kind)
-strength_small (Charge q) fits = (component_small q fits, tt)
+strength_small (Charge q) fits = (component_small q fits.0, tt)
 strength_small (Dipole re im) fits = (component_small re fits.0, (component_small im fits.1, tt))
-strength_small (Vortex g) fits = (component_small g fits, tt)
+strength_small (Vortex g) fits = (turned_small g fits.1, tt)
 strength_small Target fits = tt
 
 numbers_small : (p : Point) → InRange p → AllByRecursion IsSmall (numbers_of p)

@@ -1,5 +1,5 @@
 -- Points in range have no number that is cut when it is read.
-use Rattle.std.proofs.Common.{◌≡◌, ℤ, ap, refl, arith}
+use Rattle.std.proofs.Common.{◌≡◌, ℤ, neg_ℤ, ap, refl, arith}
 use Rattle.std.proofs.lemmas.Int.{ints}
 use Rattle.exact_math.specs.Within.{Within}
 use Rattle.number_text.specs.Numbers.{cut_int}
@@ -8,7 +8,7 @@ use Rattle.points.specs.declared.Kind.{Kind}
 use Rattle.points.specs.declared.Kind.TheVariants.{Charge, Dipole, Vortex, Target}
 use Rattle.points.specs.declared.Point.{Point}
 use Rattle.points.specs.Limits.{InRange, HasStrength, IsCoordinate, most_strength}
-use Rattle.particle_text.specs.Nearest.{cut_kind, cut_point}
+use Rattle.particle_text.specs.Private.{cut_kind, cut_point}
 use Rattle.particle_text.proofs.Forms.{same_point}
 
 coordinate : (x : ℤ) → IsCoordinate 16 x → cut_int x ≡ x
@@ -23,16 +23,19 @@ component z fits = cut_small 1048576 z (omega arith) fits.above fits.below
 component_back : (z : ℤ) → Within most_strength (cut_int z) → cut_int z ≡ z
 component_back z fits = small_cut 1048576 z (omega arith) fits.above fits.below
 
+turned : (z : ℤ) → Within most_strength (neg_ℤ z) → Within most_strength z
+turned z fits = record { above = omega (arith, ints, fits.below); below = omega (arith, ints, fits.above) }
+
 kind_kept : (kind : Kind) → HasStrength kind → cut_kind kind ≡ kind
-kind_kept (Charge q) fits = ap Charge (component q fits)
+kind_kept (Charge q) fits = ap Charge (component q fits.0)
 kind_kept (Dipole re im) fits = λ i. Dipole (component re fits.0 i) (component im fits.1 i)
-kind_kept (Vortex g) fits = ap Vortex (component g fits)
+kind_kept (Vortex g) fits = ap Vortex (component g (turned g fits.1))
 kind_kept Target fits = refl
 
 kind_back : (kind : Kind) → HasStrength (cut_kind kind) → cut_kind kind ≡ kind
-kind_back (Charge q) fits = ap Charge (component_back q fits)
+kind_back (Charge q) fits = ap Charge (component_back q fits.0)
 kind_back (Dipole re im) fits = λ i. Dipole (component_back re fits.0 i) (component_back im fits.1 i)
-kind_back (Vortex g) fits = ap Vortex (component_back g fits)
+kind_back (Vortex g) fits = ap Vortex (component_back g (turned (cut_int g) fits.1))
 kind_back Target fits = refl
 
 -- a point in range is read as it is

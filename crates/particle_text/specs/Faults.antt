@@ -1,13 +1,15 @@
 -- What can be wrong with a text, and which fault is named: of the first line at fault, the first kind that holds.
-use Rattle.std.specs.Prelude.{◌≡◌, ◌≢◌, ◌⊎◌, ℕ, ◌+◌, ◌<◌, ◌≤◌, List, [], ◌∷◌, ◌++◌, length}
+use Rattle.std.specs.Prelude.{◌≡◌, ◌≢◌, ◌⊎◌, ℕ, ◌+◌, ◌<◌, ◌≤◌, List, [], ◌∷◌, ◌++◌, length, Result, Ok, Err}
+use Rattle.number_text.specs.Parts.{line_feed}
 use Rattle.points.specs.declared.Mode.{Mode}
 use Rattle.particle_text.specs.declared.ParseFault.{ParseFault}
 use Rattle.particle_text.specs.declared.ParseFault.TheVariants.{Text, Memory}
 use Rattle.points.specs.declared.Point.{Point}
+use Rattle.points.specs.declared.Points.{Points}
 use Rattle.particle_text.specs.declared.TextKind.{TextKind}
 use Rattle.particle_text.specs.declared.TextKind.TheVariants.{Syntax, Range, Mixed, Many, Strength}
 use Rattle.points.specs.Limits.{InRange, FitsMode, weight64, total_weight, most_points, most_weight}
-use Rattle.particle_text.specs.Text.{LineSpells, BeginsWith, Spells, head_line, line_feed}
+use Rattle.particle_text.specs.Text.{LineSpells, BeginsWith, Spells, head_line}
 
 -- the kinds in their order
 abbrev pub rank : TextKind → ℕ
@@ -22,13 +24,21 @@ pub record IsFirstKind (holds : TextKind → Type 0) (kind : TextKind) : Type 0 
   pub here : holds kind
   pub earlier : (other : TextKind) → rank other < rank kind → holds other → ⊥
 
--- What can be wrong with a point that is to join a list of this mode, which has `live` points and this total weight; each kind by itself.
+-- A point that is to join a list of this mode, which has `live` points and this total weight, passes the test of this kind.
+abbrev pub Passes : Mode → ℕ → ℕ → Point → TextKind → Type 0
+Passes mode live weight p Syntax = Unit {0}
+Passes mode live weight p Range = InRange p
+Passes mode live weight p Mixed = FitsMode mode p.kind
+Passes mode live weight p Many = live < most_points
+Passes mode live weight p Strength = weight + weight64 p ≤ most_weight
+
+-- it may join the list
+abbrev pub CanJoin : Mode → ℕ → ℕ → Point → Type 0
+CanJoin mode live weight p = (kind : TextKind) → Passes mode live weight p kind
+
+-- what can be wrong with it; each kind by itself
 abbrev pub PointFault : Mode → ℕ → ℕ → Point → TextKind → Type 0
-PointFault mode live weight p Syntax = ⊥
-PointFault mode live weight p Range = InRange p → ⊥
-PointFault mode live weight p Mixed = FitsMode mode p.kind → ⊥
-PointFault mode live weight p Many = most_points ≤ live
-PointFault mode live weight p Strength = most_weight < weight + weight64 p
+PointFault mode live weight p kind = Passes mode live weight p kind → ⊥
 
 -- What can be wrong with one line of a point, without its line feed: it is of no form, or out of range.
 abbrev pub FormFault : List ℕ → TextKind → Type 0
@@ -60,7 +70,8 @@ FirstFault bytes line kind =
     ((line ≡ 1) × (kind ≡ Syntax) × HasNoHead bytes)
     ⊎ ((mode : Mode) × (before : List Point) × (line ≡ length before + 2) × FaultsAfter bytes mode before kind)
 
--- what a reader may answer in place of the points
-abbrev pub IsFaultOf : List ℕ → ParseFault → Type 0
-IsFaultOf bytes (Text line kind) = FirstFault bytes line kind
-IsFaultOf bytes Memory = Unit {0}
+-- What a reader of the bytes answers: the points that they spell, or their first fault. Want of memory may stand in place of either.
+abbrev pub Reads : List ℕ → Result Points ParseFault → Type 0
+Reads bytes (Ok points) = Spells bytes points.mode points.list
+Reads bytes (Err (Text line kind)) = FirstFault bytes line kind
+Reads bytes (Err Memory) = Unit {0}

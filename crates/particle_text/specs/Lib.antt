@@ -1,6 +1,4 @@
--- What the contracts cite: particles, limits, the text of a list of particles, and its faults.
-pub mod Answers
+-- What the contracts cite: the text of a list of particles, and its faults.
 pub mod Faults
-pub mod Forms
-pub mod Nearest
+pub mod Private
 pub mod Text

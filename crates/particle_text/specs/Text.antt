@@ -3,21 +3,13 @@ use Rattle.std.specs.Prelude.{◌≡◌, ℕ, ℤ, List, [], ◌∷◌, ◌++◌
 use Rattle.std.specs.Fmt.{signed_decimal}
 use Rattle.std.specs.List.{flat_map}
 use Rattle.number_text.specs.Numbers.{AreInts}
-use Rattle.number_text.specs.Parts.{IsCut}
+use Rattle.number_text.specs.Parts.{IsCut, line_feed, space}
 use Rattle.points.specs.declared.Kind.{Kind}
 use Rattle.points.specs.declared.Kind.TheVariants.{Charge, Dipole, Vortex, Target}
 use Rattle.points.specs.declared.Mode.{Mode}
 use Rattle.points.specs.declared.Mode.TheVariants.{Field, Velocity}
 use Rattle.points.specs.declared.Point.{Point}
 use Rattle.points.specs.Limits.{WithinLimits}
-
--- ends a line
-abbrev pub line_feed : ℕ
-line_feed = 10
-
--- stands between two words
-abbrev pub space : ℕ
-space = 32
 
 -- line 1
 abbrev pub head_line : Mode → List ℕ

@@ -1,7 +1,7 @@
 //! Which points may join a list.
 ghost use Rattle.std.specs.Prelude.{◌≤◌, IfSome, IfNone};
-ghost use Rattle.particle_text.specs.Faults.{IsFirstKind, PointFault};
-ghost use Rattle.points.specs.Limits.{CanJoin, InRange, most_weight};
+ghost use Rattle.points.specs.Limits.{InRange, most_weight};
+ghost use Rattle.particle_text.specs.Faults.{CanJoin, IsFirstKind, PointFault};
 
 use crate::TextKind;
 use points::{Kind, MOST_POINTS, MOST_WEIGHT, Mode, Point};

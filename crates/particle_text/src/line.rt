@@ -1,12 +1,11 @@
 //! Reading the line of a point.
-ghost use Rattle.std.specs.Prelude.{◌≡◌, ℕ, IfOk, IfErr, Ok, Err, IfSome, IfNone};
+ghost use Rattle.std.specs.Prelude.{◌≡◌, IfOk, IfErr, Ok, Err, IfSome, IfNone};
 ghost use Rattle.points.specs.declared.Point.{Point};
 ghost use Rattle.particle_text.specs.declared.TextKind.{TextKind};
 ghost use Rattle.particle_text.specs.declared.line.Form.{Form};
 ghost use Rattle.particle_text.specs.Faults.{FormFault};
-ghost use Rattle.particle_text.specs.Forms.{word_of};
 ghost use Rattle.points.specs.Limits.{InRange};
-ghost use Rattle.particle_text.specs.Nearest.{cut_point};
+ghost use Rattle.particle_text.specs.Private.{cut_point, word_of};
 ghost use Rattle.particle_text.specs.Text.{LineSpells};
 
 use crate::{Kind, Point, TextKind};

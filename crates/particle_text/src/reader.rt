@@ -1,13 +1,11 @@
 //! Reading a text.
-ghost use Rattle.std.specs.Prelude.{◌≡◌, ◌++◌, ◌∷◌, ℕ, ◌≤◌, IfOk, IfErr, IfSome, IfNone, List};
+ghost use Rattle.std.specs.Prelude.{◌≡◌, ◌++◌, ◌∷◌, ◌≤◌, IfOk, IfErr, IfSome, IfNone, List};
 ghost use Rattle.points.specs.declared.Mode.{Mode};
-ghost use Rattle.particle_text.specs.declared.ParseFault.{ParseFault};
 ghost use Rattle.points.specs.declared.Point.{Point};
-ghost use Rattle.particle_text.specs.declared.TextKind.{TextKind};
-ghost use Rattle.particle_text.specs.Answers.{GivesPoints, GivesFault};
-ghost use Rattle.particle_text.specs.Faults.{IsFirstKind, IsFaultOf, LineFault, FirstFault, HasNoHead};
-ghost use Rattle.points.specs.Limits.{CanJoin, InRange, most_weight};
-ghost use Rattle.particle_text.specs.Text.{BeginsWith, Spells, head_line, line_feed};
+ghost use Rattle.particle_text.specs.Faults.{CanJoin, FirstFault, HasNoHead, IsFirstKind, LineFault, Reads};
+ghost use Rattle.points.specs.Limits.{most_weight};
+ghost use Rattle.particle_text.specs.Text.{BeginsWith, Spells, head_line};
+ghost use Rattle.number_text.specs.Parts.{line_feed};
 
 use crate::admission::admit;
 use crate::line::parse_point;
@@ -41,7 +39,7 @@ fn read_head(bytes: &[u8]) -> Option<(Mode, &[u8])>
 /// The point of the first line, and what stands behind the line; or what is wrong with that line.
 fn next_point(mode: Mode, live: u64, weight: u64, bytes: &[u8]) -> Result<(Point, &[u8]), TextKind>
     requires { weight ≤ most_weight }
-    ensures line { IfOk result (λ found. BeginsWith bytes.now found.0 found.1.now × InRange found.0) }
+    ensures line { IfOk result (λ found. BeginsWith bytes.now found.0 found.1.now) }
     ensures joins { IfOk result (λ found. CanJoin mode live weight found.0) }
     ensures fault { IfErr result (IsFirstKind (LineFault mode live weight bytes.now)) }
 {
@@ -64,10 +62,7 @@ fn next_point(mode: Mode, live: u64, weight: u64, bytes: &[u8]) -> Result<(Point
 /// `Text` names the first line at fault, counted from 1, and the first kind that holds for it. `Memory` is want of
 /// memory.
 pub fn parse(alloc: Global, bytes: &[u8]) -> Result<Points, ParseFault>
-    ensures ok { IfOk result (λ points. Spells bytes.now points.mode points.list) }
-    ensures fault { IfErr result (IsFaultOf bytes.now) }
-    ensures accepts { (mode : Mode) (points : List Point) → Spells bytes.now mode points → GivesPoints result mode points }
-    ensures refuses { (line : ℕ) (kind : TextKind) → FirstFault bytes.now line kind → GivesFault result line kind }
+    ensures { Reads bytes.now result }
 {
     let Some((mode, mut rest)) = read_head(bytes) else {
         return Err(ParseFault::Text {

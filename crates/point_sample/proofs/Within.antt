@@ -44,7 +44,7 @@ wider m n z more fits = record { above = omega (arith, ints, fits.above); below 
 strength : (choice r s : ℕ) → HasStrength (kind_of choice r s)
 strength choice r s =
     let part : (t : ℕ) → Within most_strength (component 100 t) = λ (t : ℕ). wider 100 most_strength _ (omega arith) (component_fits 100 t) in
-    each_kind HasStrength choice r s (wider 1000 most_strength _ (omega arith) (component_fits 1000 r)) (part r, part s) tt
+    each_kind HasStrength choice r s (wider 1000 most_strength _ (omega arith) (component_fits 1000 r), record { above = omega (arith, ints); below = omega (arith, ints) }) (part r, part s) tt
 
 size : (m : ℕ) (z : ℤ) → Within m z → abs_gaussian (record { re = z; im = pos 0 }) ≤ m
 size m z fits = omega (arith, ints, fits.above, fits.below)

@@ -1,5 +1,5 @@
 -- Which places, strengths and lists the text allows.
-use Rattle.std.specs.Prelude.{ℕ, ◌+◌, ◌*◌, ◌-◌, ◌^◌, ◌<◌, ◌≤◌, ℤ, pos, neg_ℤ, ◌≤ℤ◌, ◌<ℤ◌, List, length, All, sum_by}
+use Rattle.std.specs.Prelude.{ℕ, ◌+◌, ◌*◌, ◌-◌, ◌^◌, ◌≤◌, ℤ, pos, neg_ℤ, ◌≤ℤ◌, ◌<ℤ◌, List, length, All, sum_by}
 use Rattle.exact_math.specs.Sizes.{weight_at}
 use Rattle.points.specs.declared.Kind.{Kind}
 use Rattle.points.specs.declared.Kind.TheVariants.{Charge, Vortex}
@@ -63,9 +63,3 @@ pub record WithinLimits (mode : Mode) (points : List Point) : Type 0 where
   pub mode_fits : All (λ p. FitsMode mode p.kind) points
   pub count : length points ≤ most_points
   pub weight : total_weight points ≤ most_weight
-
--- the point may join a list of this mode, which has `live` points and this total weight
-pub record CanJoin (mode : Mode) (live weight : ℕ) (p : Point) : Type 0 where
-  pub mode_fits : FitsMode mode p.kind
-  pub room : live < most_points
-  pub light : weight + weight64 p ≤ most_weight

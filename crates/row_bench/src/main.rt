@@ -4,8 +4,6 @@
 
 mod loops;
 mod samples;
-#[cfg(test)]
-mod tests;
 
 use kernel_table::Kernel;
 use loops::Operation;

@@ -1,7 +1,8 @@
 -- Rows while they are written: one box after another.
-use Rattle.std.proofs.Common.{◌≡◌, ◌≢◌, ℕ, ◌<◌, ◌≤◌, ◌+◌, List, length, sym, subst, ap, ◌∙◌, arith, slice_set, slice_index_or, get_or-set_same, get_or-set_other, below_more, ◌+ℤ◌, ◌-ℤ◌, ℤ}
+use Rattle.std.proofs.Common.{◌≡◌, ◌≢◌, ℕ, ◌<◌, ◌≤◌, ◌+◌, List, length, sym, subst, ap, ◌∙◌, arith, slice_set, slice_index_or, slice_get, Some, get_or-set_same, get_or-set_other, below_more, ◌+ℤ◌, ◌-ℤ◌, ℤ}
 use Rattle.std.proofs.lemmas.Int.{ints}
 use Rattle.std.proofs.lemmas.List.{get_or_read}
+use Rattle.std.proofs.lemmas.Option.{get_or_from_slice_get}
 use Rattle.exact_math.specs.Ends.{Ends, BoxEnds, zero_box, add_ends, add_box, take_ends, take_box}
 use Rattle.fixed_interval.specs.Interval.{ends_of, AreEnds}
 use Rattle.fixed_interval.specs.declared.Interval.{Interval}
@@ -59,6 +60,9 @@ take_adds part sum =
 -- the box that an index gives
 pub row_read : (xs : List CBox) (k : ℕ) (r : CBox) → k < length xs → r ≡ slice_index_or xs k r → box_ends r ≡ row_of xs k
 row_read xs k r h e = ap box_ends (get_or_read xs k r h e zero_cbox)
+
+pub row_got : (xs : List CBox) (k : ℕ) {r : CBox} → slice_get xs k ≡ Some r → box_ends r ≡ row_of xs k
+row_got xs k {r} e = ap box_ends (sym (get_or_from_slice_get xs k r zero_cbox e))
 
 -- a box of the sum and the one of its part
 pub box_take_fits : (P k : ℕ) (sum part : ℕ → BoxEnds) (b c : CBox) → k < P → box_ends b ≡ sum k → box_ends c ≡ part k → HasPart P sum part → TakeFits (box_ends b) (box_ends c)

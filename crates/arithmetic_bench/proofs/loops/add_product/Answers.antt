@@ -1,7 +1,7 @@
 use Rattle.std.proofs.Common.{◌≡◌, ◌+◌, ◌*◌, ◌^◌, ◌≤◌, arith, lit≤, sym, subst, ℕ}
 use Rattle.exact_math.specs.Ends.{BoxEnds, BoxEndsWithin, add_box, times_box, zero_box}
-use Rattle.complex_box.specs.Box.{box_ends, BoxWithin}
-use Rattle.complex_box.proofs.Sizes.{times_fits, product_sum_within, box_wider, box_within}
+use Rattle.complex_box.specs.Box.{box_ends}
+use Rattle.complex_box.proofs.Sizes.{times_fits, product_sum_within, box_wider}
 use Rattle.arithmetic_bench.proofs.loops.add_product.Goals as goal
 
 -- one product more
@@ -14,8 +14,8 @@ add_product-requires-clause-product c = times_fits (2 ^ 48) (2 ^ 48) (box_ends c
 pub add_product-requires-clause-sum : goal.add_product-requires-clause-sum
 add_product-requires-clause-sum c =
     let h : (c.loop-k.k + 1) * 2 ^ 97 ≤ 2 ^ 126 = omega arith in
-    box_wider ((c.loop-k.k + 1) * 2 ^ 97) (2 ^ 126) _ h (more c.loop-k.k (box_ends c.loop-k.acc.sum) (box_ends c.boxed.result) (box_ends c.boxed-in-loop-k.result) c.loop-k.invariant c.boxed.ensures c.boxed-in-loop-k.ensures)
+    box_wider ((c.loop-k.k + 1) * 2 ^ 97) (2 ^ 126) _ h (more c.loop-k.k c.loop-k.acc (box_ends c.boxed.result) (box_ends c.boxed-in-loop-k.result) c.loop-k.invariant c.boxed.ensures c.boxed-in-loop-k.ensures)
 
 pub loop-k-preserved : goal.loop-k-preserved
 loop-k-preserved c =
-    box_within ((c.loop-k.k + 1) * 2 ^ 97) c.add_product.new.self.sum _ c.add_product.ensures.ends (more c.loop-k.k (box_ends c.loop-k.acc.sum) (box_ends c.boxed.result) (box_ends c.boxed-in-loop-k.result) c.loop-k.invariant c.boxed.ensures c.boxed-in-loop-k.ensures)
+    subst (BoxEndsWithin ((c.loop-k.k + 1) * 2 ^ 97)) (sym c.add_product.ensures.ends) (more c.loop-k.k c.loop-k.acc (box_ends c.boxed.result) (box_ends c.boxed-in-loop-k.result) c.loop-k.invariant c.boxed.ensures c.boxed-in-loop-k.ensures)

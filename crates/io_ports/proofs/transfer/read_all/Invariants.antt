@@ -1,11 +1,11 @@
 use Rattle.std.proofs.Common.{◌≡◌, ◌-◌, ◌≤◌, length, vec_len}
 use Rattle.std.specs.Io.KnownBytes.{Consumes}
-use Rattle.io_ports.specs.declared.transfer.TheConstants.{CHUNK}
+use Rattle.io_ports.specs.declared.transfer.TheConstants.{READ_SIZE}
 use Rattle.io_ports.proofs.transfer.read_all.Given as goal
 
 abbrev pub invariant-loop-count : goal.invariant-loop-count
 invariant-loop-count g l = record {
-  chunk : length l.chunk ≡ CHUNK;
+  chunk : length l.chunk ≡ READ_SIZE;
   within : vec_len l.bytes ≤ l.limit;
   came : Consumes (g.S.Source.left l.initial.source) (g.S.Source.left l.source) l.bytes.items;
   later : g.S.Source.faults l.initial.source ≤ g.S.Source.faults l.source;

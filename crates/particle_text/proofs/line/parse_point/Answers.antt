@@ -2,7 +2,7 @@ use Rattle.std.proofs.Common.{◌≡◌, ℕ, List, Ok, Err, sym, ap, ◌∙◌,
 use Rattle.std.proofs.lemmas.Bool.{false≢true}
 use Rattle.points.specs.declared.Point.{Point}
 use Rattle.points.specs.Limits.{InRange}
-use Rattle.particle_text.specs.Nearest.{cut_point}
+use Rattle.particle_text.specs.Private.{cut_point}
 use Rattle.particle_text.specs.Text.{LineSpells}
 use Rattle.particle_text.proofs.FormFaults.{syntax_alone, range_alone, no_form_fault}
 use Rattle.particle_text.proofs.OneForm.{one_form}

@@ -2,7 +2,7 @@ use Rattle.std.proofs.Common.{ap, ◌∙◌, subst, refl}
 use Rattle.number_text.specs.Parts.{IsCut}
 use Rattle.number_text.proofs.Rows.{kept}
 use Rattle.points.specs.declared.Kind.TheVariants.{Charge, Dipole, Vortex, Target}
-use Rattle.particle_text.specs.Forms.{word_of}
+use Rattle.particle_text.specs.Private.{word_of}
 use Rattle.particle_text.proofs.Forms.{reads_as, form_of_kind, word_of_kind, no_charge, no_dipole, no_vortex, no_target, same_point}
 use Rattle.particle_text.proofs.line.read_form.Goals as goal
 
