@@ -33,7 +33,7 @@ use Rattle.quadtree.proofs.Lists.{Contains-range}
 use Rattle.tree_field.proofs.Sums.{total_box-map, total_box-same}
 use Rattle.tree_field.specs.Field.{is_source_in, sources_in, multipole_row, converted_rows, far_rows, local_row}
 use Rattle.tree_field.specs.Lists.{TreeLists}
-use Rattle.truncation.specs.Places.{GaussianBeyond}
+use Rattle.exact_math.specs.Within.{GaussianBeyond}
 use Rattle.downward_rows.specs.Entries.{pair_row, far_of, far_row_at, far_row_of, row_from, IsFarCell, IsFarPosition, HasFarEntries}
 use Rattle.tree_rows.specs.FlatRows.{row_at, AreSameRows}
 use Rattle.tree_rows.specs.FieldRows.{IsFieldOf, AreMultipoleRowsOf}

@@ -19,7 +19,7 @@ use Rattle.row_recursions.proofs.RowSizes.{source_moment_within, shifted_up_with
 use Rattle.row_recursions.proofs.Turns.{unit_quadrant}
 use Rattle.soundness.specs.Computed.{total_row, moments_in}
 use Rattle.soundness.specs.Squares.{offset, quadrant}
-use Rattle.truncation.specs.Places.{GaussianWithin}
+use Rattle.exact_math.specs.Within.{GaussianWithin}
 use Rattle.tree_field.specs.Field.{sources_in, has_source, leaf_row, is_over, multipole_above, multipole_row}
 use Rattle.field_sizes.proofs.CellSources.{IsHeld, sources_held, sum_by-filter}
 use Rattle.field_sizes.proofs.CellWeights.{weight64_in, weight64_in-light, quarters_weight}

@@ -1,3 +1,4 @@
+mod FarDistances
 mod PowersOfTwo
 mod Chosen
 pub mod Contained

@@ -1,7 +1,7 @@
 -- The widths of the kernel's powers and entries.
 use mathlib.Core.Path.{◌≡◌, sym, subst, subst₂}
 use mathlib.Core.Logic.{◌⊎◌, inl, inr, ⊎_elim}
-use Prim.Native.Nat.{ℕ, zero, suc, ◌+◌, ◌-◌, ◌*◌, ◌/◌, ◌^◌, ◌≤◌, ◌<◌, max}
+use Prim.Native.Nat.{ℕ, zero, suc, ◌+◌, ◌-◌, ◌*◌, ◌/◌, ◌^◌, ◌≤◌, ◌<◌}
 use native.Mathlib.Nat.{lt_of_not-le, mul-le-mul_left, mul-le-mul_right, mul-le-mul}
 use native.Mathlib.Omega.{arith}
 use lib.IntN.{ℤ, pos, negsuc, neg_ℤ, ◌+ℤ◌, ◌-ℤ◌, ◌*ℤ◌}
@@ -109,21 +109,16 @@ six_fifths (suc (suc x)) zero h = omega arith
 six_fifths (suc (suc x)) (suc zero) h = omega arith
 six_fifths (suc (suc x)) (suc (suc y)) h = omega arith
 
-some_part : (x y : ℕ) → 2 ≤ max x y → (2 ≤ x) ⊎ (2 ≤ y)
-some_part zero y h = inr (omega arith)
-some_part (suc zero) y h = inr (omega arith)
-some_part (suc (suc x)) y h = inl (omega arith)
-
 pub greater_norm : (e : Gaussian) → IsKernelDistance e → 10 * (unsigned_abs e.re + unsigned_abs e.im) ≤ 6 * norm_count e
 greater_norm e h = ⊎_elim (six_fifths (unsigned_abs e.re) (unsigned_abs e.im))
     (λ k. turned (unsigned_abs e.re) (unsigned_abs e.im) (six_fifths (unsigned_abs e.im) (unsigned_abs e.re) k))
-    (some_part (unsigned_abs e.re) (unsigned_abs e.im) h.apart)
+    h.apart
   where
     turned : (x y : ℕ) → 10 * (y + x) ≤ 6 * (y * y + x * x) → 10 * (x + y) ≤ 6 * (x * x + y * y)
     turned x y h = omega arith
 
 pub norm_count≥4 : (e : Gaussian) → IsKernelDistance e → 4 ≤ norm_count e
-norm_count≥4 e h = squares (unsigned_abs e.re) (unsigned_abs e.im) (some_part (unsigned_abs e.re) (unsigned_abs e.im) h.apart)
+norm_count≥4 e h = squares (unsigned_abs e.re) (unsigned_abs e.im) h.apart
   where
     square : (x : ℕ) → 2 ≤ x → 4 ≤ x * x
     square x h = mul-le-mul h h

@@ -1,5 +1,5 @@
 -- The kernel that turns a multipole row into a local row: C(k + l, k)/e^(k + l + 1) with the sign of (-1)^l, for two cells of one side whose centres are e sides apart.
-use Rattle.std.specs.Prelude.{ℕ, zero, suc, ◌≡◌, ◌+◌, ◌^◌, ◌≤◌, ◌<◌, pos, unsigned_abs, max, List, length, slice_index_or}
+use Rattle.std.specs.Prelude.{ℕ, zero, suc, ◌≡◌, ◌+◌, ◌^◌, ◌≤◌, ◌<◌, pos, List, length, slice_index_or}
 use Rattle.complex_box.specs.Box.{box_ends}
 use Rattle.complex_box.specs.declared.CBox.{CBox}
 use Rattle.exact_math.specs.Ends.{BoxEnds, point_box, neg_box, scale_box, quot_box, gquot_box, BoxEndsContain, BoxEndsNarrow, BoxEndsWithin}
@@ -7,12 +7,13 @@ use Rattle.exact_math.specs.Gaussian.{Gaussian, norm_gaussian, conj, scale_gauss
 use Rattle.exact_math.specs.Ratio.{ComplexRatio, neg_complex, ◌*ᶜ◌, reciprocal}
 use Rattle.exact_math.specs.Sums.{pow_complex, natural_complex}
 use Rattle.exact_math.specs.Binomials.{choose}
+use Rattle.exact_math.specs.Within.{GaussianWithin, GaussianBeyond}
 use Rattle.exact_math.specs.Units.{unit}
 
--- the centre of the target's cell less that of the source's, in sides: the greater of the sizes of its parts is 2 or 3
+-- the centre of the target's cell less that of the source's, in sides: a part is at least 2 in size, and both are at most 3
 pub record IsKernelDistance (e : Gaussian) : Type 0 where
-  pub apart : 2 ≤ max (unsigned_abs e.re) (unsigned_abs e.im)
-  pub near : max (unsigned_abs e.re) (unsigned_abs e.im) ≤ 3
+  pub apart : GaussianBeyond 2 e
+  pub near : GaussianWithin 3 e
 
 -- ---- the rounded kernel
 -- 2^60 conj e / norm e, and then times 2 conj e / norm e each time, rounded outward: 2^(60 + n)/e^(n + 1)

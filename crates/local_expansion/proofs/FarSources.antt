@@ -3,7 +3,7 @@ use Rattle.std.proofs.Common.{◌≡◌, refl, sym, ap, ap₂, ◌∙◌, subst�
 use Rattle.std.proofs.lemmas.Int.{ints}
 use Rattle.exact_math.specs.Ends.{BoxEnds, zero_box, add_box, neg_box, scale_box}
 use Rattle.exact_math.specs.Gaussian.{Gaussian, norm_gaussian, conj, scale_gaussian, zero_gaussian}
-use Rattle.truncation.specs.Places.{GaussianBeyond}
+use Rattle.exact_math.specs.Within.{GaussianBeyond}
 use Rattle.row_recursions.specs.Rows.{units_box, units_over, ratio_box, far_pole, far_dipole, far_source}
 use Rattle.row_recursions.proofs.RowSizes.{far_norm_positive}
 use Rattle.row_recursions.proofs.ZeroBoxes.{zero_scaled, zero_over, zero_turned, zero_right, zero_left}

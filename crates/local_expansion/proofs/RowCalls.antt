@@ -14,7 +14,7 @@ use Rattle.exact_math.proofs.Orders.{order_bounds}
 use Rattle.points.specs.Points.{place, pole, dipole, strength}
 use Rattle.points.specs.declared.Point.{Point}
 use Rattle.truncation.specs.Entries.{local_cut}
-use Rattle.truncation.specs.Places.{GaussianBeyond}
+use Rattle.exact_math.specs.Within.{GaussianBeyond}
 use Rattle.row_recursions.specs.Cells.{side_of, centre_of, offset_from, far_coefficients_of}
 use Rattle.row_recursions.specs.Fields.{HoldsField}
 use Rattle.row_recursions.specs.Rows.{RowsAdd, far_source}

@@ -10,7 +10,7 @@ ghost use Rattle.exact_math.specs.Ratio.{ComplexRatio, ◌+ᶜ◌};
 ghost use Rattle.exact_math.specs.Sums.{sum_terms};
 ghost use Rattle.exact_math.specs.Units.{unit};
 ghost use Rattle.truncation.specs.Entries.{Source, pair_cut, local_cut};
-ghost use Rattle.truncation.specs.Places.{GaussianBeyond};
+ghost use Rattle.exact_math.specs.Within.{GaussianBeyond};
 ghost use Rattle.complex_box.specs.Box.{box_ends, number, BoxWithin, BoxContains};
 ghost use Rattle.kernel_table.specs.Kernel.{IsKernelDistance, kernel_entry};
 ghost use Rattle.cell_name.specs.Cell.{square};

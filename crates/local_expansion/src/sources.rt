@@ -1,7 +1,7 @@
 //! The contribution of one far source, added to a row.
 ghost use Rattle.std.specs.Prelude.{◌≡◌, suc, ◌*◌, ◌^◌, ◌≤◌, pos, length};
 ghost use Rattle.exact_math.specs.Ends.{neg_box, scale_box};
-ghost use Rattle.truncation.specs.Places.{GaussianWithin, GaussianBeyond};
+ghost use Rattle.exact_math.specs.Within.{GaussianWithin, GaussianBeyond};
 ghost use Rattle.complex_box.specs.Box.{box_ends, number, BoxWithin};
 ghost use Rattle.points.specs.Limits.{InRange};
 ghost use Rattle.points.specs.Points.{place};

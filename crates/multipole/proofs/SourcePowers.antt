@@ -8,7 +8,7 @@ use Rattle.exact_math.specs.Rounding.{floor_div}
 use Rattle.exact_math.proofs.WholeSizes.{within-weaker}
 use Rattle.complex_box.specs.Box.{GscaleFits}
 use Rattle.complex_box.proofs.Sizes.{gscale_fits}
-use Rattle.truncation.specs.Places.{GaussianWithin}
+use Rattle.exact_math.specs.Within.{GaussianWithin}
 use Rattle.row_recursions.specs.Rows.{units_box, units_over, pole_moment, dipole_moment, source_moment}
 use Rattle.row_recursions.proofs.RowSizes.{box_gquot_within}
 use Rattle.row_recursions.proofs.ZeroBoxes.{zero_scaled, zero_over, zero_turned, zero_right, zero_left}

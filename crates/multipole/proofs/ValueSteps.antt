@@ -6,7 +6,7 @@ use Rattle.exact_math.specs.Orders.{IsOrder}
 use Rattle.exact_math.proofs.Orders.{order_bounds}
 use Rattle.complex_box.specs.Box.{GscaleFits}
 use Rattle.complex_box.proofs.Sizes.{box_wider, add_box_within, gscale_fits}
-use Rattle.truncation.specs.Places.{GaussianWithin, GaussianBeyond}
+use Rattle.exact_math.specs.Within.{GaussianWithin, GaussianBeyond}
 use Rattle.row_recursions.specs.Rows.{multipole_round}
 use Rattle.row_recursions.specs.Sizes.{RowWithin}
 use Rattle.row_recursions.proofs.Equations.{multipole_round-next}

@@ -11,7 +11,7 @@ ghost use Rattle.exact_math.specs.Orders.{IsOrder};
 ghost use Rattle.exact_math.specs.Sums.{sum_terms};
 ghost use Rattle.exact_math.specs.Units.{unit};
 ghost use Rattle.truncation.specs.Entries.{Source, multipole_cut};
-ghost use Rattle.truncation.specs.Places.{GaussianBeyond};
+ghost use Rattle.exact_math.specs.Within.{GaussianBeyond};
 ghost use Rattle.complex_box.specs.Box.{box_ends, BoxWithin, BoxContains};
 ghost use Rattle.cell_name.specs.Cell.{square};
 ghost use Rattle.cell_name.specs.Square.{Holds};

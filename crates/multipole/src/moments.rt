@@ -1,7 +1,7 @@
 //! The moments of one source, into a row.
 ghost use Rattle.std.specs.Prelude.{◌≡◌, ℕ, ◌-◌, ◌^◌, ◌≤◌, ◌<◌, pos, length};
 ghost use Rattle.exact_math.specs.Ends.{gquot_box};
-ghost use Rattle.truncation.specs.Places.{GaussianWithin};
+ghost use Rattle.exact_math.specs.Within.{GaussianWithin};
 ghost use Rattle.complex_box.specs.Box.{box_ends, number, BoxWithin};
 ghost use Rattle.cell_name.specs.Cell.{square};
 ghost use Rattle.cell_name.specs.Square.{Holds};

@@ -6,7 +6,7 @@ use Rattle.exact_math.specs.Gaussian.{Gaussian}
 use Rattle.complex_box.specs.Box.{box_ends}
 use Rattle.complex_box.specs.declared.CBox.{CBox}
 use Rattle.complex_box.proofs.Sizes.{box_wider, add_box_within}
-use Rattle.truncation.specs.Places.{GaussianWithin}
+use Rattle.exact_math.specs.Within.{GaussianWithin}
 use Rattle.row_recursions.specs.Rows.{row_of, up_round, shifted_up}
 use Rattle.row_recursions.specs.Sizes.{RowWithin}
 use Rattle.row_recursions.proofs.Equations.{up_round-zero, up_round-next, shifted_up-is}

@@ -1,6 +1,7 @@
 //! A row, a cell, and arguments that follow from a counter.
 ghost use Rattle.std.specs.Prelude.{◌≡◌, ◌*◌, ◌^◌};
-ghost use Rattle.truncation.specs.Places.{GaussianBeyond, doubled_offset};
+ghost use Rattle.exact_math.specs.Within.{GaussianBeyond};
+ghost use Rattle.truncation.specs.Places.{doubled_offset};
 ghost use Rattle.complex_box.specs.Box.{number};
 ghost use Rattle.cell_name.specs.Cell.{square};
 ghost use Rattle.cell_name.specs.Square.{side, Holds};

@@ -71,7 +71,7 @@ module _ (grid : ℕ) (points : List Point) (cap P : ℕ) (positive : 0 < grid) 
       let grids : b.grid ≡ c.grid = h.first_in_tree.of_grid ∙ sym h.second_in_tree.of_grid in
       let a = h.come_apart in
       field_converted P (side b) (sides_between b c) (doubled_centre b) (doubled_centre c) (sources_of points c) (multipole_row points cap c) (side_positive b)
-      (norm_beyond 2 (sides_between b c) (omega arith) (pairs_of_cells b c grids a.same_level a.apart a.parents_touch).beyond)
+      (norm_beyond 2 (sides_between b c) (omega arith) (pairs_of_cells b c grids a.same_level a.apart a.parents_touch).kernel.apart)
       (subst (λ s. HoldsMoments P s (doubled_centre c) (sources_of points c) (multipole_row points cap c)) (sym (same_side b c grids a.same_level)) (multipole_rows_held grid points cap P c positive inside h.second_in_tree))
 
   -- the sources of the leaf c are far from a cell b that comes apart from it

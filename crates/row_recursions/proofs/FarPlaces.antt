@@ -4,9 +4,8 @@ use Rattle.std.proofs.lemmas.Int.{ints}
 use Rattle.std.proofs.Math.Pow.{pow_mono}
 use Rattle.std.specs.Int.{w128}
 use Rattle.exact_math.specs.Gaussian.{Gaussian, gaussian, conj, scale_gaussian}
-use Rattle.exact_math.specs.Within.{Within}
+use Rattle.exact_math.specs.Within.{Within, GaussianWithin}
 use Rattle.exact_math.proofs.WholeSizes.{within-mul, within-neg}
-use Rattle.truncation.specs.Places.{GaussianWithin}
 
 narrow : (z : ℤ) → Within (2 ^ 36) z → to_z w64 (of_z w64 z) ≡ z
 narrow z h = let f : SFits w64 z = omega (arith, ints) in to_z-of_z f

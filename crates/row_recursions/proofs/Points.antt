@@ -5,7 +5,7 @@ use Rattle.std.proofs.Math.Nat.{mul-le-mul_right}
 use Rattle.std.specs.Prelude.{unsigned_abs, [], ◌∷◌}
 use Rattle.exact_math.specs.Ends.{BoxEnds, BoxEndsWithin}
 use Rattle.exact_math.specs.Gaussian.{Gaussian, gaussian, norm_gaussian}
-use Rattle.exact_math.specs.Within.{Within}
+use Rattle.exact_math.specs.Within.{Within, GaussianWithin}
 use Rattle.points.specs.declared.Point.{Point}
 use Rattle.points.specs.declared.Strength.{Strength}
 use Rattle.points.specs.declared.Strength.TheVariants.{Pole, Dipole, Nothing}
@@ -20,7 +20,7 @@ use Rattle.cell_name.proofs.Cells.{inside_from_name}
 use Rattle.exact_math.proofs.GaussianSizes.{weight_at-le}
 use Rattle.exact_math.proofs.WholeSizes.{unsigned_abs-within}
 use Rattle.truncation.specs.Entries.{weight, local_cut}
-use Rattle.truncation.specs.Places.{GaussianWithin, doubled_offset}
+use Rattle.truncation.specs.Places.{doubled_offset}
 use Rattle.complex_box.proofs.Sizes.{box_wider}
 use Rattle.row_recursions.specs.Cells.{side_of, centre_of, offset_from, moments_of}
 use Rattle.row_recursions.specs.Moments.{pole_of, dipole_of, HoldsMoments}

@@ -8,7 +8,7 @@ use Rattle.std.specs.Prelude.{unsigned_abs}
 use Rattle.exact_math.specs.Ends.{Ends, BoxEnds, EndsWithin, BoxEndsWithin, zero_box, add_box, scale_box, gscale_box, quot_ends, quot_box, gquot_box, scale_ends}
 use Rattle.exact_math.specs.Gaussian.{Gaussian, norm_gaussian, conj, scale_gaussian}
 use Rattle.exact_math.specs.Sizes.{abs_gaussian}
-use Rattle.exact_math.specs.Within.{Within}
+use Rattle.exact_math.specs.Within.{Within, GaussianWithin, GaussianBeyond}
 use Rattle.exact_math.proofs.Ring.{int_ring}
 use Rattle.exact_math.proofs.RingTactic.{int_quotes, ring2}
 use Rattle.exact_math.proofs.GaussianSizes.{norm_count, norm_count-is}
@@ -16,7 +16,6 @@ use Rattle.exact_math.proofs.Integers.{square_nonneg}
 use Rattle.exact_math.proofs.WholeSizes.{within-mul, within-neg, within-floor, within-ceil}
 use Rattle.fixed_interval.proofs.Sizes.{ends_wider, add_within, sub_within, scale_within}
 use Rattle.complex_box.proofs.Sizes.{box_wider, add_box_within, neg_box_within, scale_box_within}
-use Rattle.truncation.specs.Places.{GaussianWithin, GaussianBeyond}
 use Rattle.row_recursions.specs.Rows.{RowsAdd, units_box, units_over, ratio_box, pole_moment, dipole_moment, source_moment, up_round, shifted_up, far_pole, far_dipole, far_source, down_round, shifted_down, local_round, local_value, multipole_round, multipole_value}
 use Rattle.row_recursions.specs.Sizes.{RowWithin, MomentSizes, UpSizes, FarSizes, DownSizes, LocalValueSizes, MultipoleValueSizes}
 

@@ -3,14 +3,13 @@ use Rattle.std.proofs.Common.{◌≡◌, sym, subst, ℕ, ◌+◌, ◌*◌, ◌^
 use Rattle.std.proofs.lemmas.Int.{ints, clamps}
 use Rattle.std.specs.Int.{int_min, int_max}
 use Rattle.exact_math.specs.Ends.{Ends, EndsWithin, add_ends, sub_ends, scale_ends, add_box, scale_box}
-use Rattle.exact_math.specs.Within.{Within}
+use Rattle.exact_math.specs.Within.{Within, GaussianWithin}
 use Rattle.fixed_interval.proofs.Sizes.{ends_wider, add_within, sub_within, scale_within}
 use Rattle.fixed_interval.specs.Interval.{ends_of}
 use Rattle.fixed_interval.specs.declared.Interval.{Interval}
 use Rattle.complex_box.specs.Box.{box_ends}
 use Rattle.complex_box.specs.declared.CBox.{CBox}
 use Rattle.cell_name.specs.declared.cell.Quadrant.{Quadrant}
-use Rattle.truncation.specs.Places.{GaussianWithin}
 use Rattle.row_recursions.specs.Cells.{sign, quadrant_of}
 
 -- x + x

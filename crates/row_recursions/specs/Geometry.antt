@@ -1,7 +1,8 @@
 -- What the laws of cells say in the words of rows: doubled centres and offsets as complex numbers.
 use Rattle.std.specs.Prelude.{ℕ, ◌*◌, ◌≤◌, ◌<◌, ◌≡◌, ℤ, pos, ◌-ℤ◌}
 use Rattle.exact_math.specs.Gaussian.{Gaussian, gaussian, add_gaussian, sub_gaussian, scale_gaussian}
-use Rattle.truncation.specs.Places.{GaussianWithin, GaussianBeyond, doubled_offset}
+use Rattle.exact_math.specs.Within.{GaussianWithin, GaussianBeyond}
+use Rattle.truncation.specs.Places.{doubled_offset}
 use Rattle.cell_name.specs.Apart.{columns_between, rows_between}
 use Rattle.cell_name.specs.Square.{Square, side, doubled_centre_x, doubled_centre_y, Holds, Touches, parent, child}
 use Rattle.kernel_table.specs.Kernel.{IsKernelDistance}
@@ -24,7 +25,6 @@ HeldPlaces = (c : Square) (x y : ℤ) → Holds c x y → GaussianWithin (side c
 -- two cells of one level that don't touch and whose parents do
 pub record AreAPair (b c : Square) : Type 0 where
   pub kernel : IsKernelDistance (sides_between b c)
-  pub beyond : GaussianBeyond 2 (sides_between b c)
   pub centres : sub_gaussian (doubled_centre b) (doubled_centre c) ≡ scale_gaussian (2 * side c) (sides_between b c)
 
 abbrev pub PairsOfCells : Type 0

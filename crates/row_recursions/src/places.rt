@@ -1,8 +1,7 @@
 //! Places of the program's points in its cells, as the recursions take them.
 ghost use Rattle.std.specs.Prelude.{◌≡◌, ◌*◌, ◌^◌, ◌≤◌, pos, ◌≤ℤ◌};
 ghost use Rattle.exact_math.specs.Gaussian.{gaussian, norm_gaussian, conj, scale_gaussian};
-ghost use Rattle.exact_math.specs.Within.{Within};
-ghost use Rattle.truncation.specs.Places.{GaussianWithin, GaussianBeyond};
+ghost use Rattle.exact_math.specs.Within.{Within, GaussianWithin, GaussianBeyond};
 ghost use Rattle.complex_box.specs.Box.{box_ends, number, BoxWithin};
 ghost use Rattle.points.specs.Limits.{InGrid};
 ghost use Rattle.row_recursions.specs.Cells.{side_of, offset_from};

@@ -23,7 +23,8 @@ use Rattle.row_recursions.proofs.ConvertLaws.{field_converted}
 use Rattle.row_recursions.proofs.MomentLaws.{multipole_values}
 use Rattle.row_recursions.proofs.Points.{strength_field}
 use Rattle.truncation.specs.Entries.{weight, pair_cut, multipole_cut, local_cut}
-use Rattle.truncation.specs.Places.{GaussianWithin, GaussianBeyond, doubled_offset}
+use Rattle.exact_math.specs.Within.{GaussianWithin, GaussianBeyond}
+use Rattle.truncation.specs.Places.{doubled_offset}
 use Rattle.truncation.specs.Tails.{pair_tail, single_tail, pair_radius, single_radius}
 use Rattle.truncation.proofs.EntryBounds.{pair_entries, multipole_entries, local_entries}
 use Rattle.soundness.specs.Squares.{doubled_centre, offset, sides_between, IsIn, IsFarFrom, CellsAreApart}

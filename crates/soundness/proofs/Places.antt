@@ -6,12 +6,11 @@ use Rattle.std.proofs.lemmas.Bool.{eqb-true, or_cases}
 use Rattle.std.proofs.lemmas.Int.{ints}
 use mathlib.Core.Logic.{⊎_elim, inl, inr}
 use Rattle.exact_math.specs.Gaussian.{Gaussian, gaussian, add_gaussian, sub_gaussian, norm_gaussian, scale_gaussian}
-use Rattle.exact_math.specs.Within.{Within}
+use Rattle.exact_math.specs.Within.{Within, GaussianBeyond}
 use Rattle.cell_name.specs.Square.{Square, side, parent, doubled_centre_x, doubled_centre_y}
 use Rattle.cell_name.proofs.Distances.{same_side, centres_differ}
 use Rattle.near_field.proofs.PairContains.{norm_positive_re, norm_positive_im}
 use Rattle.row_recursions.specs.Cells.{sign}
-use Rattle.truncation.specs.Places.{GaussianBeyond}
 use Rattle.soundness.specs.Squares.{doubled_centre, quadrant, sides_between, IsQuarterOf, IsIn, CellsAreApart}
 use Rattle.soundness.specs.Accounts.{under}
 use Rattle.soundness.proofs.Nodes.{strong, under-root, under-parent}

@@ -10,7 +10,7 @@ use Rattle.letters.specs.declared.Letter.TheVariants.{W}
 use Rattle.quadtree.specs.TreeModel.{TreeModel, IsTree, size, square_of}
 use Rattle.row_recursions.proofs.Geometry.{far_places}
 use Rattle.soundness.specs.Squares.{offset}
-use Rattle.truncation.specs.Places.{GaussianBeyond}
+use Rattle.exact_math.specs.Within.{GaussianBeyond}
 use Rattle.target_values.proofs.Numbers.{number_below, few_items, entry_at}
 
 -- a list of W entries, as it is read

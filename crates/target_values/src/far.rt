@@ -10,7 +10,7 @@ ghost use Rattle.points.specs.Points.{place};
 ghost use Rattle.quadtree.specs.TreeModel.{size, square_of, IsTree};
 ghost use Rattle.row_recursions.specs.Cells.{side_of, offset_from};
 ghost use Rattle.row_recursions.specs.Rows.{multipole_value};
-ghost use Rattle.truncation.specs.Places.{GaussianBeyond};
+ghost use Rattle.exact_math.specs.Within.{GaussianBeyond};
 ghost use Rattle.truncation.specs.Tails.{single_radius};
 ghost use Rattle.tree_rows.specs.FlatRows.{IsWeight, row_at};
 ghost use Rattle.target_values.specs.Values.{far_values, far_radius};

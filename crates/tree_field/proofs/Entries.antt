@@ -83,7 +83,7 @@ module _ (grid : ℕ) (points : List Point) (cap P : ℕ) (lists : TreeLists) (p
       let grids : b.grid ≡ c.grid = tb.of_grid ∙ sym tc.of_grid in
       let a = e.come_apart in
       subst (λ s. CellsAreApart s (cell (number lists.cells c))) (sym (is b tb)) (subst (λ s. CellsAreApart b s) (sym (is c tc))
-      (record { grid = grids; level = a.same_level; apart = (pairs_of_cells b c grids a.same_level a.apart a.parents_touch).beyond }))
+      (record { grid = grids; level = a.same_level; apart = (pairs_of_cells b c grids a.same_level a.apart a.parents_touch).kernel.apart }))
   apart_of W b c tb tc e =
       let a = e.comes_apart in
       All-map (λ (t : LeafTarget). under (above grid lists.cells) t.leaf (number lists.cells b) ≡ true → IsFarFrom (cell (number lists.cells c)) t.place) (leaf_target grid points cap P lists) (targets points)

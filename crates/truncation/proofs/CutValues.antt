@@ -14,7 +14,8 @@ use Rattle.exact_math.proofs.WholeSizes.{unsigned_abs-within}
 use Rattle.exact_math.proofs.KernelIdentity.{Stands-kernel, Stands-kernel_slope}
 use Rattle.exact_math.proofs.DirectTerms.{norm_positive, Stands-reciprocal, Stands-pole, Stands-dipole}
 use Rattle.truncation.specs.CutTerms.{half, pair_pole_cut, pair_dipole_cut, multipole_pole_cut, multipole_dipole_cut, local_pole_cut, local_dipole_cut}
-use Rattle.truncation.specs.Places.{GaussianWithin, GaussianBeyond, pair_distance}
+use Rattle.exact_math.specs.Within.{GaussianWithin, GaussianBeyond}
+use Rattle.truncation.specs.Places.{pair_distance}
 use Rattle.truncation.specs.Truncation.{halved_pole_term, halved_dipole_term}
 use Rattle.truncation.proofs.Distances.{PartsAtMost, SomePartAtLeast, double}
 use Rattle.std.specs.Prelude.{unsigned_abs}

@@ -6,7 +6,8 @@ use Rattle.exact_math.specs.Sizes.{weight_at}
 use Rattle.exact_math.specs.Terms.{pole_term, dipole_term}
 use Rattle.exact_math.proofs.Integers.{*-positive}
 use Rattle.truncation.specs.Entries.{Source, weight, exact_term, pair_cut, multipole_cut, local_cut, PairEntries, MultipoleEntries, LocalEntries}
-use Rattle.truncation.specs.Places.{GaussianWithin, GaussianBeyond, pair_distance, PairPlaces, SinglePlaces, doubled_offset}
+use Rattle.exact_math.specs.Within.{GaussianWithin, GaussianBeyond}
+use Rattle.truncation.specs.Places.{pair_distance, PairPlaces, SinglePlaces, doubled_offset}
 use Rattle.truncation.specs.Tails.{pair_tail, single_tail}
 use Rattle.truncation.specs.Truncation.{Truncated, halved_pole_term, halved_dipole_term}
 use Rattle.truncation.proofs.Counting.{Truncated-same, Truncated-sum}

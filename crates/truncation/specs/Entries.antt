@@ -6,7 +6,8 @@ use Rattle.exact_math.specs.Sizes.{weight_at}
 use Rattle.exact_math.specs.Sums.{sum_terms}
 use Rattle.exact_math.specs.Terms.{pole_term, dipole_term}
 use Rattle.truncation.specs.CutTerms.{pair_pole_cut, pair_dipole_cut, multipole_pole_cut, multipole_dipole_cut, local_pole_cut, local_dipole_cut}
-use Rattle.truncation.specs.Places.{GaussianWithin, GaussianBeyond, doubled_offset}
+use Rattle.exact_math.specs.Within.{GaussianWithin, GaussianBeyond}
+use Rattle.truncation.specs.Places.{doubled_offset}
 use Rattle.truncation.specs.Tails.{pair_tail, single_tail}
 use Rattle.truncation.specs.Truncation.{Truncated}
 

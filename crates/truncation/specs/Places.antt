@@ -1,17 +1,8 @@
 -- Where a source and a target lie, in whole numbers. A doubled offset is twice the offset of a place from a centre, and a doubled distance
 -- twice the target minus the source; s is the side of the cells.
-use Rattle.std.specs.Prelude.{ℕ, ◌*◌, ◌≤◌, ◌⊎◌, unsigned_abs}
+use Rattle.std.specs.Prelude.{ℕ, ◌*◌, ◌≤◌}
 use Rattle.exact_math.specs.Gaussian.{Gaussian, add_gaussian, sub_gaussian, scale_gaussian, twice}
-use Rattle.exact_math.specs.Within.{Within}
-
--- both parts of g are at most m in size
-pub record GaussianWithin (m : ℕ) (g : Gaussian) : Type 0 where
-  pub re : Within m g.re
-  pub im : Within m g.im
-
--- a part of g is at least m in size
-abbrev pub GaussianBeyond : ℕ → Gaussian → Type 0
-GaussianBeyond m g = (m ≤ unsigned_abs g.re) ⊎ (m ≤ unsigned_abs g.im)
+use Rattle.exact_math.specs.Within.{GaussianWithin, GaussianBeyond}
 
 -- two cells of side s whose centres are e sides apart, e with a part of at least 2; the source and the target have the doubled offsets o and q
 pub record PairPlaces (s : ℕ) (e o q : Gaussian) : Type 0 where

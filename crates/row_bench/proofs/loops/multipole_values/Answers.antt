@@ -1,7 +1,8 @@
 use Rattle.std.proofs.Common.{◌*◌, ◌^◌, arith, lit≤, rules, subst, sym, to_z-of_z, SFits}
 use Rattle.std.proofs.lemmas.Int.{ints}
 use Rattle.std.specs.Int.{w64}
-use Rattle.truncation.specs.Places.{GaussianBeyond, doubled_offset}
+use Rattle.exact_math.specs.Within.{GaussianBeyond}
+use Rattle.truncation.specs.Places.{doubled_offset}
 use Rattle.cell_name.specs.Square.{side}
 use Rattle.points.specs.Points.{place}
 use Rattle.complex_box.proofs.Sizes.{box_wider}

@@ -14,7 +14,7 @@ use Rattle.quadtree.specs.TreeModel.{size, square_of}
 use Rattle.row_recursions.specs.Rows.{multipole_value}
 use Rattle.soundness.specs.Computed.{total_box}
 use Rattle.soundness.specs.Squares.{offset}
-use Rattle.truncation.specs.Places.{GaussianBeyond}
+use Rattle.exact_math.specs.Within.{GaussianBeyond}
 use Rattle.tree_rows.specs.FlatRows.{row_at}
 use Rattle.target_values.proofs.FarCells.{far_below, few_far, far_from}
 use Rattle.target_values.proofs.NearSums.{total-step}
