@@ -17,6 +17,7 @@ use Rattle.exact_math.proofs.RingTactic.{int_quotes, ring2, ring3}
 use Rattle.exact_math.proofs.Integers as Z
 use Rattle.exact_math.specs.Binomials.{choose}
 use Rattle.exact_math.proofs.Enclosures.{floor_div_le, ceil_div_ge}
+use Rattle.exact_math.proofs.Squares.{norm_count, norm_count-is}
 use Rattle.kernel_table.specs.Kernel.{IsKernelDistance, kernel_power, kernel_entry, alternate_box}
 use Rattle.kernel_table.proofs.PowersOfTwo.{power_positive, power_add, choose_le}
 
@@ -99,17 +100,6 @@ next_width w = (6 * w + 10) / 5
 pub widths : ℕ → ℕ
 widths zero = 2
 widths (suc n) = next_width (widths n)
-
--- norm e, as a natural number
-abbrev pub norm_count : Gaussian → ℕ
-norm_count e = unsigned_abs e.re * unsigned_abs e.re + unsigned_abs e.im * unsigned_abs e.im
-
-pub square_abs : (a : ℤ) → pos (unsigned_abs a * unsigned_abs a) ≡ a *ℤ a
-square_abs (pos n) = omega (arith, ints)
-square_abs (negsuc n) = omega (arith, ints)
-
-pub norm_count-is : (e : Gaussian) → pos (norm_count e) ≡ norm_gaussian e
-norm_count-is e = ap₂ ◌+ℤ◌ (square_abs e.re) (square_abs e.im)
 
 -- 10 (|x| + |y|) <= 6 (x^2 + y^2) where one is at least 2: the factor 6/5 is met at 2 + i
 six_fifths : (x y : ℕ) → 2 ≤ x → 10 * (x + y) ≤ 6 * (x * x + y * y)

@@ -9,6 +9,7 @@ use Rattle.exact_math.specs.Gaussian.{Gaussian, gaussian, sub_gaussian, norm_gau
 use Rattle.exact_math.specs.Ratio.{ComplexRatio, re_part, im_part}
 use Rattle.exact_math.proofs.Integers.{*-positive, *-nonneg}
 use Rattle.exact_math.proofs.Bridges.{contains-rounded}
+use Rattle.exact_math.proofs.Squares.{square_nonneg}
 use Rattle.points.specs.Points.{place, strength, is_source}
 use Rattle.points.specs.declared.Point.{Point}
 use Rattle.points.specs.declared.Strength.{Strength}
@@ -17,10 +18,6 @@ use Rattle.near_field.specs.DirectSum.{acts_on}
 use Rattle.near_field.specs.Pair.{is_at, strength_term, term_of, outward, pair_box}
 
 -- ---- the denominators are above 0
-square_nonneg : (x : ℤ) → pos 0 ≤ℤ (x *ℤ x)
-square_nonneg (pos n) = *-nonneg (pos n) (pos n) (omega (arith, ints)) (omega (arith, ints))
-square_nonneg (negsuc n) = omega (arith, ints)
-
 square_positive : (x : ℤ) → (x ≡ pos 0 → ⊥) → pos 0 <ℤ (x *ℤ x)
 square_positive (pos zero) h = absurd (h refl)
 square_positive (pos (suc n)) h = *-positive (pos (suc n)) (pos (suc n)) (omega (arith, ints)) (omega (arith, ints))

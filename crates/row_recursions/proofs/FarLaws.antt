@@ -12,7 +12,7 @@ use Rattle.exact_math.proofs.Horner.{polynomial}
 use Rattle.truncation.specs.CutTerms.{local_pole_cut, local_dipole_cut}
 use Rattle.truncation.specs.Entries.{Source, local_cut}
 use Rattle.truncation.specs.Places.{doubled_offset}
-use Rattle.truncation.proofs.CutValues.{halved, Stands-local_pole_cut, Stands-local_dipole_cut}
+use Rattle.truncation.proofs.CutValues.{halved, Stands-local_pole_cut, Stands-local_dipole_cut, Stands-reciprocal}
 use Rattle.row_recursions.specs.Laws.{FieldOfSource}
 use Rattle.row_recursions.specs.Moments.{pole_of, dipole_of}
 use Rattle.row_recursions.specs.Rows.{far_source}
@@ -21,7 +21,6 @@ use Rattle.row_recursions.proofs.CutSums as Cut
 use Rattle.row_recursions.proofs.FarRows.{far_source_holds}
 use Rattle.row_recursions.proofs.FieldLaws.{Stands-over_side, holds_field}
 use Rattle.row_recursions.proofs.Halves.{sides-half, halved_positive, far_ratio, far_ratio-is, far_ratio-over}
-use Rattle.row_recursions.proofs.KernelRows.{Stands-reciprocal}
 use Rattle.row_recursions.proofs.MomentLaws.{value-nothing}
 use Rattle.row_recursions.proofs.Sides.{sides, reciprocal}
 

@@ -18,6 +18,7 @@ use Rattle.cell_name.specs.Square.{side, corner_x, corner_y, Holds, IsInGrid}
 use Rattle.cell_name.specs.declared.cell.Cell.{Cell}
 use Rattle.cell_name.proofs.Cells.{inside_from_name}
 use Rattle.exact_math.proofs.GaussianSizes.{weight_at-le}
+use Rattle.exact_math.proofs.WholeSizes.{size-within}
 use Rattle.truncation.specs.Entries.{weight}
 use Rattle.truncation.specs.Places.{GaussianWithin, doubled_offset}
 use Rattle.complex_box.proofs.Sizes.{box_wider}
@@ -82,13 +83,9 @@ side_positive c = power_positive _
     power_positive (suc n) = let h = power_positive n in omega arith
 
 -- ---- weights
-part_small : (n : ℕ) (z : ℤ) → Within n z → unsigned_abs z ≤ n
-part_small n (pos a) h = let l = h.below in omega (arith, ints)
-part_small n (negsuc a) h = let l = h.above in omega (arith, ints)
-
 weight_bounded_at : (a : Strength) → StrengthWithin most_strength a → abs_gaussian (pole_part a) + 64 * abs_gaussian (dipole_part a) ≤ 2 ^ 27
-weight_bounded_at (Pole re im) h = let a = part_small _ re h.0 in let b = part_small _ im h.1 in omega arith
-weight_bounded_at (Dipole re im) h = let a = part_small _ re h.0 in let b = part_small _ im h.1 in omega arith
+weight_bounded_at (Pole re im) h = let a = size-within _ re h.0 in let b = size-within _ im h.1 in omega arith
+weight_bounded_at (Dipole re im) h = let a = size-within _ re h.0 in let b = size-within _ im h.1 in omega arith
 weight_bounded_at Nothing h = omega arith
 
 -- the box of a strength whose components are in their limits, as calls have it

@@ -13,6 +13,7 @@ use Rattle.exact_math.proofs.Gaussians.{value, value-norm, value-sub}
 use Rattle.exact_math.proofs.Fractions.{complex_value, complex_value-split, Stands, Stands-whole, Stands-count, Stands-mul, Stands-neg, Stands-pow, Stands-slope, Stands-sum}
 use Rattle.exact_math.proofs.KernelIdentity.{Stands-kernel, Stands-kernel_slope}
 use Rattle.exact_math.proofs.DirectTerms.{norm_positive, Stands-pole, Stands-dipole}
+use Rattle.exact_math.proofs.WholeSizes.{size-within}
 use Rattle.truncation.specs.CutTerms.{half, pair_pole_cut, pair_dipole_cut, multipole_pole_cut, multipole_dipole_cut, local_pole_cut, local_dipole_cut}
 use Rattle.truncation.specs.Places.{GaussianWithin, GaussianBeyond, pair_distance}
 use Rattle.truncation.specs.Truncation.{halved_pole_term, halved_dipole_term}
@@ -23,13 +24,8 @@ use mathlib.Core.Logic.{inl, inr}
 use native.Mathlib.Nat.{mul-le-mul_left}
 use Prim.Native.Nat.{◌*◌, ◌≤◌}
 
--- ---- sizes
-size_le : (m : ℕ) (z : ℤ) → Within m z → unsigned_abs z ≤ m
-size_le m (pos n) h = let l = h.below in omega (arith, ints)
-size_le m (negsuc n) h = let l = h.above in omega (arith, ints)
-
 -- ---- reciprocals
-Stands-reciprocal : (g : Gaussian) → pos 0 <ℤ norm_gaussian g → Stands (reciprocal g) (inverse_ℂ (value g))
+pub Stands-reciprocal : (g : Gaussian) → pos 0 <ℤ norm_gaussian g → Stands (reciprocal g) (inverse_ℂ (value g))
 Stands-reciprocal g h = record {
   positive = h;
   is = same_pair rational_ring _ _
@@ -95,8 +91,8 @@ int_le m n h = (of_int-≤ _ _).1 (omega (arith, ints))
 -- an offset within s
 pub offset_parts : (g : Gaussian) (s : ℕ) → GaussianWithin s g → PartsAtMost (double (halved g)) (of_int (pos s))
 offset_parts g s h = subst (λ z. PartsAtMost z (of_int (pos s))) (sym (double_halved g)) (record {
-  re = subst (λ q. q ≤ℚ of_int (pos s)) (sym (absolute_int g.re)) (int_le _ _ (size_le s g.re h.re));
-  im = subst (λ q. q ≤ℚ of_int (pos s)) (sym (absolute_int g.im)) (int_le _ _ (size_le s g.im h.im));
+  re = subst (λ q. q ≤ℚ of_int (pos s)) (sym (absolute_int g.re)) (int_le _ _ (size-within s g.re h.re));
+  im = subst (λ q. q ≤ℚ of_int (pos s)) (sym (absolute_int g.im)) (int_le _ _ (size-within s g.im h.im));
 })
 
 value_parts : (g : Gaussian) (m : ℕ) → GaussianBeyond m g → SomePartAtLeast (value g) (of_int (pos m))
