@@ -7,15 +7,14 @@ use borrow.Author.Differences.{ints}
 use Prim.Native.Nat.{suc}
 use Rattle.std.specs.Prelude.{List, [], ◌∷◌, fold, All}
 use Rattle.exact_math.specs.Contains.{Contains}
-use Rattle.exact_math.specs.Ends.{Ends, BoxEnds, point_ends, add_ends, neg_ends, sub_ends, scale_ends, times_ends, quot_ends, widen_ends, point_box, zero_box, add_box, neg_box, sub_box, scale_box, times_box, gscale_box, quot_box, gquot_box, widen_box, BoxEndsContain, BoxEndsInside}
+use Rattle.exact_math.specs.Ends.{BoxEnds, point_box, zero_box, add_box, neg_box, scale_box, times_box, gscale_box, quot_box, gquot_box, widen_box, BoxEndsContain, BoxEndsInside}
 use Rattle.exact_math.specs.Gaussian.{Gaussian, gaussian}
-use Rattle.exact_math.specs.Ratio.{Ratio, whole_ratio, add_ratio, neg_ratio, sub_ratio, mul_ratio, over_ratio, ComplexRatio, SameComplex, zero_complex, whole_complex, neg_complex, over_complex, re_part, im_part, ◌+ᶜ◌, ◌-ᶜ◌, ◌*ᶜ◌}
-use Rattle.exact_math.specs.Rounding.{floor_div, ceil_div}
+use Rattle.exact_math.specs.Ratio.{Ratio, whole_ratio, ComplexRatio, zero_complex, whole_complex, neg_complex, over_complex, re_part, im_part, ◌+ᶜ◌, ◌-ᶜ◌, ◌*ᶜ◌}
 use Rattle.exact_math.specs.Sums.{sum_terms}
 use Rattle.exact_math.proofs.Ring.{int_ring}
 use Rattle.exact_math.proofs.RingTactic.{int_quotes, ring4, ring5, ring6}
 use Rattle.exact_math.proofs.Integers.{*-positive}
-use Rattle.exact_math.proofs.Bridges.{contains-wider, contains-same, contains-neg, contains-add, contains-sub, contains-scale, contains-mul, contains-quot, contains-widen, contains-rounded}
+use Rattle.exact_math.proofs.Bridges.{contains-wider, contains-same, contains-neg, contains-add, contains-sub, contains-scale, contains-mul, contains-quot, contains-widen}
 
 module _ {u : ℤ} {b : BoxEnds} {x : ComplexRatio} (h : BoxEndsContain u b x) where
   -- -x
@@ -29,10 +28,6 @@ module _ {u : ℤ} {b : BoxEnds} {x : ComplexRatio} (h : BoxEndsContain u b x) w
   -- x/n, rounded outward
   pub BoxEndsContain-quot : (n : ℤ) → pos 1 ≤ℤ n → BoxEndsContain u (quot_box b n) (over_complex x n)
   BoxEndsContain-quot n n>0 = record { re = contains-quot h.re n n>0; im = contains-quot h.im n n>0 }
-
-  -- another fraction of the same value
-  pub BoxEndsContain-same : (y : ComplexRatio) → SameComplex x y → BoxEndsContain u b y
-  BoxEndsContain-same y e = record { re = contains-same h.re (re_part y) e.right_fraction e.re; im = contains-same h.im (im_part y) e.right_fraction e.im }
 
   whole_positive : pos 0 <ℤ (pos 1 *ℤ x.denominator)
   whole_positive = *-positive (pos 1) _ (omega (arith, ints)) h.re.fraction
@@ -86,10 +81,6 @@ module _ {u : ℤ} {b c : BoxEnds} {x y : ComplexRatio} (h : BoxEndsContain u b 
   pub BoxEndsContain-add : BoxEndsContain u (add_box b c) (x +ᶜ y)
   BoxEndsContain-add = record { re = contains-add h.re k.re; im = contains-add h.im k.im }
 
-  -- x - y
-  pub BoxEndsContain-sub : BoxEndsContain u (sub_box b c) (x -ᶜ y)
-  BoxEndsContain-sub = record { re = contains-sub h.re k.re; im = contains-sub h.im k.im }
-
 -- the product counts in the product of the units
 pub BoxEndsContain-times : {u v : ℤ} {b c : BoxEnds} {x y : ComplexRatio} → BoxEndsContain u b x → BoxEndsContain v c y → BoxEndsContain (u *ℤ v) (times_box b c) (x *ᶜ y)
 BoxEndsContain-times {x = x} {y = y} h k = record {
@@ -106,14 +97,6 @@ BoxEndsContain-times {x = x} {y = y} h k = record {
 pub BoxEndsContain-widen : {u : ℤ} {b : BoxEnds} {x : ComplexRatio} (r : ℤ) (y : ComplexRatio) → BoxEndsContain u b x
     → BoxEndsContain u (record { re = record { lo = neg_ℤ r; hi = r }; im = record { lo = neg_ℤ r; hi = r } }) (y -ᶜ x) → BoxEndsContain u (widen_box b r) y
 BoxEndsContain-widen r y h k = record { re = contains-widen r (re_part y) h.re k.re; im = contains-widen r (im_part y) h.im k.im }
-
--- any complex fraction, both parts rounded outward to whole units
-pub BoxEndsContain-rounded : (u : ℤ) (x : ComplexRatio) → pos 0 <ℤ x.denominator
-    → BoxEndsContain u (record {
-      re = record { lo = floor_div (u *ℤ x.re) x.denominator; hi = ceil_div (u *ℤ x.re) x.denominator };
-      im = record { lo = floor_div (u *ℤ x.im) x.denominator; hi = ceil_div (u *ℤ x.im) x.denominator };
-    }) x
-BoxEndsContain-rounded u x h = record { re = contains-rounded u (re_part x) h; im = contains-rounded u (im_part x) h }
 
 -- ---- a list
 module _ {A : Type 0} (u : ℤ) (box : A → BoxEnds) (term : A → ComplexRatio) where

@@ -1,7 +1,7 @@
 -- Sizes of whole numbers under sums, products and rounded quotients.
 use Rattle.std.proofs.Common.{◌≡◌, ℕ, suc, ◌+◌, ◌*◌, ◌≤◌, arith, ℤ, pos, negsuc, neg_ℤ, ◌+ℤ◌, ◌-ℤ◌, ◌*ℤ◌, ◌≤ℤ◌}
-use Rattle.std.specs.Prelude.{unsigned_abs}
 use Rattle.std.proofs.Math.Nat.{mul-le-mul}
+use Rattle.std.specs.Prelude.{unsigned_abs}
 use Rattle.std.proofs.lemmas.Int.{ints}
 use Rattle.exact_math.specs.Rounding.{floor_div, ceil_div}
 use Rattle.exact_math.specs.Within.{Within}
@@ -10,6 +10,14 @@ use Rattle.exact_math.proofs.RingTactic.{int_quotes, ring2}
 use Rattle.exact_math.proofs.Integers.{*-cancel_≤}
 use Rattle.exact_math.proofs.Enclosures.{floor_div_le}
 use Rattle.exact_math.proofs.RoundedQuotients.{floor_is_greatest}
+
+pub unsigned_abs-within : (m : ℕ) (z : ℤ) → Within m z → unsigned_abs z ≤ m
+unsigned_abs-within m (pos n) h = let l = h.below in omega (arith, ints)
+unsigned_abs-within m (negsuc n) h = let l = h.above in omega (arith, ints)
+
+pub within-size : (z : ℤ) → Within (unsigned_abs z) z
+within-size (pos n) = record { above = omega (arith, ints); below = omega (arith, ints) }
+within-size (negsuc n) = record { above = omega (arith, ints); below = omega (arith, ints) }
 
 pub within-weaker : {m n : ℕ} {x : ℤ} → m ≤ n → Within m x → Within n x
 within-weaker h w = record { above = omega (arith, ints); below = omega (arith, ints) }
@@ -36,15 +44,6 @@ within-mul m n (negsuc a) (pos b) v w =
 within-mul m n (negsuc a) (negsuc b) v w =
     let l : suc a * suc b ≤ m * n = mul-le-mul (omega (arith, ints)) (omega (arith, ints)) in
     record { above = omega (arith, ints); below = omega (arith, ints) }
-
--- a number has its own size, and one within m has at most the size m
-pub within-size : (z : ℤ) → Within (unsigned_abs z) z
-within-size (pos n) = record { above = omega (arith, ints); below = omega (arith, ints) }
-within-size (negsuc n) = record { above = omega (arith, ints); below = omega (arith, ints) }
-
-pub size-within : (m : ℕ) (z : ℤ) → Within m z → unsigned_abs z ≤ m
-size-within m (pos n) h = let l = h.below in omega (arith, ints)
-size-within m (negsuc n) h = let l = h.above in omega (arith, ints)
 
 -- what is at most m divisors in size has a quotient of at most m, rounded down or up
 pub within-floor : (m : ℕ) (z n : ℤ) → pos 1 ≤ℤ n → (neg_ℤ (pos m) *ℤ n) ≤ℤ z → z ≤ℤ (pos m *ℤ n) → Within m (floor_div z n)

@@ -3,16 +3,10 @@
 
 mod commands;
 mod refusals;
-#[cfg(test)]
-mod sample_tests;
 mod samples;
 mod solve;
 mod status;
-#[cfg(test)]
-mod tests;
 mod top;
-#[cfg(test)]
-mod tree_tests;
 mod words;
 
 pub use commands::{Opening, plan};

@@ -10,8 +10,8 @@ use Rattle.std.proofs.Common.{SFits, to_z, of_z, to_z-of_z}
 use Rattle.std.specs.Int.{w128}
 use Rattle.std.specs.Prelude.{unsigned_abs}
 use Rattle.exact_math.specs.Gaussian.{Gaussian, norm_gaussian}
-use Rattle.exact_math.proofs.Squares.{square_abs, norm_count-is}
 use Rattle.kernel_table.specs.Kernel.{IsKernelDistance}
+use Rattle.exact_math.proofs.GaussianSizes.{square_abs, norm_count-is}
 use Rattle.kernel_table.proofs.Widths.{norm_count≥4}
 
 part_le : (x y : ℕ) → max x y ≤ 3 → (x ≤ 3) × (y ≤ 3)

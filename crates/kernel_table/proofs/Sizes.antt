@@ -18,7 +18,8 @@ use Rattle.exact_math.proofs.RingTactic.{int_quotes, ring2, ring3, ring5}
 use Rattle.exact_math.proofs.Integers as Z
 use Rattle.exact_math.specs.Binomials.{choose}
 use Rattle.exact_math.proofs.Enclosures.{floor_div_le}
-use Rattle.exact_math.proofs.Squares.{square_nonneg, norm_count-is}
+use Rattle.exact_math.proofs.GaussianSizes.{norm_count-is}
+use Rattle.exact_math.proofs.Integers.{square_nonneg}
 use Rattle.complex_box.specs.Box.{GscaleFits}
 use Rattle.kernel_table.specs.Kernel.{IsKernelDistance, kernel_power, kernel_entry, alternate_box}
 use Rattle.kernel_table.proofs.Contained.{kernel_power_contains}

@@ -1,5 +1,5 @@
 -- The widths of the kernel's powers and entries.
-use mathlib.Core.Path.{◌≡◌, sym, ap₂, subst, subst₂}
+use mathlib.Core.Path.{◌≡◌, sym, subst, subst₂}
 use mathlib.Core.Logic.{◌⊎◌, inl, inr, ⊎_elim}
 use Prim.Native.Nat.{ℕ, zero, suc, ◌+◌, ◌-◌, ◌*◌, ◌/◌, ◌^◌, ◌≤◌, ◌<◌, max}
 use native.Mathlib.Nat.{lt_of_not-le, mul-le-mul_left, mul-le-mul_right, mul-le-mul}
@@ -12,12 +12,12 @@ use Rattle.std.specs.Prelude.{unsigned_abs}
 use Rattle.exact_math.specs.Ends.{Ends, BoxEnds, point_ends, add_ends, neg_ends, sub_ends, scale_ends, quot_ends, EndsNarrow, BoxEndsNarrow}
 use Rattle.exact_math.specs.Gaussian.{Gaussian, norm_gaussian}
 use Rattle.exact_math.specs.Rounding.{floor_div, ceil_div}
+use Rattle.exact_math.proofs.GaussianSizes.{norm_count, norm_count-is}
 use Rattle.exact_math.proofs.Ring.{int_ring}
 use Rattle.exact_math.proofs.RingTactic.{int_quotes, ring2, ring3}
 use Rattle.exact_math.proofs.Integers as Z
 use Rattle.exact_math.specs.Binomials.{choose}
 use Rattle.exact_math.proofs.Enclosures.{floor_div_le, ceil_div_ge}
-use Rattle.exact_math.proofs.Squares.{norm_count, norm_count-is}
 use Rattle.kernel_table.specs.Kernel.{IsKernelDistance, kernel_power, kernel_entry, alternate_box}
 use Rattle.kernel_table.proofs.PowersOfTwo.{power_positive, power_add, choose_le}
 

@@ -1,5 +1,5 @@
 -- The box of a pair contains the term of the pair.
-use Rattle.std.proofs.Common.{◌≡◌, zero, suc, ◌^◌, refl, sym, ap, ◌∙◌, arith, ℤ, pos, negsuc, ◌-ℤ◌, ◌*ℤ◌, ◌<ℤ◌, ◌≤ℤ◌, Bool, true, false, not, ◌&&◌}
+use Rattle.std.proofs.Common.{◌≡◌, zero, suc, ◌^◌, refl, sym, ap, ◌∙◌, arith, ℤ, pos, negsuc, ◌-ℤ◌, ◌*ℤ◌, ◌<ℤ◌, Bool, true, false, not, ◌&&◌}
 use Rattle.std.proofs.lemmas.Int.{ints}
 use Rattle.std.proofs.lemmas.Bool.{false≢true}
 use Rattle.std.proofs.lemmas.Bool.Decides.{Decides-int_eq}
@@ -7,9 +7,8 @@ use Rattle.std.specs.Ordering.{int_eq}
 use Rattle.exact_math.specs.Ends.{BoxEndsContain}
 use Rattle.exact_math.specs.Gaussian.{Gaussian, gaussian, sub_gaussian, norm_gaussian}
 use Rattle.exact_math.specs.Ratio.{ComplexRatio, re_part, im_part}
-use Rattle.exact_math.proofs.Integers.{*-positive, *-nonneg}
+use Rattle.exact_math.proofs.Integers.{*-positive, square_nonneg}
 use Rattle.exact_math.proofs.Bridges.{contains-rounded}
-use Rattle.exact_math.proofs.Squares.{square_nonneg}
 use Rattle.points.specs.Points.{place, strength, is_source}
 use Rattle.points.specs.declared.Point.{Point}
 use Rattle.points.specs.declared.Strength.{Strength}

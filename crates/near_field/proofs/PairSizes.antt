@@ -8,7 +8,7 @@ use Rattle.exact_math.specs.Ratio.{ComplexRatio}
 use Rattle.exact_math.specs.Rounding.{floor_div, ceil_div}
 use Rattle.exact_math.specs.Within.{Within}
 use Rattle.exact_math.specs.Terms.{pole_term, dipole_term}
-use Rattle.exact_math.proofs.Integers.{*-mono_left, *-nonneg, *-comm, *-cancel_≤}
+use Rattle.exact_math.proofs.Integers.{*-mono_left, *-comm, *-cancel_≤, square_nonneg}
 use Rattle.exact_math.proofs.Enclosures.{floor_div_le, ceil_div_ge}
 use Rattle.exact_math.proofs.Ring.{int_ring}
 use Rattle.exact_math.proofs.RingTactic.{int_quotes, ring1, ring2, ring3, ring4}
@@ -16,7 +16,6 @@ use Rattle.exact_math.proofs.RoundedQuotients.{floor_near}
 use Rattle.exact_math.proofs.WholeSizes.{within-floor, within-ceil}
 use Rattle.points.specs.Limits.{weight64}
 use Rattle.exact_math.specs.Sizes.{abs_gaussian}
-use Rattle.exact_math.proofs.Squares.{square_nonneg}
 use Rattle.complex_box.proofs.Sizes.{zero_within}
 use Rattle.points.specs.Points.{strength}
 use Rattle.points.specs.Strength.{pole_part, dipole_part}

@@ -15,17 +15,17 @@ use Rattle.exact_math.specs.Within.{Within}
 use Rattle.exact_math.proofs.Ring.{int_ring}
 use Rattle.exact_math.proofs.RingTactic.{int_quotes, ring2}
 use Rattle.exact_math.proofs.Integers as Z
-use Rattle.exact_math.proofs.Squares.{square_abs, two_products}
-use Rattle.exact_math.proofs.WholeSizes.{within-size}
 use Rattle.fixed_interval.proofs.Sizes.{add_within, sub_within, times_within}
 use Rattle.complex_box.proofs.Sizes.{box_wider, add_box_within, zero_within}
 use Rattle.kernel_table.specs.Kernel.{IsKernelDistance, kernel_entry, kernel_fraction, alternate_complex}
 use Rattle.kernel_table.proofs.Entries.{kernel_entries}
 use Rattle.kernel_table.proofs.Sizes.{Shrunk, shrunk, norm≥4, count_root_le}
+use Rattle.exact_math.proofs.GaussianSizes.{square_abs}
+use Rattle.exact_math.proofs.WholeSizes.{within-size}
 use Rattle.row_recursions.specs.Rows.{sum_boxes, converted}
 use Rattle.row_recursions.specs.Sizes.{RowWithin, ConvertedSizes}
 use Rattle.row_recursions.proofs.KernelCounts.{column_count, column_count-next, column_count-bounded}
-use Rattle.row_recursions.proofs.RowSizes.{box_quot_within, power_positive}
+use Rattle.row_recursions.proofs.RowSizes.{box_quot_within, power_positive, two_products}
 
 -- ---- the exact kernel
 sum_root : (x y d : ℕ) → x * x + y * y ≤ d * d → 12 * (x + y) ≤ 17 * d

@@ -9,10 +9,11 @@ use Rattle.exact_math.proofs.BoxEnclosures.{EnclosesBox}
 use Rattle.exact_math.proofs.Fractions.{Stands, Stands-whole, Stands-count, Stands-add, Stands-neg, Stands-mul, Stands-pow}
 use Rattle.exact_math.proofs.Gaussians.{value}
 use Rattle.exact_math.proofs.Horner.{polynomial}
+use Rattle.exact_math.proofs.DirectTerms.{Stands-reciprocal}
 use Rattle.truncation.specs.CutTerms.{local_pole_cut, local_dipole_cut}
 use Rattle.truncation.specs.Entries.{Source, local_cut}
 use Rattle.truncation.specs.Places.{doubled_offset}
-use Rattle.truncation.proofs.CutValues.{halved, Stands-local_pole_cut, Stands-local_dipole_cut, Stands-reciprocal}
+use Rattle.truncation.proofs.CutValues.{halved, Stands-local_pole_cut, Stands-local_dipole_cut}
 use Rattle.row_recursions.specs.Laws.{FieldOfSource}
 use Rattle.row_recursions.specs.Moments.{pole_of, dipole_of}
 use Rattle.row_recursions.specs.Rows.{far_source}

@@ -1,10 +1,10 @@
 -- Points in cells, and their strengths.
-use Rattle.std.proofs.Common.{◌≡◌, refl, ℕ, zero, suc, ◌+◌, ◌*◌, ◌^◌, ◌≤◌, arith, ℤ, pos, negsuc, neg_ℤ, ◌+ℤ◌, ◌-ℤ◌, ◌≤ℤ◌, ◌<ℤ◌, SFits, w64, to_z, of_z, to_z-of_z, lit<}
+use Rattle.std.proofs.Common.{◌≡◌, refl, ℕ, zero, suc, ◌+◌, ◌*◌, ◌^◌, ◌≤◌, arith, ℤ, pos, neg_ℤ, ◌+ℤ◌, ◌-ℤ◌, ◌≤ℤ◌, ◌<ℤ◌, SFits, w64, to_z, of_z, to_z-of_z, lit<, negsuc}
 use Rattle.std.proofs.lemmas.Int.{ints}
 use Rattle.std.proofs.Math.Nat.{mul-le-mul_right}
-use Rattle.std.specs.Prelude.{unsigned_abs}
+use Rattle.std.specs.Prelude.{unsigned_abs, [], ◌∷◌}
 use Rattle.exact_math.specs.Ends.{BoxEnds, BoxEndsWithin}
-use Rattle.exact_math.specs.Gaussian.{Gaussian, gaussian}
+use Rattle.exact_math.specs.Gaussian.{Gaussian, gaussian, norm_gaussian}
 use Rattle.exact_math.specs.Within.{Within}
 use Rattle.points.specs.declared.Point.{Point}
 use Rattle.points.specs.declared.Strength.{Strength}
@@ -18,26 +18,31 @@ use Rattle.cell_name.specs.Square.{side, corner_x, corner_y, Holds, IsInGrid}
 use Rattle.cell_name.specs.declared.cell.Cell.{Cell}
 use Rattle.cell_name.proofs.Cells.{inside_from_name}
 use Rattle.exact_math.proofs.GaussianSizes.{weight_at-le}
-use Rattle.exact_math.proofs.WholeSizes.{size-within}
-use Rattle.truncation.specs.Entries.{weight}
+use Rattle.exact_math.proofs.WholeSizes.{unsigned_abs-within}
+use Rattle.truncation.specs.Entries.{weight, local_cut}
 use Rattle.truncation.specs.Places.{GaussianWithin, doubled_offset}
 use Rattle.complex_box.proofs.Sizes.{box_wider}
 use Rattle.row_recursions.specs.Cells.{side_of, centre_of, offset_from, moments_of}
-use Rattle.row_recursions.specs.Moments.{pole_of, dipole_of}
-use Rattle.row_recursions.specs.Rows.{units_box}
+use Rattle.row_recursions.specs.Moments.{pole_of, dipole_of, HoldsMoments}
+use Rattle.row_recursions.specs.Rows.{units_box, source_moment, far_source}
 use Rattle.row_recursions.specs.Sources.{source_at, source_of}
+use Rattle.row_recursions.specs.Fields.{HoldsField}
+use Rattle.row_recursions.proofs.FarLaws.{field_of_source}
+use Rattle.row_recursions.proofs.MomentLaws.{source_moments}
 use Rattle.row_recursions.proofs.RowSizes.{source_moment_within}
 
--- the strengths of a point's source are those of the point
-pub pole_of-source : (z : Gaussian) (a : Strength) → pole_of (source_at z a) ≡ pole_part a
-pole_of-source z (Pole re im) = refl
-pole_of-source z (Dipole re im) = refl
-pole_of-source z Nothing = refl
+-- the moments of a strength at a place, by its pole and its dipole
+pub strength_moments : (P s : ℕ) (c z : Gaussian) (a : Strength) → 1 ≤ s → HoldsMoments P s c (source_at z a ∷ []) (source_moment s (pole_part a) (dipole_part a) (doubled_offset z c))
+strength_moments P s c z (Pole re im) h = source_moments P s c (source_at z (Pole re im)) h
+strength_moments P s c z (Dipole re im) h = source_moments P s c (source_at z (Dipole re im)) h
+strength_moments P s c z Nothing h = source_moments P s c (source_at z Nothing) h
 
-pub dipole_of-source : (z : Gaussian) (a : Strength) → dipole_of (source_at z a) ≡ dipole_part a
-dipole_of-source z (Pole re im) = refl
-dipole_of-source z (Dipole re im) = refl
-dipole_of-source z Nothing = refl
+-- and its field far away
+pub strength_field : (P s : ℕ) (b z : Gaussian) (a : Strength) → 1 ≤ s → pos 0 <ℤ norm_gaussian (doubled_offset z b)
+    → HoldsField P s b (λ t. local_cut P b t (source_at z a)) (far_source s (pole_part a) (dipole_part a) (doubled_offset z b))
+strength_field P s b z (Pole re im) h apart = field_of_source P s b (source_at z (Pole re im)) h apart
+strength_field P s b z (Dipole re im) h apart = field_of_source P s b (source_at z (Dipole re im)) h apart
+strength_field P s b z Nothing h apart = field_of_source P s b (source_at z Nothing) h apart
 
 -- a point weighs what its source does, and up to order 32 no more than at 32
 pub weight-source_of : (P : ℕ) (p : Point) → weight P (source_of p) ≡ weight_at P (pole p.kind) (dipole p.kind)
@@ -84,8 +89,8 @@ side_positive c = power_positive _
 
 -- ---- weights
 weight_bounded_at : (a : Strength) → StrengthWithin most_strength a → abs_gaussian (pole_part a) + 64 * abs_gaussian (dipole_part a) ≤ 2 ^ 27
-weight_bounded_at (Pole re im) h = let a = size-within _ re h.0 in let b = size-within _ im h.1 in omega arith
-weight_bounded_at (Dipole re im) h = let a = size-within _ re h.0 in let b = size-within _ im h.1 in omega arith
+weight_bounded_at (Pole re im) h = let a = unsigned_abs-within _ re h.0 in let b = unsigned_abs-within _ im h.1 in omega arith
+weight_bounded_at (Dipole re im) h = let a = unsigned_abs-within _ re h.0 in let b = unsigned_abs-within _ im h.1 in omega arith
 weight_bounded_at Nothing h = omega arith
 
 -- the box of a strength whose components are in their limits, as calls have it

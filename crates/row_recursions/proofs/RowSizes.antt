@@ -1,5 +1,5 @@
 -- How large the ends of rows grow: a factor of at most 1 enlarges no end, and a quotient by d of what is at most d n is at most n.
-use Rattle.std.proofs.Common.{◌≡◌, refl, sym, ap, subst, ℕ, zero, suc, ◌+◌, ◌-◌, ◌*◌, ◌^◌, ◌≤◌, ◌<◌, arith, ℤ, pos, negsuc, neg_ℤ, ◌+ℤ◌, ◌-ℤ◌, ◌*ℤ◌, ◌≤ℤ◌}
+use Rattle.std.proofs.Common.{◌≡◌, sym, ap, subst, ℕ, zero, suc, ◌+◌, ◌-◌, ◌*◌, ◌^◌, ◌≤◌, ◌<◌, arith, ℤ, pos, negsuc, neg_ℤ, ◌+ℤ◌, ◌-ℤ◌, ◌*ℤ◌, ◌≤ℤ◌}
 use mathlib.Core.Logic.{⊎_elim}
 use Rattle.std.proofs.Math.Nat.{mul-le-mul_left, mul-le-mul_right}
 use Rattle.std.proofs.Math.Pow.{pow_mono}
@@ -11,8 +11,9 @@ use Rattle.exact_math.specs.Sizes.{abs_gaussian}
 use Rattle.exact_math.specs.Within.{Within}
 use Rattle.exact_math.proofs.Ring.{int_ring}
 use Rattle.exact_math.proofs.RingTactic.{int_quotes, ring2}
+use Rattle.exact_math.proofs.GaussianSizes.{norm_count, norm_count-is}
+use Rattle.exact_math.proofs.Integers.{square_nonneg}
 use Rattle.exact_math.proofs.WholeSizes.{within-mul, within-neg, within-floor, within-ceil, within-size}
-use Rattle.exact_math.proofs.Squares.{two_products, norm_count, norm_count-is}
 use Rattle.fixed_interval.proofs.Sizes.{ends_wider, add_within, sub_within, scale_within}
 use Rattle.complex_box.proofs.Sizes.{box_wider, add_box_within, neg_box_within, scale_box_within, zero_within}
 use Rattle.truncation.specs.Places.{GaussianWithin, GaussianBeyond}
@@ -124,6 +125,13 @@ unfolding shifted_down
 shifted_down_within P n q m unit bounded k h = box_quot_within n 2 (down_round P m q P k) (omega arith) (box_wider (2 * n) (n * 2) _ (omega arith) (down_round_within P n q m unit bounded P k (omega arith)))
 
 -- ---- a factor 2 s/g, where a part of g is at least 3 s in size
+-- twice a product is at most the sum of the squares
+pub two_products : (s r : ℕ) → 2 * (s * r) ≤ s * s + r * r
+two_products s r = let h = subst (λ z. pos 0 ≤ℤ z) (expand (pos r) (pos s)) (square_nonneg (pos r -ℤ pos s)) in omega (arith, ints)
+  where
+    expand : (x y : ℤ) → (x -ℤ y) *ℤ (x -ℤ y) ≡ x *ℤ x +ℤ y *ℤ y -ℤ pos 2 *ℤ (y *ℤ x)
+    expand x y = ring2 int_ring x y (λ x y. search int_quotes depth 12) tt
+
 far_first : (s p r : ℕ) → 3 * s ≤ p → 2 * s * p + 2 * s * r ≤ p * p + r * r
 far_first s p r h =
     let a = two_products s r in

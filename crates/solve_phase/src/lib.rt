@@ -7,8 +7,6 @@
 mod field;
 mod rows;
 mod solving;
-#[cfg(test)]
-mod tests;
 
 pub use field::Field;
 pub use quadtree::TreeFault as SolveFault;

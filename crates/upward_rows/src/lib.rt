@@ -8,8 +8,6 @@ mod fill;
 mod pass;
 mod quarters;
 mod sources;
-#[cfg(test)]
-mod tests;
 
 pub use fill::{fill_row, sum_row};
 pub use pass::upward_pass;

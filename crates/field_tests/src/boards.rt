@@ -1,24 +1,10 @@
 //! A board of nine charges and a far target, whose box is known from elsewhere.
-ghost use Rattle.std.specs.Prelude.{IfOk};
-ghost use Rattle.points.specs.Limits.{WithinLimits};
-
-use crate::{Board, Name};
+use crate::compare::{FAR_TARGET, NINE_CHARGES, box_is};
 use complex_box::Work;
-use particle_text::parse;
-use points::Points;
-use std::alloc::Global;
+use row_board::{Board, Name};
 use std::process::Abort;
 use std::test::Fail;
-
-/// Nine charges at the origin, and a target.
-fn charges_and_target(alloc: Global) -> Result<Points, Fail>
-    ensures { IfOk result (λ p. WithinLimits p.mode p.list) }
-{
-    Ok(parse(
-        alloc,
-        b"fmm 1 field\ncharge 0 0 1\ncharge 0 0 1\ncharge 0 0 1\ncharge 0 0 1\ncharge 0 0 1\ncharge 0 0 1\ncharge 0 0 1\ncharge 0 0 1\ncharge 0 0 1\ntarget 8 0\n",
-    )?)
-}
+use test_points::points_of;
 
 /// What was missing when a place was to be filled; nothing where it is filled now, or there is none.
 fn missing(board: &mut Board<4>, name: Name) -> Option<Name> {
@@ -31,22 +17,22 @@ fn missing(board: &mut Board<4>, name: Name) -> Option<Name> {
     }
 }
 
-/// The box of the target has these ends, in units of 2^-40.
-fn box_is(rt: &impl Abort, board: &Board<4>, re: (i128, i128), im: (i128, i128)) {
+/// The box of the target is filled, and is the known one.
+fn target_is_known(rt: &impl Abort, board: &Board<4>) {
     assert!(rt; board.has(Name::Value(0)));
     match board.value(0) {
-        Some(value) => {
-            assert_eq!(rt; (value.re.lo, value.re.hi), re);
-            assert_eq!(rt; (value.im.lo, value.im.hi), im);
-        }
+        Some(value) => box_is(rt, value, FAR_TARGET),
         None => assert!(rt; false),
     }
 }
 
+/// The points of the board.
+const POINTS: [(u32, &str); 2] = [NINE_CHARGES, (1, "target 8 0\n")];
+
 #[test]
 fn rows_in_order(rt: HostRuntime) -> Result<(), Fail> {
     let alloc = rt.alloc();
-    let points = charges_and_target(alloc)?;
+    let points = points_of(alloc, &POINTS)?;
     let mut board = Board::<4>::new(alloc, &points, 8)?;
     assert!(rt; board.has(Name::Local(1)) && !board.has(Name::Local(18)));
     assert!(rt; missing(&mut board, Name::Local(1)) == Some(Name::Local(0)));
@@ -59,19 +45,14 @@ fn rows_in_order(rt: HostRuntime) -> Result<(), Fail> {
         assert!(rt; missing(&mut board, Name::Local(n)).is_none());
     }
     assert!(rt; missing(&mut board, Name::Value(0)).is_none());
-    box_is(
-        &rt,
-        &board,
-        (1_127_786_607_614, 1_373_822_247_902),
-        (-75_518_917_824, 170_516_722_464),
-    );
+    target_is_known(&rt, &board);
     Ok(())
 }
 
 #[test]
 fn rows_as_they_become_ready(rt: HostRuntime) -> Result<(), Fail> {
     let alloc = rt.alloc();
-    let points = charges_and_target(alloc)?;
+    let points = points_of(alloc, &POINTS)?;
     let mut board = Board::<4>::new(alloc, &points, 8)?;
     for _ in 0..20u32 {
         let _ = missing(&mut board, Name::Value(0));
@@ -80,11 +61,6 @@ fn rows_as_they_become_ready(rt: HostRuntime) -> Result<(), Fail> {
             let _ = missing(&mut board, Name::Local(17 - n));
         }
     }
-    box_is(
-        &rt,
-        &board,
-        (1_127_786_607_614, 1_373_822_247_902),
-        (-75_518_917_824, 170_516_722_464),
-    );
+    target_is_known(&rt, &board);
     Ok(())
 }

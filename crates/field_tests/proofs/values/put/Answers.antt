@@ -3,7 +3,7 @@ use Rattle.std.proofs.lemmas.Int.{ints}
 use Rattle.std.proofs.lemmas.List.Elements.{All-set}
 use Rattle.complex_box.specs.Box.{BoxWithin}
 use Rattle.complex_box.proofs.Sizes.{box_within}
-use Rattle.target_values.proofs.tests.put.Goals as goal
+use Rattle.field_tests.proofs.values.put.Goals as goal
 
 pub returns-clause-size : goal.returns-clause-size
 returns-clause-size c =

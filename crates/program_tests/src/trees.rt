@@ -1,19 +1,11 @@
 //! Worked examples of lists with a tree, through the top call.
-use crate::Status;
-use crate::tests::{SOLVE, SURE, expect};
-use std::alloc::Global;
+use crate::ports::{SOLVE, SURE, expect};
+use fmm_program::Status;
 use std::test::Fail;
+use test_points::{full_text, text_of};
 
-/// A text of these lines, each as often as its number says.
-fn text_of(alloc: Global, lines: &[(u32, &str)]) -> Result<Vec<u8>, Fail> {
-    let mut text = Vec::new(alloc);
-    for (count, line) in lines {
-        for _ in 0..*count {
-            text.extend_from_slice(line.as_bytes())?;
-        }
-    }
-    Ok(text)
-}
+/// The first line of the points.
+const HEAD: &str = "fmm 1 field\n";
 
 /// The order, the lines of the points, those of the targets in the report, and the last line but one.
 #[derive(Clone, Copy)]
@@ -88,20 +80,9 @@ fn trees(rt: HostRuntime) -> Result<(), Fail> {
     ];
     let alloc = rt.alloc();
     for tree in table {
-        let text = text_of(
-            alloc,
-            &[(1, "fmm 1 field\n"), tree.points[0], tree.points[1]],
-        )?;
+        let text = text_of(alloc, HEAD, &tree.points)?;
         let head = format!(in alloc; "fmm report 1 field order {} cap 8\n", tree.order)?;
-        let report = text_of(
-            alloc,
-            &[
-                (1, head.as_str()),
-                tree.targets,
-                (1, tree.work),
-                (1, "end\n"),
-            ],
-        )?;
+        let report = text_of(alloc, &head, &[tree.targets, (1, tree.work), (1, "end\n")])?;
         let words = ["solve", tree.order, "8", "-"];
         expect(&rt, alloc, &words, &text, SURE, Status::Done, &report)?;
     }
@@ -111,46 +92,23 @@ fn trees(rt: HostRuntime) -> Result<(), Fail> {
 #[test]
 fn crowded_places(rt: HostRuntime) -> Result<(), Fail> {
     let alloc = rt.alloc();
-    let text = text_of(alloc, &[(1, "fmm 1 field\n"), (4097, "charge 0 0 1\n")])?;
+    let text = text_of(alloc, HEAD, &[(4097, "charge 0 0 1\n")])?;
     let line = b"refused depth crowded cell 16 32768 32768 points 4097\n";
     expect(&rt, alloc, &SOLVE, &text, SURE, Status::Refused, line)?;
     // As many as a place may have, in a tree of 17 cells.
     let text = text_of(
         alloc,
-        &[
-            (1, "fmm 1 field\n"),
-            (4095, "charge 0 0 1\n"),
-            (1, "target 0 0\n"),
-        ],
+        HEAD,
+        &[(4095, "charge 0 0 1\n"), (1, "target 0 0\n")],
     )?;
     let report =
         b"fmm report 1 field order 8 cap 8\ntarget 0 0 re 0.000000000000 0.000000000000 im 0.000000000000 0.000000000000\nwork translations 32 pairs 0\nend\n";
     expect(&rt, alloc, &SOLVE, &text, SURE, Status::Done, report)
 }
 
-/// Nine charges and seven targets at each of 64 times 64 places: as many points as a list may have.
-fn full_list(alloc: Global) -> Result<Vec<u8>, Fail> {
-    let mut text = Vec::from_slice(alloc, b"fmm 1 field\n")?;
-    for i in 0..64u16 {
-        for j in 0..64u16 {
-            let x = 1024 * i32::from(i) - 32_768;
-            let y = 1024 * i32::from(j) - 32_768;
-            let charge = format!(in alloc; "charge {x} {y} 1\n")?;
-            for _ in 0..9 {
-                text.extend_from_slice(charge.as_bytes())?;
-            }
-            for east in [512u16, 256, 128, 64, 32, 16, 8] {
-                let target = format!(in alloc; "target {} {y}\n", x + i32::from(east))?;
-                text.extend_from_slice(target.as_bytes())?;
-            }
-        }
-    }
-    Ok(text)
-}
-
 #[test]
 fn many(rt: HostRuntime) -> Result<(), Fail> {
-    let mut text = full_list(rt.alloc())?;
+    let mut text = full_text(rt.alloc())?;
     let line = b"refused depth cells\n";
     expect(&rt, rt.alloc(), &SOLVE, &text, SURE, Status::Refused, line)?;
     text.extend_from_slice(b"target 0 0\n")?;

@@ -1,32 +1,20 @@
 //! Values of targets that are known from elsewhere: a far cell of nine charges, and a charge near by.
-ghost use Rattle.std.specs.Prelude.{◌≡◌, ◌^◌, ◌<◌, length, All, IfOk};
+ghost use Rattle.std.specs.Prelude.{◌≡◌, ◌^◌, ◌<◌, length, All};
 ghost use Rattle.complex_box.specs.Box.{BoxWithin};
 ghost use Rattle.points.specs.Limits.{WithinLimits};
 ghost use Rattle.tree_rows.specs.FlatRows.{IsWeight};
 
-use crate::{target_positions, target_value, value_pass};
+use crate::compare::{Ends, FAR_TARGET, NINE_CHARGES, box_is};
 use cell_lists::lists;
 use complex_box::{CBox, Work};
-use particle_text::parse;
 use points::Points;
 use quadtree::Tree;
 use std::alloc::Global;
 use std::process::Abort;
 use std::test::Fail;
+use target_values::{target_positions, target_value, value_pass};
+use test_points::points_of;
 use tree_rows::weigh_cells;
-
-/// The list of a field text with some lines, each so many times.
-fn points_of(alloc: Global, lines: &[(u32, &str)]) -> Result<Points, Fail>
-    ensures { IfOk result (λ p. WithinLimits p.mode p.list) }
-{
-    let mut text = String::from_str(alloc, "fmm 1 field\n")?;
-    for (count, line) in lines {
-        for _ in 0..*count {
-            text.push_str(line)?;
-        }
-    }
-    Ok(parse(alloc, text.as_bytes())?)
-}
 
 /// Writes a box of a row.
 fn put(rows: &mut [CBox], k: usize, re: i64, im: i64)
@@ -47,7 +35,7 @@ fn value_is(
     local: &[CBox],
     weights: &[i128],
     k: usize,
-    parts: ((i128, i128), (i128, i128)),
+    ends: Ends,
     pairs: u64,
 ) -> Result<(), Fail>
     requires list { WithinLimits points.now.mode points.now.list }
@@ -67,8 +55,7 @@ fn value_is(
     );
     let mut work = Work::new();
     let value = target_value::<4>(&tree, &found, list, up, local, weights, 0, k, &mut work);
-    assert_eq!(rt; (value.re.lo, value.re.hi), parts.0);
-    assert_eq!(rt; (value.im.lo, value.im.hi), parts.1);
+    box_is(rt, value, ends);
     assert_eq!(rt; (work.translations(), work.pairs()), (0, pairs));
     Ok(())
 }
@@ -76,7 +63,7 @@ fn value_is(
 #[test]
 fn far_cell(rt: HostRuntime) -> Result<(), Fail> {
     let alloc = rt.alloc();
-    let points = points_of(alloc, &[(9, "charge 0 0 1\n"), (1, "target 8 0\n")])?;
+    let points = points_of(alloc, &[NINE_CHARGES, (1, "target 8 0\n")])?;
     let mut up = [CBox::zero(); 72];
     put(&mut up, 60, 9_895_604_649_984, 0);
     put(&mut up, 61, -4_947_802_324_992, -4_947_802_324_992);
@@ -92,10 +79,7 @@ fn far_cell(rt: HostRuntime) -> Result<(), Fail> {
         &[CBox::zero(); 72],
         &weights,
         9,
-        (
-            (1_127_786_607_614, 1_373_822_247_902),
-            (-75_518_917_824, 170_516_722_464),
-        ),
+        FAR_TARGET,
         0,
     )
 }
@@ -105,7 +89,7 @@ fn values_are(
     rt: &impl Abort,
     alloc: Global,
     points: &Points,
-    parts: ((i128, i128), (i128, i128)),
+    ends: Ends,
     pairs: u64,
 ) -> Result<(), Fail>
     requires list { WithinLimits points.now.mode points.now.list }
@@ -134,8 +118,7 @@ fn values_are(
         &mut work,
     );
     for value in &values {
-        assert_eq!(rt; (value.re.lo, value.re.hi), parts.0);
-        assert_eq!(rt; (value.im.lo, value.im.hi), parts.1);
+        box_is(rt, *value, ends);
     }
     assert_eq!(rt; (work.translations(), work.pairs()), (0, pairs));
     Ok(())

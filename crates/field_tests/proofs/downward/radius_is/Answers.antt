@@ -3,7 +3,7 @@ use Rattle.std.proofs.Common.{ℤ, ℕ, ◌≡◌, List, ◌++◌, length, take,
 use Rattle.std.specs.Prelude.{All}
 use Rattle.std.proofs.lemmas.List.{take-append-le, take_all}
 use Rattle.tree_rows.specs.FlatRows.{IsWeight}
-use Rattle.downward_rows.proofs.tests.radius_is.Goals as goal
+use Rattle.field_tests.proofs.downward.radius_is.Goals as goal
 
 all_weigh : (n : ℕ) (weights rest read : List ℤ) → length weights ≡ n → read ≡ take n (weights ++ rest) → All IsWeight weights → All IsWeight read
 all_weigh n weights rest read long e h =

@@ -1,33 +1,16 @@
 //! The rows of nine charges at the origin, by hand: the offset from the centre of each cell below the root is half a side to the west and to
 //! the south, and from that of the root nothing.
-ghost use Rattle.std.specs.Prelude.{IfOk};
-ghost use Rattle.points.specs.Limits.{WithinLimits};
-
-use super::upward_pass;
+use crate::compare::NINE_CHARGES;
 use complex_box::{CBox, Work};
-use particle_text::parse;
-use points::Points;
 use quadtree::Tree;
-use std::alloc::Global;
 use std::test::Fail;
-
-/// The list of a field text with some lines, each so many times.
-fn points_of(alloc: Global, lines: &[(u32, &str)]) -> Result<Points, Fail>
-    ensures { IfOk result (λ p. WithinLimits p.mode p.list) }
-{
-    let mut text = String::from_str(alloc, "fmm 1 field\n")?;
-    for (count, line) in lines {
-        for _ in 0..*count {
-            text.push_str(line)?;
-        }
-    }
-    Ok(parse(alloc, text.as_bytes())?)
-}
+use test_points::points_of;
+use upward_rows::upward_pass;
 
 #[test]
 fn rows_of_charges_at_the_origin(rt: HostRuntime) -> Result<(), Fail> {
     let alloc = rt.alloc();
-    let points = points_of(alloc, &[(9, "charge 0 0 1\n"), (9, "target 2 0\n")])?;
+    let points = points_of(alloc, &[NINE_CHARGES, (9, "target 2 0\n")])?;
     let tree = Tree::build(alloc, &points, 8)?;
     let count = tree.cells().len();
     let mut rows = vec![in alloc; CBox::point(1, 1); count * 4]?;

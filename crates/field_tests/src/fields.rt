@@ -1,27 +1,10 @@
 //! Fields whose numbers are known from elsewhere: one entry far away of each kind.
-ghost use Rattle.std.specs.Prelude.{IfOk, ◌<◌, length};
-ghost use Rattle.points.specs.Limits.{WithinLimits};
-
-use crate::{Field, solve};
+use crate::compare::{Ends, NINE_CHARGES, box_is};
 use letters::Letter;
-use particle_text::parse;
-use points::Points;
-use std::alloc::Global;
+use solve_phase::{Field, solve};
 use std::process::Abort;
 use std::test::Fail;
-
-/// The list of a field text with some lines, each so many times.
-fn points_of(alloc: Global, lines: &[(u32, &str)]) -> Result<Points, Fail>
-    ensures { IfOk result (λ p. WithinLimits p.mode p.list) }
-{
-    let mut text = String::from_str(alloc, "fmm 1 field\n")?;
-    for (count, line) in lines {
-        for _ in 0..*count {
-            text.push_str(line)?;
-        }
-    }
-    Ok(parse(alloc, text.as_bytes())?)
-}
+use test_points::points_of;
 
 /// The numbers of a field all of whose targets stand at one place.
 #[derive(Drop)]
@@ -29,8 +12,7 @@ struct Known {
     cells: usize,
     letter: Letter,
     targets: usize,
-    re: (i128, i128),
-    im: (i128, i128),
+    ends: Ends,
     translations: u64,
 }
 
@@ -41,9 +23,7 @@ fn has_numbers(rt: &impl Abort, field: &Field<4>, known: &Known) {
     assert_eq!(rt; field.lists().total(known.letter), 1);
     assert_eq!(rt; field.targets(), known.targets);
     for k in 0..field.targets() {
-        let value = field.value(k);
-        assert_eq!(rt; (value.re.lo, value.re.hi), known.re);
-        assert_eq!(rt; (value.im.lo, value.im.hi), known.im);
+        box_is(rt, field.value(k), known.ends);
     }
     assert_eq!(rt; field.translations(), known.translations);
     assert_eq!(rt; field.pairs(), 0);
@@ -63,7 +43,7 @@ fn has_rows(rt: &impl Abort, field: &Field<4>, radius: i128) {
 /// Nine charges and nine targets two places to the east: a V entry of order 4. The box is the value, which is exact, widened by the radius.
 #[test]
 fn pair_of_cells(rt: HostRuntime) -> Result<(), Fail> {
-    let lines = [(9, "charge 0 0 1\n"), (9, "target 2 0\n")];
+    let lines = [NINE_CHARGES, (9, "target 2 0\n")];
     let points = points_of(rt.alloc(), &lines)?;
     let field = solve::<4>(rt.alloc(), &points, 8)?;
     let radius = 1_789_868_981_808;
@@ -71,8 +51,10 @@ fn pair_of_cells(rt: HostRuntime) -> Result<(), Fail> {
         cells: 19,
         letter: Letter::V,
         targets: 9,
-        re: (5_102_421_147_648 - radius, 5_102_421_147_648 + radius),
-        im: (193_273_528_320 - radius, 193_273_528_320 + radius),
+        ends: (
+            (5_102_421_147_648 - radius, 5_102_421_147_648 + radius),
+            (193_273_528_320 - radius, 193_273_528_320 + radius),
+        ),
         translations: 33,
     };
     has_numbers(&rt, &field, &known);
@@ -83,7 +65,7 @@ fn pair_of_cells(rt: HostRuntime) -> Result<(), Fail> {
 /// Nine charges and a target eight places to the east: a W entry, whose radius is the target's alone.
 #[test]
 fn far_target(rt: HostRuntime) -> Result<(), Fail> {
-    let lines = [(9, "charge 0 0 1\n"), (1, "target 8 0\n")];
+    let lines = [NINE_CHARGES, (1, "target 8 0\n")];
     let points = points_of(rt.alloc(), &lines)?;
     let field = solve::<4>(rt.alloc(), &points, 8)?;
     let radius = 123_017_820_143;
@@ -91,8 +73,10 @@ fn far_target(rt: HostRuntime) -> Result<(), Fail> {
         cells: 18,
         letter: Letter::W,
         targets: 1,
-        re: (1_250_804_427_757 - radius, 1_250_804_427_759 + radius),
-        im: (47_498_902_319 - radius, 47_498_902_321 + radius),
+        ends: (
+            (1_250_804_427_757 - radius, 1_250_804_427_759 + radius),
+            (47_498_902_319 - radius, 47_498_902_321 + radius),
+        ),
         translations: 29,
     };
     has_numbers(&rt, &field, &known);
@@ -111,8 +95,10 @@ fn far_source(rt: HostRuntime) -> Result<(), Fail> {
         cells: 18,
         letter: Letter::X,
         targets: 9,
-        re: (-138_978_269_756 - radius, -138_978_269_745 + radius),
-        im: (-5_277_655_819 - radius, -5_277_655_807 + radius),
+        ends: (
+            (-138_978_269_756 - radius, -138_978_269_745 + radius),
+            (-5_277_655_819 - radius, -5_277_655_807 + radius),
+        ),
         translations: 29,
     };
     has_numbers(&rt, &field, &known);

@@ -1,71 +1,8 @@
-//! Worked examples of one leaf through the top call, with ports in memory, and what the examples of trees and samples share.
-ghost use Rattle.std.specs.Prelude.{◌<◌};
-
-use crate::{Opening, Status, Words, plan, run};
-use io_ports::{BrokenSink, BrokenSource, DropSink, MemSink, MemSource, SureSource};
-use std::alloc::Global;
-use std::process::Abort;
+//! Worked examples of one leaf through the top call.
+use crate::ports::{Ports, SOLVE, SURE, expect, words_of};
+use fmm_program::{Opening, Status, plan, run};
+use io_ports::{BrokenSink, BrokenSource, DropSink, MemSink, SureSource};
 use std::test::Fail;
-
-/// A list of these words.
-pub(crate) fn words_of(alloc: Global, words: &[&str]) -> Result<Words, Fail> {
-    let mut list = Words::new(alloc);
-    for word in words {
-        list.push(alloc, word)?;
-    }
-    Ok(list)
-}
-
-/// The ports of a run: the most that one read gives and one write takes, and the numbers of those that fail.
-#[derive(Clone, Copy)]
-pub(crate) struct Ports<'a> {
-    step: usize,
-    failing_reads: &'a [u64],
-    failing_writes: &'a [u64],
-}
-
-/// Ports that never fail.
-pub(crate) const SURE: Ports<'static> = Ports {
-    step: 4096,
-    failing_reads: &[],
-    failing_writes: &[],
-};
-
-/// Runs the words on a text, and compares how it ended and what it wrote. Nothing is read or written beside that.
-pub(crate) fn expect(
-    rt: &impl Abort,
-    alloc: Global,
-    words: &[&str],
-    text: &[u8],
-    ports: Ports<'_>,
-    status: Status,
-    written: &[u8],
-) -> Result<(), Fail>
-    requires { 0 < ports.step }
-{
-    let words = words_of(alloc, words)?;
-    let bytes = Vec::from_slice(alloc, text)?;
-    let failing_reads = Vec::from_slice(alloc, ports.failing_reads)?;
-    let failing_writes = Vec::from_slice(alloc, ports.failing_writes)?;
-    let mut points = MemSource::new(bytes, ports.step, failing_reads);
-    let mut out = MemSink::with_room(alloc, 4096, ports.step, failing_writes)?;
-    let mut nothing = SureSource::new(Vec::new(alloc));
-    let mut cert_out = MemSink::with_room(alloc, 4096, ports.step, Vec::new(alloc))?;
-    let answer = run(
-        alloc,
-        &words,
-        &mut points,
-        &mut nothing,
-        &mut out,
-        &mut cert_out,
-    );
-    assert_eq!(rt; answer, status);
-    assert_eq!(rt; out.held(), written);
-    assert_eq!(rt; cert_out.held(), b"".as_slice());
-    Ok(())
-}
-
-pub(crate) const SOLVE: [&str; 4] = ["solve", "8", "8", "-"];
 
 const SOLVE_WIDE: [&str; 4] = ["solve", "8", "1024", "-"];
 

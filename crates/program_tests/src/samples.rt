@@ -1,6 +1,6 @@
 //! Summaries of samples, through the top call.
-use crate::tests::{SURE, expect, words_of};
-use crate::{Opening, Status, plan};
+use crate::ports::{SURE, expect, words_of};
+use fmm_program::{Opening, Status, plan};
 use std::test::Fail;
 
 #[test]
@@ -34,6 +34,28 @@ fn twenty_thousand_points(rt: HostRuntime) -> Result<(), Fail> {
         lists u 8331 v 26922 w 443 x 462\n\
         work translations 29552 pairs 648750\n\
         widest re 12651982034900 im 12651982034954\n\
+        end\n";
+    expect(
+        &rt,
+        rt.alloc(),
+        &words,
+        b"",
+        SURE,
+        Status::Done,
+        summary.as_bytes(),
+    )
+}
+
+/// The numbers are those of another program.
+#[test]
+fn five_hundred_points(rt: HostRuntime) -> Result<(), Fail> {
+    let words = ["sample", "1", "500", "4", "8"];
+    let summary = "sample 1 500 order 4 cap 8\n\
+        points 500 sources 378 targets 122\n\
+        tree cells 178 leaves 133\n\
+        lists u 563 v 1014 w 176 x 130\n\
+        work translations 1306 pairs 2921\n\
+        widest re 96731787224548 im 96731787224550\n\
         end\n";
     expect(
         &rt,

@@ -3,8 +3,8 @@ ghost use Rattle.std.specs.Prelude.{pos, ◌^◌, ◌≤ℤ◌};
 ghost use Rattle.exact_math.specs.Within.{Within};
 ghost use Rattle.complex_box.specs.Box.{BoxWithin};
 
-use super::*;
 use complex_box::CBox;
+use field_report::{Decimal, write_target};
 use fixed_interval::Interval;
 use io_ports::{MemSink, WriteFault};
 use points::Mode;

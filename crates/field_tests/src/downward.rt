@@ -1,27 +1,20 @@
 //! Rows and radii that are known from elsewhere: of a cell of side 4 that sees one far charge, and of one of side 1 beside nine charges.
 ghost use Rattle.std.specs.Prelude.{◌≡◌, ◌≤◌, ◌*◌, IfOk, length, All};
-ghost use Rattle.points.specs.Limits.{WithinLimits};
+ghost use Rattle.complex_box.specs.Rows.{IsZero};
 ghost use Rattle.tree_rows.specs.Trees.{IsTreeOfPoints, IsTreeWithLists};
 
-use super::{fill_row, local_radius, radius_pass};
+use crate::compare::{Ends, NINE_CHARGES, box_is};
 use cell_lists::{EntryLists, lists};
 use complex_box::{CBox, Work};
+use downward_rows::{fill_row, local_radius, radius_pass};
 use kernel_table::Kernel;
-use particle_text::parse;
-use points::{Point, Points};
+use points::Point;
 use quadtree::Tree;
 use std::alloc::Global;
 use std::process::Abort;
 use std::test::Fail;
+use test_points::points_of;
 use tree_rows::weigh_cells;
-ghost use Rattle.complex_box.specs.Rows.{IsZero};
-
-/// The list of a text.
-fn points_of(alloc: Global, text: &str) -> Result<Points, Fail>
-    ensures { IfOk result (λ p. WithinLimits p.mode p.list) }
-{
-    Ok(parse(alloc, text.as_bytes())?)
-}
 
 /// Rows of zeros.
 fn zeros(alloc: Global, count: usize) -> Result<Vec<CBox>, Fail>
@@ -33,11 +26,6 @@ fn zeros(alloc: Global, count: usize) -> Result<Vec<CBox>, Fail>
     Ok(vec![in alloc; zero; count * 4]?)
 }
 
-fn is(rt: &impl Abort, got: CBox, re: (i128, i128), im: (i128, i128)) {
-    assert_eq!(rt; (got.re.lo, got.re.hi), re);
-    assert_eq!(rt; (got.im.lo, got.im.hi), im);
-}
-
 /// The row of cell 15 where all other rows are zero.
 fn row_is(
     rt: &impl Abort,
@@ -45,7 +33,7 @@ fn row_is(
     tree: &Tree,
     lists: &EntryLists,
     points: &[Point],
-    row: [((i128, i128), (i128, i128)); 4],
+    row: [Ends; 4],
 ) -> Result<(), Fail>
     requires tree { IsTreeWithLists points.now tree.now lists.now }
 {
@@ -57,10 +45,10 @@ fn row_is(
     let mut work = Work::new();
     fill_row::<4>(tree, lists, points, &kernel, &up, 15, &mut rows, &mut work);
     assert_eq!(rt; (work.translations(), work.pairs()), (1, 0));
-    is(rt, rows[60], row[0].0, row[0].1);
-    is(rt, rows[61], row[1].0, row[1].1);
-    is(rt, rows[62], row[2].0, row[2].1);
-    is(rt, rows[63], row[3].0, row[3].1);
+    box_is(rt, rows[60], row[0]);
+    box_is(rt, rows[61], row[1]);
+    box_is(rt, rows[62], row[2]);
+    box_is(rt, rows[63], row[3]);
     Ok(())
 }
 
@@ -90,10 +78,7 @@ fn radius_is(
 #[test]
 fn far_charge(rt: HostRuntime) -> Result<(), Fail> {
     let alloc = rt.alloc();
-    let points = points_of(
-        alloc,
-        "fmm 1 field\ncharge 8 0 1\ntarget 0 0\ntarget 0 0\ntarget 0 0\ntarget 0 0\ntarget 0 0\ntarget 0 0\ntarget 0 0\ntarget 0 0\ntarget 0 0\n",
-    )?;
+    let points = points_of(alloc, &[(1, "charge 8 0 1\n"), (9, "target 0 0\n")])?;
     let tree = Tree::build(alloc, &points, 8)?;
     let lists = lists(alloc, &tree)?;
     row_is(
@@ -127,10 +112,7 @@ fn far_charge(rt: HostRuntime) -> Result<(), Fail> {
 #[test]
 fn nine_charges(rt: HostRuntime) -> Result<(), Fail> {
     let alloc = rt.alloc();
-    let points = points_of(
-        alloc,
-        "fmm 1 field\ncharge 0 0 1\ncharge 0 0 1\ncharge 0 0 1\ncharge 0 0 1\ncharge 0 0 1\ncharge 0 0 1\ncharge 0 0 1\ncharge 0 0 1\ncharge 0 0 1\ntarget 2 0\ntarget 2 0\ntarget 2 0\ntarget 2 0\ntarget 2 0\ntarget 2 0\ntarget 2 0\ntarget 2 0\ntarget 2 0\n",
-    )?;
+    let points = points_of(alloc, &[NINE_CHARGES, (9, "target 2 0\n")])?;
     let tree = Tree::build(alloc, &points, 8)?;
     radius_is(
         &rt,

@@ -4,8 +4,8 @@ use Rattle.complex_box.specs.declared.CBox.{CBox}
 use Rattle.quadtree.specs.TreeModel.{node_of}
 use Rattle.row_recursions.specs.Sizes.{RowWithin}
 use Rattle.tree_rows.specs.FlatRows.{row_at}
-use Rattle.downward_rows.proofs.ZeroRows.{zero_rows_within}
-use Rattle.downward_rows.proofs.tests.row_is.Goals as goal
+use Rattle.field_tests.proofs.ZeroRows.{zero_rows_within}
+use Rattle.field_tests.proofs.downward.row_is.Goals as goal
 
 pub fill_row-requires : goal.fill_row-requires
 fill_row-requires g c =
