@@ -13,13 +13,12 @@ use Rattle.cell_name.proofs.HoldsTest.{Holds-from_test, test-from_Holds}
 use Rattle.cell_name.proofs.Quarters.{lies_in_one_child}
 use Rattle.points.specs.Points.{is_source, place, pole, dipole}
 use Rattle.points.specs.Limits.{weight64, total_weight}
-use Rattle.points.specs.declared.Kind.{Kind}
-use Rattle.points.specs.declared.Kind.TheVariants.{Charge, Dipole, Vortex, Target}
 use Rattle.points.specs.declared.Point.{Point}
 use Rattle.quadtree.specs.Splitting.{quarters}
 use Rattle.quadtree.proofs.Distinct.{Contains-filter}
 use Rattle.quadtree.proofs.TreeCells.{IsQuarter, quarters_are, quarters_differ}
-use Rattle.row_recursions.specs.Sources.{source_at, source_of}
+use Rattle.row_recursions.specs.Sources.{source_of}
+use Rattle.row_recursions.proofs.Points.{source_weight-light}
 use Rattle.truncation.specs.Entries.{weight}
 use Rattle.tree_field.specs.Field.{is_source_in, sources_in}
 use Rattle.tree_field.proofs.Members.{All-from_members, AllPairs-both, filter-filter}
@@ -95,21 +94,8 @@ module _ (c : Square) (lt : c.level < c.grid) where
 abbrev pub weight_at : ℕ → Point → ℕ
 weight_at P p = weight P (source_of p)
 
--- 2 P is at most 64
-lighter : (P : ℕ) (p : Point) → P ≤ 32 → weight_at P p ≤ weight64 p
-lighter P p few = by (place p) p.kind
-  where
-    more : (b : ℕ) → 2 * P * b ≤ 64 * b
-    more b = mul-le-mul_right b (omega arith)
-
-    by : (z : Gaussian) (k : Kind) → weight P (source_at z k) ≤ abs_gaussian (pole k) + 64 * abs_gaussian (dipole k)
-    by z (Charge q) = omega arith
-    by z (Dipole re im) = let h = more (abs_gaussian (dipole (Dipole re im))) in omega (arith, h)
-    by z (Vortex g) = omega arith
-    by z Target = omega arith
-
 pub weight_at-light : (P : ℕ) (points : List Point) → P ≤ 32 → sum_by (weight_at P) points ≤ total_weight points
-weight_at-light P points few = sum_by-le-sum_by (weight_at P) weight64 points (λ p. lighter P p few)
+weight_at-light P points few = sum_by-le-sum_by (weight_at P) weight64 points (λ p. source_weight-light P p few)
 
 pub weight_sizes : WeightSizes
 weight_sizes points P c few =

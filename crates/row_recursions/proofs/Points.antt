@@ -1,6 +1,7 @@
 -- Points in cells, and their strengths.
-use Rattle.std.proofs.Common.{◌≡◌, ℕ, zero, suc, ◌+◌, ◌*◌, ◌^◌, ◌≤◌, arith, ℤ, pos, negsuc, neg_ℤ, ◌+ℤ◌, ◌-ℤ◌, ◌≤ℤ◌, ◌<ℤ◌, SFits, w64, to_z, of_z, to_z-of_z, lit<}
+use Rattle.std.proofs.Common.{◌≡◌, false, refl, sym, ℕ, zero, suc, ◌+◌, ◌*◌, ◌^◌, ◌≤◌, arith, ℤ, pos, negsuc, neg_ℤ, ◌+ℤ◌, ◌-ℤ◌, ◌≤ℤ◌, ◌<ℤ◌, SFits, w64, to_z, of_z, to_z-of_z, lit<}
 use Rattle.std.proofs.lemmas.Int.{ints}
+use Rattle.std.proofs.lemmas.Bool.{false≢true}
 use Rattle.std.proofs.Math.Nat.{mul-le-mul_right}
 use Rattle.std.specs.Prelude.{unsigned_abs, [], ◌∷◌}
 use Rattle.exact_math.specs.Ends.{BoxEnds, BoxEndsWithin}
@@ -10,21 +11,21 @@ use Rattle.points.specs.declared.Point.{Point}
 use Rattle.points.specs.declared.Strength.{Strength}
 use Rattle.points.specs.declared.Strength.TheVariants.{Pole, Dipole, Nothing}
 use Rattle.points.specs.Limits.{most_strength, InGrid, InRange, weight64}
-use Rattle.points.specs.Points.{place, strength, pole, dipole}
-use Rattle.points.specs.Strength.{pole_part, dipole_part, StrengthWithin}
+use Rattle.points.specs.Points.{place, strength, pole, dipole, is_source}
+use Rattle.points.specs.Strength.{pole_part, dipole_part, acts, StrengthWithin}
 use Rattle.exact_math.specs.Sizes.{abs_gaussian}
 use Rattle.cell_name.specs.Cell.{square}
 use Rattle.cell_name.specs.Square.{side, corner_x, corner_y, Holds, IsInGrid}
 use Rattle.cell_name.specs.declared.cell.Cell.{Cell}
 use Rattle.cell_name.proofs.Cells.{inside_from_name}
-use Rattle.truncation.specs.Entries.{local_cut}
+use Rattle.truncation.specs.Entries.{local_cut, weight}
 use Rattle.truncation.specs.Places.{GaussianWithin, doubled_offset}
 use Rattle.complex_box.proofs.Sizes.{box_wider}
 use Rattle.row_recursions.specs.Cells.{side_of, centre_of, offset_from, moments_of}
 use Rattle.row_recursions.specs.Fields.{HoldsField}
 use Rattle.row_recursions.specs.Moments.{HoldsMoments}
 use Rattle.row_recursions.specs.Rows.{units_box, source_moment, far_source}
-use Rattle.row_recursions.specs.Sources.{source_at}
+use Rattle.row_recursions.specs.Sources.{source_at, source_of}
 use Rattle.row_recursions.proofs.FarLaws.{field_of_source}
 use Rattle.row_recursions.proofs.MomentLaws.{source_moments}
 use Rattle.row_recursions.proofs.RowSizes.{source_moment_within}
@@ -93,6 +94,27 @@ units_fit {x} {y} v w e =
 -- a point in range is at most 2^27 in weight
 pub weight_bounded : (p : Point) → InRange p → weight64 p ≤ 2 ^ 27
 weight_bounded p h = weight_at (strength p.kind) h.strength
+
+-- a point that an expansion of order P cuts off weighs no more than the point, since 2 P is at most 64
+pub source_weight-light : (P : ℕ) (p : Point) → P ≤ 32 → weight P (source_of p) ≤ weight64 p
+source_weight-light P p few = by (place p) (strength p.kind)
+  where
+    more : (b : ℕ) → 2 * P * b ≤ 64 * b
+    more b = mul-le-mul_right b (omega arith)
+
+    by : (z : Gaussian) (a : Strength) → weight P (source_at z a) ≤ abs_gaussian (pole_part a) + 64 * abs_gaussian (dipole_part a)
+    by z (Pole re im) = omega arith
+    by z (Dipole re im) = let h = more (abs_gaussian (gaussian re im)) in omega (arith, h)
+    by z Nothing = omega arith
+
+-- and what adds nothing weighs nothing
+pub source_weight-nothing : (P : ℕ) (p : Point) → is_source p.kind ≡ false → weight P (source_of p) ≡ 0
+source_weight-nothing P p = by (place p) (strength p.kind)
+  where
+    by : (z : Gaussian) (a : Strength) → acts a ≡ false → weight P (source_at z a) ≡ 0
+    by z (Pole re im) e = absurd (false≢true (sym e))
+    by z (Dipole re im) e = absurd (false≢true (sym e))
+    by z Nothing e = refl
 
 -- each moment of a point in the cell is at most 2^40 times its weight
 pub moments_within : (c : Cell) (p : Point) (k : ℕ) → k ≤ 64 → Holds (square c) p.x p.y → BoxEndsWithin (2 ^ 40 * weight64 p) (moments_of c p k)

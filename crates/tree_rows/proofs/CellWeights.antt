@@ -14,14 +14,13 @@ use Rattle.exact_math.specs.Sizes.{abs_gaussian}
 use Rattle.cell_name.specs.Square.{Square}
 use Rattle.points.specs.Points.{is_source, place, pole, dipole}
 use Rattle.points.specs.Limits.{InRange, weight64, total_weight}
-use Rattle.points.specs.declared.Kind.{Kind}
-use Rattle.points.specs.declared.Kind.TheVariants.{Charge, Dipole, Vortex, Target}
+use Rattle.points.specs.declared.Kind.TheVariants.{Charge}
 use Rattle.points.specs.declared.Point.{Point}
 use Rattle.quadtree.specs.Members.{holds_position, members_of}
 use Rattle.quadtree.specs.TreeModel.{TreeModel, size, square_of, node_of}
 use Rattle.quadtree.proofs.Distinct.{Contains-filter}
-use Rattle.row_recursions.specs.Sources.{source_at, source_of}
-use Rattle.row_recursions.proofs.Points.{grid_of}
+use Rattle.row_recursions.specs.Sources.{source_of}
+use Rattle.row_recursions.proofs.Points.{grid_of, source_weight-light, source_weight-nothing}
 use Rattle.truncation.specs.Entries.{weight}
 use Rattle.tree_field.specs.Field.{is_source_in, weight_in}
 use Rattle.tree_field.proofs.Members.{range_below}
@@ -40,34 +39,11 @@ weighs P p = weight P (source_of p)
 abbrev pub weighs_at : ℕ → List Point → ℕ → ℕ
 weighs_at P points k = weighs P (get_or points k no_point)
 
--- 2 P is at most 64
-lighter : (P : ℕ) (p : Point) → P ≤ 32 → weighs P p ≤ weight64 p
-lighter P p few = by (place p) p.kind
-  where
-    more : (b : ℕ) → 2 * P * b ≤ 64 * b
-    more b = mul-le-mul_right b (omega arith)
-
-    by : (z : Gaussian) (k : Kind) → weight P (source_at z k) ≤ abs_gaussian (pole k) + 64 * abs_gaussian (dipole k)
-    by z (Charge q) = omega arith
-    by z (Dipole re im) = let h = more (abs_gaussian (dipole (Dipole re im))) in omega (arith, h)
-    by z (Vortex g) = omega arith
-    by z Target = omega arith
-
 pub cell_light : (points : List Point) (P : ℕ) (c : Square) → P ≤ 32 → weight_in points P c ≤ total_weight points
 cell_light points P c few =
     let a = sum_by-filter_both (is_source_in c) (λ p. not (is_source_in c p)) (λ p. refl) (weighs P) points in
-    let b = sum_by-le-sum_by (weighs P) weight64 points (λ p. lighter P p few) in
+    let b = sum_by-le-sum_by (weighs P) weight64 points (λ p. source_weight-light P p few) in
     omega (arith, a, b)
-
--- ---- a target weighs nothing
-nothing : (P : ℕ) (p : Point) → is_source p.kind ≡ false → weighs P p ≡ 0
-nothing P p = by (place p) p.kind
-  where
-    by : (z : Gaussian) (k : Kind) → is_source k ≡ false → weight P (source_at z k) ≡ 0
-    by z (Charge q) e = absurd (false≢true (sym e))
-    by z (Dipole re im) e = absurd (false≢true (sym e))
-    by z (Vortex g) e = absurd (false≢true (sym e))
-    by z Target e = refl
 
 sum_of_kept : {X : Type 0} (f : X → ℕ) (p : X → Bool) (xs : List X) → ((x : X) → p x ≡ false → f x ≡ 0) → sum_by f (filter p xs) ≡ sum_by f xs
 sum_of_kept f p [] none = refl
@@ -102,7 +78,7 @@ module _ (points : List Point) (tree : TreeModel) (h : IsTreeOfPoints points tre
   members_weigh P =
       let in_grid = All-weaker InRange _ (λ p r. grid_of p.x p.y r.grid) points h.range in
       sym (sum_by-map (weighs P) (λ k. get_or points k no_point) (node_of tree n).members)
-      ∙ sym (sum_of_kept (weighs P) (λ p. is_source p.kind) (map (λ k. get_or points k no_point) (node_of tree n).members) (nothing P))
+      ∙ sym (sum_of_kept (weighs P) (λ p. is_source p.kind) (map (λ k. get_or points k no_point) (node_of tree n).members) (source_weight-nothing P))
       ∙ ap (sum_by (weighs P)) ((nodes_of_tree tree points h.cap in_grid h.is_tree n lt).members no_point)
 
   -- the members so far and the next one weigh no more than a list may
