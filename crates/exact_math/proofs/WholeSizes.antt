@@ -15,6 +15,10 @@ pub unsigned_abs-within : (m : ℕ) (z : ℤ) → Within m z → unsigned_abs z 
 unsigned_abs-within m (pos n) h = let l = h.below in omega (arith, ints)
 unsigned_abs-within m (negsuc n) h = let l = h.above in omega (arith, ints)
 
+pub within-size : (z : ℤ) → Within (unsigned_abs z) z
+within-size (pos n) = record { above = omega (arith, ints); below = omega (arith, ints) }
+within-size (negsuc n) = record { above = omega (arith, ints); below = omega (arith, ints) }
+
 pub within-weaker : {m n : ℕ} {x : ℤ} → m ≤ n → Within m x → Within n x
 within-weaker h w = record { above = omega (arith, ints); below = omega (arith, ints) }
 

@@ -21,19 +21,9 @@ use Rattle.row_recursions.specs.Rows.{RowsAdd, far_source}
 use Rattle.row_recursions.specs.Sizes.{RowWithin}
 use Rattle.row_recursions.specs.Sources.{source_of}
 use Rattle.row_recursions.proofs.FarLaws.{field_of_source}
-use Rattle.row_recursions.proofs.FieldLaws.{sum_of_fields}
+use Rattle.row_recursions.proofs.FieldLaws.{sum_of_fields, field_same}
 use Rattle.row_recursions.proofs.Points.{side_positive, strength_field}
 use Rattle.row_recursions.proofs.RowSizes.{far_norm_positive, far_source_within}
-
--- a row with the same boxes
-pub field_same : (P s : ℕ) (b : Gaussian) (f : Gaussian → ComplexRatio) (m n : ℕ → BoxEnds) → ((l : ℕ) → l < P → n l ≡ m l) → HoldsField P s b f m → HoldsField P s b f n
-field_same P s b f m n e h = record {
-  coefficient = h.coefficient;
-  fractions = h.fractions;
-  contains = λ l k. subst (λ x. BoxEndsContain (pos (2 ^ 40)) x (h.coefficient l)) (sym (e l k)) (h.contains l k);
-  fraction = h.fraction;
-  sums = h.sums;
-}
 
 -- a row to which another was added
 pub field_added : (P s : ℕ) (b : Gaussian) (f g : Gaussian → ComplexRatio) (old part new : ℕ → BoxEnds) → 1 ≤ s → RowsAdd P old part new → HoldsField P s b f old → HoldsField P s b g part

@@ -16,6 +16,7 @@ use Rattle.exact_math.proofs.RoundedQuotients.{floor_near}
 use Rattle.exact_math.proofs.WholeSizes.{within-floor, within-ceil}
 use Rattle.points.specs.Limits.{weight64}
 use Rattle.exact_math.specs.Sizes.{abs_gaussian}
+use Rattle.complex_box.proofs.Sizes.{zero_within}
 use Rattle.points.specs.Points.{strength}
 use Rattle.points.specs.Strength.{pole_part, dipole_part}
 use Rattle.points.specs.declared.Point.{Point}
@@ -188,15 +189,12 @@ outward-within m z h w = record {
   im = quot-within (2 ^ 40 * m) _ z.denominator h (bounded-units (2 ^ 40) m z.im z.denominator w.im);
 }
 
-zero-within : (m : ℕ) → BoxEndsWithin m zero_box
-zero-within m = let w : Within m (pos 0) = record { above = omega (arith, ints); below = omega (arith, ints) } in record { re = record { lo = w; hi = w }; im = record { lo = w; hi = w } }
-
 -- all ends of the box of a pair are at most 2^40 times the weight of the source
 pub pair_box-within : (t : Gaussian) (p : Point) → BoxEndsWithin (2 ^ 40 * weight64 p) (pair_box t p)
 pair_box-within t p = cases (is_at t p) refl
   where
     cases : (b : Bool) → is_at t p ≡ b → BoxEndsWithin (2 ^ 40 * weight64 p) (pair_box t p)
-    cases true e = rw e (zero-within _)
+    cases true e = rw e (zero_within _)
     cases false e =
         let h = distance_positive t p e in
         rw e (outward-within _ _ (term_denominator (strength p.kind) _ h) (term_bounded (strength p.kind) (t.re -ℤ p.x) (t.im -ℤ p.y) h))

@@ -10,6 +10,7 @@ use Rattle.exact_math.proofs.DirectTerms.{Stands-reciprocal}
 use Rattle.exact_math.proofs.Fractions.{Stands, Stands-whole, Stands-count, Stands-add, Stands-neg, Stands-mul, Stands-pow}
 use Rattle.exact_math.proofs.Gaussians.{value}
 use Rattle.exact_math.proofs.Horner.{polynomial}
+use Rattle.exact_math.proofs.DirectTerms.{Stands-reciprocal}
 use Rattle.truncation.specs.CutTerms.{local_pole_cut, local_dipole_cut}
 use Rattle.truncation.specs.Entries.{Source, local_cut}
 use Rattle.truncation.specs.Places.{doubled_offset}

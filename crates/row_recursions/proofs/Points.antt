@@ -1,6 +1,7 @@
 -- Points in cells, and their strengths.
-use Rattle.std.proofs.Common.{◌≡◌, refl, ℕ, zero, suc, ◌+◌, ◌*◌, ◌^◌, ◌≤◌, arith, ℤ, pos, neg_ℤ, ◌+ℤ◌, ◌-ℤ◌, ◌≤ℤ◌, ◌<ℤ◌, SFits, w64, to_z, of_z, to_z-of_z, lit<, negsuc}
+use Rattle.std.proofs.Common.{◌≡◌, refl, ℕ, zero, suc, ◌+◌, ◌*◌, ◌^◌, ◌≤◌, arith, ℤ, pos, neg_ℤ, ◌+ℤ◌, ◌-ℤ◌, ◌≤ℤ◌, ◌<ℤ◌, SFits, w64, to_z, of_z, to_z-of_z, lit<, negsuc, false, sym}
 use Rattle.std.proofs.lemmas.Int.{ints}
+use Rattle.std.proofs.lemmas.Bool.{false≢true}
 use Rattle.std.proofs.Math.Nat.{mul-le-mul_right}
 use Rattle.std.specs.Prelude.{unsigned_abs, [], ◌∷◌}
 use Rattle.exact_math.specs.Ends.{BoxEnds, BoxEndsWithin}
@@ -10,8 +11,8 @@ use Rattle.points.specs.declared.Point.{Point}
 use Rattle.points.specs.declared.Strength.{Strength}
 use Rattle.points.specs.declared.Strength.TheVariants.{Pole, Dipole, Nothing}
 use Rattle.points.specs.Limits.{most_strength, InGrid, InRange, weight64}
-use Rattle.points.specs.Points.{place, strength, pole, dipole}
-use Rattle.points.specs.Strength.{pole_part, dipole_part, StrengthWithin}
+use Rattle.points.specs.Points.{place, strength, pole, dipole, is_source}
+use Rattle.points.specs.Strength.{pole_part, dipole_part, StrengthWithin, acts}
 use Rattle.exact_math.specs.Sizes.{abs_gaussian, weight_at}
 use Rattle.cell_name.specs.Cell.{square}
 use Rattle.cell_name.specs.Square.{side, corner_x, corner_y, Holds, IsInGrid}
@@ -103,6 +104,15 @@ units_fit {x} {y} v w e =
 -- a point in range is at most 2^27 in weight
 pub weight_bounded : (p : Point) → InRange p → weight64 p ≤ 2 ^ 27
 weight_bounded p h = weight_bounded_at (strength p.kind) h.strength
+
+-- what adds nothing weighs nothing
+pub source_weight-nothing : (P : ℕ) (p : Point) → is_source p.kind ≡ false → weight P (source_of p) ≡ 0
+source_weight-nothing P p = by (place p) (strength p.kind)
+  where
+    by : (z : Gaussian) (a : Strength) → acts a ≡ false → weight P (source_at z a) ≡ 0
+    by z (Pole re im) e = absurd (false≢true (sym e))
+    by z (Dipole re im) e = absurd (false≢true (sym e))
+    by z Nothing e = refl
 
 -- each moment of a point in the cell is at most 2^40 times its weight
 pub moments_within : (c : Cell) (p : Point) (k : ℕ) → k ≤ 64 → Holds (square c) p.x p.y → BoxEndsWithin (2 ^ 40 * weight64 p) (moments_of c p k)

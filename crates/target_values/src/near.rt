@@ -4,7 +4,7 @@ ghost use Rattle.exact_math.specs.Ends.{add_box};
 ghost use Rattle.complex_box.specs.Box.{box_ends, BoxWithin};
 ghost use Rattle.cell_lists.specs.Lists.{AreLists};
 ghost use Rattle.cell_lists.specs.Row.{row};
-ghost use Rattle.points.specs.Points.{is_source, place};
+ghost use Rattle.points.specs.Points.{place};
 ghost use Rattle.near_field.specs.Pair.{pair_box};
 ghost use Rattle.points.specs.Limits.{InGrid, InRange};
 ghost use Rattle.quadtree.specs.TreeModel.{size, node_of};
@@ -16,18 +16,8 @@ ghost use Rattle.target_values.specs.Values.{near_pairs, near_count};
 use cell_lists::EntryLists;
 use complex_box::{CBox, Work};
 use near_field::pair;
-use points::{Kind, Point};
+use points::Point;
 use quadtree::Tree;
-
-/// Whether a point is a charge, a dipole or a vortex.
-pub(crate) fn is_source(p: &Point) -> bool
-    ensures { result ≡ is_source p.now.kind }
-{
-    match p.kind {
-        Kind::Charge(_) | Kind::Dipole(_, _) | Kind::Vortex(_) => true,
-        Kind::Target => false,
-    }
-}
 
 /// The sum and the box of the pair of the point and the target, where the point is a source.
 fn with_pair(sum: CBox, p: &Point, target: &Point, work: &mut Work) -> CBox
@@ -40,7 +30,7 @@ fn with_pair(sum: CBox, p: &Point, target: &Point, work: &mut Work) -> CBox
     ensures pairs { work.new.pairs ≡ work.old.pairs + count_apart (place target.now) (sources (p.now ∷ [])) }
     ensures translations { work.new.translations ≡ work.old.translations }
 {
-    if !is_source(p) {
+    if !p.kind.is_source() {
         return sum;
     }
     sum.add(pair(p, target.x, target.y, work))
