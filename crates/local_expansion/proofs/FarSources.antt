@@ -36,7 +36,7 @@ unfolding far_source
 pole_alone s a zeta p h l = ap (λ b. add_box (neg_box (far_pole s a zeta l)) (scale_box b (pos (suc l)))) (no_dipole s zeta p h (suc l)) ∙ ap (add_box (neg_box (far_pole s a zeta l))) (zero_scaled (pos (suc l))) ∙ zero_right _
 
 -- a dipole alone
-dipole_alone : (s : ℕ) (b zeta : Gaussian) → pos 1 ≤ℤ norm_gaussian zeta → (l : ℕ) → far_source s nothing b zeta l ≡ scale_box (far_dipole s b zeta (suc l)) (pos (suc l))
+dipole_alone : (s : ℕ) (b zeta : Gaussian) → pos 1 ≤ℤ norm_gaussian zeta → (l : ℕ) → far_source s zero_gaussian b zeta l ≡ scale_box (far_dipole s b zeta (suc l)) (pos (suc l))
 unfolding far_source
 dipole_alone s b zeta h l = ap (λ x. add_box (neg_box x) (scale_box (far_dipole s b zeta (suc l)) (pos (suc l)))) (no_pole s zeta h l) ∙ zero_left _
 
@@ -53,7 +53,7 @@ module _ (s n : ℕ) (zeta x : Gaussian) (s≥1 : 1 ≤ s) (side : 2 ^ n ≡ s) 
       ap (λ b. neg_box (far_powers b (2 * 2 ^ n) x (suc l))) e ∙ ap₂ (λ m z. neg_box (far_powers (units_box a) (2 * m) z (suc l))) side offset
       ∙ ap neg_box (powers-pole s a zeta l) ∙ sym (pole_alone s a zeta s≥1 apart l)
 
-  pub dipole_coefficients : (b : Gaussian) (first : BoxEnds) (l : ℕ) → first ≡ units_over b s → scale_box (far_powers first (2 * 2 ^ n) x (suc (suc l))) (pos (suc l)) ≡ far_source s nothing b zeta l
+  pub dipole_coefficients : (b : Gaussian) (first : BoxEnds) (l : ℕ) → first ≡ units_over b s → scale_box (far_powers first (2 * 2 ^ n) x (suc (suc l))) (pos (suc l)) ≡ far_source s zero_gaussian b zeta l
   dipole_coefficients b first l e =
       ap (λ c. scale_box (far_powers c (2 * 2 ^ n) x (suc (suc l))) (pos (suc l))) e ∙ ap₂ (λ m z. scale_box (far_powers (units_over b s) (2 * m) z (suc (suc l))) (pos (suc l))) side offset
       ∙ ap (λ (b : BoxEnds). scale_box b (pos (suc l))) (powers-dipole s b zeta (suc l)) ∙ sym (dipole_alone s b zeta apart l)

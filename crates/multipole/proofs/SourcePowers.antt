@@ -54,7 +54,7 @@ powers-dipole s n b o e zero = refl
 powers-dipole s n b o e (suc k) = ap₂ (λ x m. gquot_box x o (pos m)) (powers-dipole s n b o e k) e
 
 -- ---- nothing
-no_pole : (s : ℕ) (o : Gaussian) → 1 ≤ s → (k : ℕ) → pole_moment s nothing o k ≡ zero_box
+no_pole : (s : ℕ) (o : Gaussian) → 1 ≤ s → (k : ℕ) → pole_moment s zero_gaussian o k ≡ zero_box
 unfolding pole_moment
 no_pole s o h zero = refl
 no_pole s o h (suc k) = ap (λ b. gquot_box b o (pos (2 * s))) (no_pole s o h k) ∙ zero_turned o (pos (2 * s)) (omega (arith, ints))
