@@ -112,7 +112,7 @@ source_weight-nothing P p = by (place p) (strength p.kind)
     by : (z : Gaussian) (a : Strength) → acts a ≡ false → weight P (source_at z a) ≡ 0
     by z (Pole re im) e = absurd (false≢true (sym e))
     by z (Dipole re im) e = absurd (false≢true (sym e))
-    by z Nothing e = refl
+    by z Nothing e = omega arith
 
 -- each moment of a point in the cell is at most 2^40 times its weight
 pub moments_within : (c : Cell) (p : Point) (k : ℕ) → k ≤ 64 → Holds (square c) p.x p.y → BoxEndsWithin (2 ^ 40 * weight64 p) (moments_of c p k)
