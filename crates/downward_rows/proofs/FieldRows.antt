@@ -16,8 +16,9 @@ use Rattle.complex_box.specs.declared.CBox.{CBox}
 use Rattle.kernel_table.specs.Kernel.{kernel_entry}
 use Rattle.local_expansion.proofs.FarSources.{no_coefficients}
 use Rattle.points.specs.Points.{is_source, place, pole, dipole}
-use Rattle.points.specs.declared.Kind.{Kind}
-use Rattle.points.specs.declared.Kind.TheVariants.{Charge, Dipole, Vortex, Target}
+use Rattle.points.specs.declared.Strength.{Strength}
+use Rattle.points.specs.declared.Strength.TheVariants.{Pole, Dipole, Nothing}
+use Rattle.points.specs.Strength.{pole_part, dipole_part, acts}
 use Rattle.points.specs.declared.Point.{Point}
 use Rattle.quadtree.proofs.Distinct.{Contains-into_filter}
 use Rattle.quadtree.specs.Members.{holds_point, holds_position, members_of}
@@ -43,11 +44,10 @@ use Rattle.downward_rows.proofs.SameRows.{converted_same, shifted_down_same}
 
 -- ---- the points of a far cell
 -- a target far from a cell adds nothing
-nothing_of_target : (k : Kind) (b : Square) (z : Gaussian) → is_source k ≡ false → GaussianBeyond (3 * side b) (offset b z) → (l : ℕ) → far_source (side b) (pole k) (dipole k) (offset b z) l ≡ zero_box
-nothing_of_target (Charge q) b z e far l = absurd (false≢true (sym e))
+nothing_of_target : (a : Strength) (b : Square) (z : Gaussian) → acts a ≡ false → GaussianBeyond (3 * side b) (offset b z) → (l : ℕ) → far_source (side b) (pole_part a) (dipole_part a) (offset b z) l ≡ zero_box
+nothing_of_target (Pole re im) b z e far l = absurd (false≢true (sym e))
 nothing_of_target (Dipole re im) b z e far l = absurd (false≢true (sym e))
-nothing_of_target (Vortex g) b z e far l = absurd (false≢true (sym e))
-nothing_of_target Target b z e far l = sym (no_coefficients (side b) (b.grid - b.level) (offset b z) (offset b z) (power_positive (b.grid - b.level)) refl refl far l)
+nothing_of_target Nothing b z e far l = sym (no_coefficients (side b) (b.grid - b.level) (offset b z) (offset b z) (power_positive (b.grid - b.level)) refl refl far l)
 
 and_second : (u v : Bool) → (u && v) ≡ true → v ≡ true
 and_second true v e = e
@@ -64,7 +64,7 @@ far_total points b c far k =
     (λ i x e. record {
       kept = and_second (is_source x.kind) (holds_test c x.x x.y);
       same = λ t. refl;
-      none = λ held out. nothing_of_target x.kind b (place x) (first_false (is_source x.kind) (holds_test c x.x x.y) held out) ((far_at i x e held).far x e) k;
+      none = λ held out. nothing_of_target (strength x.kind) b (place x) (first_false (is_source x.kind) (holds_test c x.x x.y) held out) ((far_at i x e held).far x e) k;
     })
     (λ i lt. ap (slice_get points) (omega arith)) zero_box
   where

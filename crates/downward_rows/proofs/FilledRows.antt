@@ -18,8 +18,8 @@ use Rattle.points.specs.declared.Point.{Point}
 use Rattle.quadtree.proofs.Limits.{in_grid}
 use Rattle.quadtree.specs.Tree.{HasTarget}
 use Rattle.quadtree.specs.TreeModel.{TreeModel, size, square_of, node_of}
-use Rattle.row_recursions.proofs.RowSizes.{zero_within}
-use Rattle.row_recursions.proofs.ZeroBoxes.{zero_left}
+use Rattle.complex_box.proofs.ZeroBoxes.{zero_left}
+use Rattle.complex_box.proofs.Sizes.{zero_within}
 use Rattle.row_recursions.specs.Cells.{sign, quadrant_of}
 use Rattle.row_recursions.specs.Rows.{row_of, RowsAdd}
 use Rattle.row_recursions.specs.Sizes.{RowWithin}

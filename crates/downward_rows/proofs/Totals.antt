@@ -5,7 +5,7 @@ use Rattle.std.proofs.lemmas.List.Sums.{fold_more}
 use Rattle.std.proofs.Math.Seq.{take-length}
 use Rattle.exact_math.specs.Ends.{BoxEnds, zero_box, add_box}
 use Rattle.complex_box.proofs.Sizes.{box_wider}
-use Rattle.row_recursions.proofs.ZeroBoxes.{zero_right}
+use Rattle.complex_box.proofs.ZeroBoxes.{zero_right}
 use Rattle.row_recursions.specs.Rows.{RowsAdd}
 use Rattle.row_recursions.specs.Sizes.{RowWithin}
 use Rattle.soundness.specs.Computed.{total_row}

@@ -215,10 +215,6 @@ Stands-re h = record { positive = h.positive; is = ap (λ w. w.re) h.is }
 pub Stands-im : {x : ComplexRatio} {z : ℂ} → Stands x z → RatioStands (im_part x) z.im
 Stands-im h = record { positive = h.positive; is = ap (λ w. w.im) h.is }
 
--- p + i q, part by part
-pub Stands-parts : {x : ComplexRatio} {p q : ℚ} → RatioStands (re_part x) p → RatioStands (im_part x) q → Stands x (complex p q)
-Stands-parts h k = record { positive = h.positive; is = same_pair rational_ring _ _ h.is k.is }
-
 -- ---- the fold of triples over a list is the sum
 module _ {A : Type 0} (term : A → ComplexRatio) (exact : A → ℂ) where
   fold_stands : (xs : List A) {x : ComplexRatio} {z : ℂ} → Stands x z → All (λ a. Stands (term a) (exact a)) xs

@@ -1,6 +1,7 @@
 -- Sizes of whole numbers under sums, products and rounded quotients.
 use Rattle.std.proofs.Common.{◌≡◌, ℕ, suc, ◌+◌, ◌*◌, ◌≤◌, arith, ℤ, pos, negsuc, neg_ℤ, ◌+ℤ◌, ◌-ℤ◌, ◌*ℤ◌, ◌≤ℤ◌}
 use Rattle.std.proofs.Math.Nat.{mul-le-mul}
+use Rattle.std.specs.Prelude.{unsigned_abs}
 use Rattle.std.proofs.lemmas.Int.{ints}
 use Rattle.exact_math.specs.Rounding.{floor_div, ceil_div}
 use Rattle.exact_math.specs.Within.{Within}
@@ -9,6 +10,14 @@ use Rattle.exact_math.proofs.RingTactic.{int_quotes, ring2}
 use Rattle.exact_math.proofs.Integers.{*-cancel_≤}
 use Rattle.exact_math.proofs.Enclosures.{floor_div_le}
 use Rattle.exact_math.proofs.RoundedQuotients.{floor_is_greatest}
+
+pub unsigned_abs-within : (m : ℕ) (z : ℤ) → Within m z → unsigned_abs z ≤ m
+unsigned_abs-within m (pos n) h = let l = h.below in omega (arith, ints)
+unsigned_abs-within m (negsuc n) h = let l = h.above in omega (arith, ints)
+
+pub within-size : (z : ℤ) → Within (unsigned_abs z) z
+within-size (pos n) = record { above = omega (arith, ints); below = omega (arith, ints) }
+within-size (negsuc n) = record { above = omega (arith, ints); below = omega (arith, ints) }
 
 pub within-weaker : {m n : ℕ} {x : ℤ} → m ≤ n → Within m x → Within n x
 within-weaker h w = record { above = omega (arith, ints); below = omega (arith, ints) }

@@ -3,7 +3,7 @@ use Rattle.std.specs.Prelude.{ℕ, ℤ, pos, neg_ℤ, ◌+ℤ◌, ◌-ℤ◌, �
 use Rattle.std.specs.Int.{int_min, int_max}
 use Rattle.exact_math.specs.Contains.{Contains}
 use Rattle.exact_math.specs.Gaussian.{Gaussian}
-use Rattle.exact_math.specs.Ratio.{Ratio, ComplexRatio, re_part, im_part}
+use Rattle.exact_math.specs.Ratio.{ComplexRatio, re_part, im_part}
 use Rattle.exact_math.specs.Rounding.{floor_div, ceil_div}
 use Rattle.exact_math.specs.Within.{Within}
 
@@ -118,14 +118,10 @@ pub record BoxEndsWithin (n : ℕ) (b : BoxEnds) : Type 0 where
   pub re : EndsWithin n b.re
   pub im : EndsWithin n b.im
 
--- the ends count units of 1/unit, and contain the fraction
-abbrev pub EndsContain : ℤ → Ends → Ratio → Type 0
-EndsContain unit i x = Contains unit i.lo i.hi x
-
--- each part contains the part of the fraction
+-- the ends count units of 1/unit, and those of each part contain the part of the fraction
 pub record BoxEndsContain (unit : ℤ) (b : BoxEnds) (z : ComplexRatio) : Type 0 where
-  pub re : EndsContain unit b.re (re_part z)
-  pub im : EndsContain unit b.im (im_part z)
+  pub re : Contains unit b.re.lo b.re.hi (re_part z)
+  pub im : Contains unit b.im.lo b.im.hi (im_part z)
 
 -- the first lies in the second
 pub record EndsInside (inner outer : Ends) : Type 0 where

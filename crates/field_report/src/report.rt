@@ -4,7 +4,6 @@ ghost use Rattle.std.specs.Io.KnownBytes.{Appends};
 ghost use Rattle.field_report.specs.FieldText.{field_text, target_text};
 ghost use Rattle.io_ports.specs.Bytes.{AppendsPrefix};
 ghost use Rattle.io_ports.specs.Faults.{HasCause};
-ghost use Rattle.points.specs.Points.{is_source};
 ghost use Rattle.points.specs.Limits.{InRange, WithinLimits};
 ghost use Rattle.solve_phase.specs.Field.{IsSolved, kept};
 ghost use Rattle.tree_field.specs.Lists.{TreeLists, AreTreeLists};
@@ -12,18 +11,8 @@ ghost use Rattle.tree_field.specs.Lists.{TreeLists, AreTreeLists};
 use crate::ends::{write_end, write_head};
 use crate::line::write_target;
 use io_ports::{Sink, WriteFault};
-use points::{Kind, Mode, Point, Points};
+use points::{Mode, Point, Points};
 use solve_phase::Field;
-
-// Whether a point is a target.
-fn is_target(p: &Point) -> bool
-    ensures { result ≡ not (is_source p.now.kind) }
-{
-    match p.kind {
-        Kind::Charge(_) | Kind::Dipole(_, _) | Kind::Vortex(_) => false,
-        Kind::Target => true,
-    }
-}
 
 // Appends the lines of all targets, in the order of the list.
 fn write_targets<const P: usize, S: Sink>(
@@ -42,7 +31,7 @@ fn write_targets<const P: usize, S: Sink>(
 {
     let mut k = 0;
     for p in points {
-        if is_target(p) {
+        if !p.kind.is_source() {
             write_target(mode, p.x, p.y, field.value(k), sink)?;
             k += 1;
         }

@@ -18,7 +18,6 @@ use Rattle.quadtree.specs.Tree.{AreInGrid, IsTreeCell}
 use Rattle.tree_field.specs.Field.{is_source_in}
 use Rattle.tree_field.specs.Lists.{TreeLists, AreTreeLists}
 use Rattle.quadtree.proofs.Lists.{All-from_members, AllPairs-both, rest_differ}
-use Rattle.tree_field.proofs.Occupants.{is_source_from}
 use Rattle.field_sizes.specs.Sizes.{EntriesShareNoSource}
 
 -- ---- sums over what tests keep
@@ -88,7 +87,7 @@ module _ (grid : ℕ) (points : List Point) (cap : ℕ) (lists : TreeLists) (pos
       let in_c = and_parts (is_source p.kind) (holds_test c p.x p.y) tc in
       let in_d = and_parts (is_source p.kind) (holds_test d p.x p.y) td in
       let t = ec.target in
-      let pair : IsTargetAndSource points t.target p = record { target_listed = t.here.listed; is_target = t.is_target; source_listed = listed; is_source = is_source_from p.kind in_c.0 } in
+      let pair : IsTargetAndSource points t.target p = record { target_listed = t.here.listed; is_target = t.is_target; source_listed = listed; is_source = in_c.0 } in
       let one = only_entry grid points cap letter b d t.target p positive inside pair ed (record { target_held = t.here.held; source_held = Holds-from_test d p.x p.y in_d.1 }) in
       (one letter b c ec (record { target_held = t.here.held; source_held = Holds-from_test c p.x p.y in_c.1 })).2
 

@@ -4,7 +4,7 @@ use Rattle.std.specs.Prelude.{All, sum_by}
 use Rattle.std.proofs.Math.Nat.{mul-le-mul_right}
 use Rattle.std.proofs.lemmas.List.Elements.{All-weaker}
 use Rattle.exact_math.specs.Ends.{BoxEndsWithin, add_box}
-use Rattle.complex_box.proofs.Sizes.{box_wider, add_box_within}
+use Rattle.complex_box.proofs.Sizes.{box_wider, add_box_within, zero_within}
 use Rattle.kernel_table.specs.Kernel.{IsKernelDistance, kernel_entry}
 use Rattle.cell_name.specs.Square.{Square, side, parent}
 use Rattle.cell_name.proofs.Cells.{Touches-sym}
@@ -21,7 +21,7 @@ use Rattle.row_recursions.specs.Rows.{converted, shifted_down}
 use Rattle.row_recursions.specs.Sizes.{RowWithin}
 use Rattle.row_recursions.proofs.ConvertedSizes.{converted_within}
 use Rattle.row_recursions.proofs.Geometry.{pairs_of_cells, far_places}
-use Rattle.row_recursions.proofs.RowSizes.{zero_within, far_source_within, shifted_down_within, power_positive}
+use Rattle.row_recursions.proofs.RowSizes.{far_source_within, shifted_down_within, power_positive}
 use Rattle.soundness.specs.Computed.{total_row, far_coefficients_in}
 use Rattle.soundness.specs.Squares.{offset, quadrant, sides_between, IsFarFrom}
 use Rattle.tree_field.specs.Field.{sources_in, multipole_row, converted_rows, far_rows, local_row}

@@ -6,7 +6,7 @@ use Rattle.exact_math.specs.Ends.{BoxEndsWithin, zero_box}
 use Rattle.complex_box.specs.Box.{box_ends}
 use Rattle.complex_box.specs.Rows.{zero_cbox, IsZero}
 use Rattle.complex_box.specs.declared.CBox.{CBox}
-use Rattle.row_recursions.proofs.RowSizes.{zero_within}
+use Rattle.complex_box.proofs.Sizes.{zero_within}
 use Rattle.row_recursions.specs.Sizes.{RowWithin}
 use Rattle.tree_rows.specs.FlatRows.{row_at}
 

@@ -38,7 +38,7 @@ impl Interval {
         requires { Within (2 ^ 126) n }
         ensures lo { result.lo ≡ n }
         ensures hi { result.hi ≡ n }
-        ensures contains { IntervalContains result (whole_ratio n) }
+        ensures contains { IntervalContains (pos 1) result (whole_ratio n) }
     {
         Interval { lo: n, hi: n }
     }
@@ -50,7 +50,7 @@ impl Interval {
         requires high_end { Within (2 ^ 126) hi }
         ensures lo { result.lo ≡ lo }
         ensures hi { result.hi ≡ hi }
-        ensures contains { (x : Ratio) → Contains (pos 1) lo hi x → IntervalContains result x }
+        ensures contains { (x : Ratio) → Contains (pos 1) lo hi x → IntervalContains (pos 1) result x }
     {
         Interval { lo, hi }
     }
@@ -60,7 +60,7 @@ impl Interval {
     pub fn add(self, o: Interval) -> Interval
         requires { EndsWithin (2 ^ 126) (add_ends (ends_of self) (ends_of o)) }
         ensures ends { ends_of result ≡ add_ends (ends_of self) (ends_of o) }
-        ensures contains { (x y : Ratio) → IntervalContains self x → IntervalContains o y → IntervalContains result (add_ratio x y) }
+        ensures contains { (x y : Ratio) → IntervalContains (pos 1) self x → IntervalContains (pos 1) o y → IntervalContains (pos 1) result (add_ratio x y) }
     {
         Interval {
             lo: self.lo + o.lo,
@@ -87,7 +87,7 @@ impl Interval {
     pub fn sub(self, o: Interval) -> Interval
         requires { EndsWithin (2 ^ 126) (sub_ends (ends_of self) (ends_of o)) }
         ensures ends { ends_of result ≡ sub_ends (ends_of self) (ends_of o) }
-        ensures contains { (x y : Ratio) → IntervalContains self x → IntervalContains o y → IntervalContains result (sub_ratio x y) }
+        ensures contains { (x y : Ratio) → IntervalContains (pos 1) self x → IntervalContains (pos 1) o y → IntervalContains (pos 1) result (sub_ratio x y) }
     {
         Interval {
             lo: self.lo - o.hi,
@@ -99,7 +99,7 @@ impl Interval {
     #[inline]
     pub fn neg(self) -> Interval
         ensures ends { ends_of result ≡ neg_ends (ends_of self) }
-        ensures contains { (x : Ratio) → IntervalContains self x → IntervalContains result (neg_ratio x) }
+        ensures contains { (x : Ratio) → IntervalContains (pos 1) self x → IntervalContains (pos 1) result (neg_ratio x) }
     {
         Interval {
             lo: -self.hi,
@@ -112,7 +112,7 @@ impl Interval {
     pub fn scale(self, k: i128) -> Interval
         requires { EndsWithin (2 ^ 126) (scale_ends (ends_of self) k) }
         ensures ends { ends_of result ≡ scale_ends (ends_of self) k }
-        ensures contains { (x : Ratio) → IntervalContains self x → IntervalContains result (mul_ratio (whole_ratio k) x) }
+        ensures contains { (x : Ratio) → IntervalContains (pos 1) self x → IntervalContains (pos 1) result (mul_ratio (whole_ratio k) x) }
     {
         Interval {
             lo: low_product(self.lo, self.hi, k),
@@ -128,7 +128,7 @@ impl Interval {
     pub fn times(self, o: Interval) -> Interval
         requires { EndsWithin (2 ^ 126) (times_ends (ends_of self) (ends_of o)) }
         ensures ends { ends_of result ≡ times_ends (ends_of self) (ends_of o) }
-        ensures contains { (x y : Ratio) → IntervalContains self x → IntervalContains o y → IntervalContains result (mul_ratio x y) }
+        ensures contains { (x y : Ratio) → IntervalContains (pos 1) self x → IntervalContains (pos 1) o y → IntervalContains (pos 1) result (mul_ratio x y) }
     {
         if self.lo >= 0 {
             return Interval {
@@ -156,7 +156,7 @@ impl Interval {
     pub fn quot(self, n: i128) -> Interval
         requires { pos 1 ≤ℤ n }
         ensures ends { ends_of result ≡ quot_ends (ends_of self) n }
-        ensures contains { (x : Ratio) → IntervalContains self x → IntervalContains result (over_ratio x n) }
+        ensures contains { (x : Ratio) → IntervalContains (pos 1) self x → IntervalContains (pos 1) result (over_ratio x n) }
     {
         let lo = floor_quot(self.lo, n);
         let hi = ceil_near(self.hi, n, self.lo, lo);
@@ -168,7 +168,7 @@ impl Interval {
     pub fn quot_shift(self, k: u32) -> Interval
         requires { k < 127 }
         ensures ends { ends_of result ≡ quot_ends (ends_of self) (pos (2 ^ k)) }
-        ensures contains { (x : Ratio) → IntervalContains self x → IntervalContains result (over_ratio x (pos (2 ^ k))) }
+        ensures contains { (x : Ratio) → IntervalContains (pos 1) self x → IntervalContains (pos 1) result (over_ratio x (pos (2 ^ k))) }
     {
         let lo = floor_shift(self.lo, k);
         let hi = ceil_shift(self.hi, k);
@@ -182,7 +182,7 @@ impl Interval {
         requires radius { pos 0 ≤ℤ r }
         requires fits { EndsWithin (2 ^ 126) (widen_ends (ends_of self) r) }
         ensures ends { ends_of result ≡ widen_ends (ends_of self) r }
-        ensures contains { (x y : Ratio) → IntervalContains self x → Contains (pos 1) (neg_ℤ r) r (sub_ratio y x) → IntervalContains result y }
+        ensures contains { (x y : Ratio) → IntervalContains (pos 1) self x → Contains (pos 1) (neg_ℤ r) r (sub_ratio y x) → IntervalContains (pos 1) result y }
     {
         Interval {
             lo: self.lo - r,
@@ -194,7 +194,7 @@ impl Interval {
     #[inline]
     pub fn inside(self, outer: Interval) -> bool
         ensures exactly { IsTrue result ↔ EndsInside (ends_of self) (ends_of outer) }
-        ensures contains { IsTrue result → (x : Ratio) → IntervalContains self x → IntervalContains outer x }
+        ensures contains { IsTrue result → (x : Ratio) → IntervalContains (pos 1) self x → IntervalContains (pos 1) outer x }
     {
         outer.lo <= self.lo && self.hi <= outer.hi
     }

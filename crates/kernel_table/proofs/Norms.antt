@@ -11,7 +11,8 @@ use Rattle.std.specs.Int.{w128}
 use Rattle.std.specs.Prelude.{unsigned_abs}
 use Rattle.exact_math.specs.Gaussian.{Gaussian, norm_gaussian}
 use Rattle.kernel_table.specs.Kernel.{IsKernelDistance}
-use Rattle.kernel_table.proofs.Widths.{square_abs, norm_count-is, norm_count≥4}
+use Rattle.exact_math.proofs.GaussianSizes.{square_abs, norm_count-is}
+use Rattle.kernel_table.proofs.Widths.{norm_count≥4}
 
 part_le : (x y : ℕ) → max x y ≤ 3 → (x ≤ 3) × (y ≤ 3)
 part_le x y h = (omega (arith, h), omega (arith, h))

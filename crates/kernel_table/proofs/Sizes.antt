@@ -18,20 +18,18 @@ use Rattle.exact_math.proofs.RingTactic.{int_quotes, ring2, ring3, ring5}
 use Rattle.exact_math.proofs.Integers as Z
 use Rattle.exact_math.specs.Binomials.{choose}
 use Rattle.exact_math.proofs.Enclosures.{floor_div_le}
+use Rattle.exact_math.proofs.GaussianSizes.{norm_count-is}
+use Rattle.exact_math.proofs.Integers.{square_nonneg}
 use Rattle.complex_box.specs.Box.{GscaleFits}
 use Rattle.kernel_table.specs.Kernel.{IsKernelDistance, kernel_power, kernel_entry, alternate_box}
 use Rattle.kernel_table.proofs.Contained.{kernel_power_contains}
 use Rattle.kernel_table.proofs.PowersOfTwo.{two_power, power_positive, power_add, choose_le}
-use Rattle.kernel_table.proofs.Widths.{norm_count-is, norm_count≥4, widths, widths_le, kernel_power_narrow, floor_div_gt, at_most}
+use Rattle.kernel_table.proofs.Widths.{norm_count≥4, widths, widths_le, kernel_power_narrow, floor_div_gt, at_most}
 
 times_neg : (c d : ℤ) → c *ℤ neg_ℤ d ≡ neg_ℤ (c *ℤ d)
 times_neg c d = ring2 int_ring c d (λ c d. search int_quotes depth 9) tt
 
 -- ---- roots
-square_nonneg : (a : ℤ) → pos 0 ≤ℤ (a *ℤ a)
-square_nonneg (pos n) = omega (arith, ints)
-square_nonneg (negsuc n) = omega (arith, ints)
-
 pub count_root_le : (a b : ℕ) → a * a ≤ b * b → a ≤ b
 count_root_le a b h =
     let l : a < suc b = lt_of_not-le (λ k. let m = mul-le-mul k k in absurd (omega arith)) in

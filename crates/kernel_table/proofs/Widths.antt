@@ -1,5 +1,5 @@
 -- The widths of the kernel's powers and entries.
-use mathlib.Core.Path.{◌≡◌, sym, ap₂, subst, subst₂}
+use mathlib.Core.Path.{◌≡◌, sym, subst, subst₂}
 use mathlib.Core.Logic.{◌⊎◌, inl, inr, ⊎_elim}
 use Prim.Native.Nat.{ℕ, zero, suc, ◌+◌, ◌-◌, ◌*◌, ◌/◌, ◌^◌, ◌≤◌, ◌<◌, max}
 use native.Mathlib.Nat.{lt_of_not-le, mul-le-mul_left, mul-le-mul_right, mul-le-mul}
@@ -12,6 +12,7 @@ use Rattle.std.specs.Prelude.{unsigned_abs}
 use Rattle.exact_math.specs.Ends.{Ends, BoxEnds, point_ends, add_ends, neg_ends, sub_ends, scale_ends, quot_ends, EndsNarrow, BoxEndsNarrow}
 use Rattle.exact_math.specs.Gaussian.{Gaussian, norm_gaussian}
 use Rattle.exact_math.specs.Rounding.{floor_div, ceil_div}
+use Rattle.exact_math.proofs.GaussianSizes.{norm_count, norm_count-is}
 use Rattle.exact_math.proofs.Ring.{int_ring}
 use Rattle.exact_math.proofs.RingTactic.{int_quotes, ring2, ring3}
 use Rattle.exact_math.proofs.Integers as Z
@@ -99,17 +100,6 @@ next_width w = (6 * w + 10) / 5
 pub widths : ℕ → ℕ
 widths zero = 2
 widths (suc n) = next_width (widths n)
-
--- norm e, as a natural number
-abbrev pub norm_count : Gaussian → ℕ
-norm_count e = unsigned_abs e.re * unsigned_abs e.re + unsigned_abs e.im * unsigned_abs e.im
-
-pub square_abs : (a : ℤ) → pos (unsigned_abs a * unsigned_abs a) ≡ a *ℤ a
-square_abs (pos n) = omega (arith, ints)
-square_abs (negsuc n) = omega (arith, ints)
-
-pub norm_count-is : (e : Gaussian) → pos (norm_count e) ≡ norm_gaussian e
-norm_count-is e = ap₂ ◌+ℤ◌ (square_abs e.re) (square_abs e.im)
 
 -- 10 (|x| + |y|) <= 6 (x^2 + y^2) where one is at least 2: the factor 6/5 is met at 2 + i
 six_fifths : (x y : ℕ) → 2 ≤ x → 10 * (x + y) ≤ 6 * (x * x + y * y)

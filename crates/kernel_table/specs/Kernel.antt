@@ -7,6 +7,7 @@ use Rattle.exact_math.specs.Gaussian.{Gaussian, norm_gaussian, conj, scale_gauss
 use Rattle.exact_math.specs.Ratio.{ComplexRatio, neg_complex, ◌*ᶜ◌, reciprocal}
 use Rattle.exact_math.specs.Sums.{pow_complex, natural_complex}
 use Rattle.exact_math.specs.Binomials.{choose}
+use Rattle.exact_math.specs.Units.{unit}
 
 -- the centre of the target's cell less that of the source's, in sides: the greater of the sizes of its parts is 2 or 3
 pub record IsKernelDistance (e : Gaussian) : Type 0 where
@@ -43,7 +44,7 @@ kernel_fraction e k l = alternate_complex l (natural_complex (choose (k + l) k) 
 -- ---- what the rounded kernel keeps
 -- the entry (k, l) contains the exact one in units of 2^-40, is at most 2 wide, and at most 2^39 + 1 in size
 pub record KernelEntryHolds (e : Gaussian) (k l : ℕ) : Type 0 where
-  pub contains : BoxEndsContain (pos (2 ^ 40)) (kernel_entry e k l) (kernel_fraction e k l)
+  pub contains : BoxEndsContain unit (kernel_entry e k l) (kernel_fraction e k l)
   pub narrow : BoxEndsNarrow 2 (kernel_entry e k l)
   pub size : BoxEndsWithin (2 ^ 39 + 1) (kernel_entry e k l)
 

@@ -6,7 +6,7 @@ use Rattle.exact_math.specs.Gaussian.{Gaussian, norm_gaussian, conj, scale_gauss
 use Rattle.truncation.specs.Places.{GaussianBeyond}
 use Rattle.row_recursions.specs.Rows.{units_box, units_over, ratio_box, far_pole, far_dipole, far_source}
 use Rattle.row_recursions.proofs.RowSizes.{far_norm_positive}
-use Rattle.row_recursions.proofs.ZeroBoxes.{zero_scaled, zero_over, zero_turned, zero_right, zero_left}
+use Rattle.complex_box.proofs.ZeroBoxes.{zero_scaled, zero_over, zero_turned, zero_right, zero_left}
 use Rattle.local_expansion.specs.FarPowers.{far_powers}
 
 powers-pole : (s : ℕ) (a zeta : Gaussian) (l : ℕ) → far_powers (units_box a) (2 * s) zeta (suc l) ≡ far_pole s a zeta l

@@ -34,7 +34,3 @@ product_size a b r s v w e f =
 
 pub wider : (z : ℤ) → Within (2 ^ 124) z → Within (2 ^ 126) z
 wider z w = within-weaker (lit≤ tt) w
-
--- an interval whose ends are those of a product
-pub product_ends : (r i j : Interval) (a b c d : ℤ) → a ≡ i.lo → b ≡ i.hi → c ≡ j.lo → d ≡ j.hi → r.lo ≡ least_product a b c d → r.hi ≡ greatest_product a b c d → ends_of r ≡ times_ends (ends_of i) (ends_of j)
-product_ends r i j a b c d e f g h l u = ends-same (rw (sym e, sym f, sym g, sym h) l) (rw (sym e, sym f, sym g, sym h) u)

@@ -21,19 +21,9 @@ use Rattle.row_recursions.specs.Rows.{RowsAdd, far_source}
 use Rattle.row_recursions.specs.Sizes.{RowWithin}
 use Rattle.row_recursions.specs.Sources.{source_of}
 use Rattle.row_recursions.proofs.FarLaws.{field_of_source}
-use Rattle.row_recursions.proofs.FieldLaws.{sum_of_fields}
-use Rattle.row_recursions.proofs.Points.{pole_of-source, dipole_of-source, place_of-source, side_positive}
+use Rattle.row_recursions.proofs.FieldLaws.{sum_of_fields, field_same}
+use Rattle.row_recursions.proofs.Points.{side_positive, strength_field}
 use Rattle.row_recursions.proofs.RowSizes.{far_norm_positive, far_source_within}
-
--- a row with the same boxes
-pub field_same : (P s : ℕ) (b : Gaussian) (f : Gaussian → ComplexRatio) (m n : ℕ → BoxEnds) → ((l : ℕ) → l < P → n l ≡ m l) → HoldsField P s b f m → HoldsField P s b f n
-field_same P s b f m n e h = record {
-  coefficient = h.coefficient;
-  fractions = h.fractions;
-  contains = λ l k. subst (λ x. BoxEndsContain (pos (2 ^ 40)) x (h.coefficient l)) (sym (e l k)) (h.contains l k);
-  fraction = h.fraction;
-  sums = h.sums;
-}
 
 -- a row to which another was added
 pub field_added : (P s : ℕ) (b : Gaussian) (f g : Gaussian → ComplexRatio) (old part new : ℕ → BoxEnds) → 1 ≤ s → RowsAdd P old part new → HoldsField P s b f old → HoldsField P s b g part
@@ -56,6 +46,4 @@ module _ (P : ℕ) (c : Cell) (p : Point) (order : IsOrder P) (far : GaussianBey
   pub far_field : HoldsField P (side_of c) (centre_of c) (λ t. local_cut P (centre_of c) t (source_of p)) (far_coefficients_of c p)
   far_field =
       let apart = far_norm_positive (side_of c) (offset_from c (place p)) (side_positive c) far in
-      field_same P (side_of c) (centre_of c) (λ t. local_cut P (centre_of c) t (source_of p)) _ (far_coefficients_of c p)
-      (λ l h. sym (ap₂ (λ a b. far_source (side_of c) a b (offset_from c (place p)) l) (pole_of-source (place p) (strength p.kind)) (dipole_of-source (place p) (strength p.kind))))
-      (field_of_source P (side_of c) (centre_of c) (source_of p) (side_positive c) (omega (arith, ints)))
+      strength_field P (side_of c) (centre_of c) (place p) (strength p.kind) (side_positive c) (omega (arith, ints))

@@ -3,15 +3,15 @@
 //! The coefficient `l` of a local row belongs to `(v/s)^l` in `s` times the field, at the offset `v` from the centre of a cell of side `s`.
 #![tactic(auto)]
 
-ghost use Rattle.std.specs.Prelude.{◌≡◌, ℕ, ◌+◌, ◌*◌, ◌^◌, ◌≤◌, ◌<◌, pos, length, List};
-ghost use Rattle.exact_math.specs.Ends.{BoxEndsContain, BoxEndsWithin};
+ghost use Rattle.std.specs.Prelude.{◌≡◌, ℕ, ◌+◌, ◌*◌, ◌^◌, ◌≤◌, ◌<◌, length, List};
 ghost use Rattle.exact_math.specs.Gaussian.{Gaussian, gaussian};
 ghost use Rattle.exact_math.specs.Orders.{IsOrder};
 ghost use Rattle.exact_math.specs.Ratio.{ComplexRatio, ◌+ᶜ◌};
 ghost use Rattle.exact_math.specs.Sums.{sum_terms};
+ghost use Rattle.exact_math.specs.Units.{unit};
 ghost use Rattle.truncation.specs.Entries.{Source, pair_cut, local_cut};
 ghost use Rattle.truncation.specs.Places.{GaussianBeyond};
-ghost use Rattle.complex_box.specs.Box.{box_ends, number};
+ghost use Rattle.complex_box.specs.Box.{box_ends, number, BoxWithin, BoxContains};
 ghost use Rattle.kernel_table.specs.Kernel.{IsKernelDistance, kernel_entry};
 ghost use Rattle.cell_name.specs.Cell.{square};
 ghost use Rattle.cell_name.specs.Square.{Holds};
@@ -97,8 +97,8 @@ pub fn at_local<const P: usize>(row: Row<P>, cell: Cell, x: i64, y: i64) -> CBox
     requires inside { Holds (square cell) x y }
     requires size { RowWithin P (2 ^ 90) (row_of row.cells.now) }
     ensures ends { box_ends result ≡ local_value P (row_of row.entry.cells.now) (side_of cell) (offset_from cell (gaussian x y)) }
-    ensures contains { (field : Gaussian → ComplexRatio) → HoldsField P (side_of cell) (centre_of cell) field (row_of row.entry.cells.now) → BoxEndsContain (pos (2 ^ 40)) (box_ends result) (field (gaussian x y)) }
-    ensures size { (n : ℕ) → RowWithin P n (row_of row.entry.cells.now) → BoxEndsWithin (P * n) (box_ends result) }
+    ensures contains { (field : Gaussian → ComplexRatio) → HoldsField P (side_of cell) (centre_of cell) field (row_of row.entry.cells.now) → BoxContains unit result (field (gaussian x y)) }
+    ensures size { (n : ℕ) → RowWithin P n (row_of row.entry.cells.now) → BoxWithin (P * n) result }
 {
     value_at(row, offset(cell, x, y), side_bits(cell))
 }

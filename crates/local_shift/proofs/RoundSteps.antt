@@ -14,19 +14,13 @@ use Rattle.row_recursions.specs.Sizes.{RowWithin}
 use Rattle.row_recursions.proofs.Equations.{down_round-zero, down_round-first, down_round-suc}
 use Rattle.row_recursions.proofs.RowSizes.{box_gscale_within, down_round_within}
 use Rattle.row_recursions.specs.Cells.{sign, quadrant_of}
+use Rattle.row_recursions.proofs.Turns.{unit_quadrant}
 use Rattle.local_shift.specs.Rounds.{next_row}
 
 -- ---- sizes
-sign_within : (x : Bool) → Within 1 (sign x)
-sign_within true = record { above = omega (arith, ints); below = omega (arith, ints) }
-sign_within false = record { above = omega (arith, ints); below = omega (arith, ints) }
-
-pub quadrant_within : (q : Quadrant) → GaussianWithin 1 (quadrant_of q)
-quadrant_within q = record { re = sign_within q.right; im = sign_within q.top }
-
 -- q times a box
 pub turned_within : (q : Quadrant) (b : BoxEnds) → BoxEndsWithin (2 ^ 91) b → BoxEndsWithin (2 ^ 92) (gscale_box b (quadrant_of q))
-turned_within q b w = box_wider (2 ^ 91 * 1 + 2 ^ 91 * 1) (2 ^ 92) _ (omega arith) (box_gscale_within (2 ^ 91) 1 1 b (quadrant_of q) (sign_within q.right) (sign_within q.top) w)
+turned_within q b w = box_wider (2 ^ 91 * 1 + 2 ^ 91 * 1) (2 ^ 92) _ (omega arith) (box_gscale_within (2 ^ 91) 1 1 b (quadrant_of q) (unit_quadrant q).re (unit_quadrant q).im w)
 
 pub first_fits : (q : Quadrant) (t b : BoxEnds) → BoxEndsWithin (2 ^ 91) t → BoxEndsWithin (2 ^ 91) b → BoxEndsWithin (2 ^ 126) (add_box t (quot_box (gscale_box b (quadrant_of q)) (pos 4)))
 first_fits q t b v w = box_wider (2 ^ 91 + 2 ^ 92) (2 ^ 126) _ (omega arith)
@@ -38,7 +32,7 @@ next_fits q b l v w = box_wider (2 ^ 92 + 2 ^ 91 * 2) (2 ^ 126) _ (omega arith)
 
 -- after n rounds
 pub rounds_within : (P : ℕ) (q : Quadrant) (m : ℕ → BoxEnds) → RowWithin P (2 ^ 90) m → (n k : ℕ) → n ≤ P → BoxEndsWithin (2 ^ 91) (down_round P m (quadrant_of q) n k)
-rounds_within P q m bounded n k h = box_wider (2 * 2 ^ 90) (2 ^ 91) _ (omega arith) (down_round_within P (2 ^ 90) (quadrant_of q) m (quadrant_within q) bounded n k h)
+rounds_within P q m bounded n k h = box_wider (2 * 2 ^ 90) (2 ^ 91) _ (omega arith) (down_round_within P (2 ^ 90) (quadrant_of q) m (unit_quadrant q) bounded n k h)
 
 -- ---- nothing
 nothing_turned : (x y : Bool) → quot_box (add_box (gscale_box zero_box (gaussian (sign x) (sign y))) (scale_box zero_box (pos 2))) (pos 4) ≡ zero_box

@@ -7,37 +7,18 @@ use Rattle.exact_math.specs.Ratio.{ComplexRatio, ◌+ᶜ◌}
 use Rattle.complex_box.specs.Rows.{zero_cbox, IsZero}
 use Rattle.complex_box.specs.declared.CBox.{CBox}
 use Rattle.complex_box.proofs.Sizes.{box_wider, add_box_within, quot_box_within}
+use Rattle.complex_box.proofs.ZeroBoxes.{zero_left}
 use Rattle.cell_name.specs.declared.cell.Quadrant.{Quadrant}
 use Rattle.row_recursions.specs.Fields.{HoldsField}
 use Rattle.row_recursions.specs.Rows.{row_of, RowsAdd, down_round, shifted_down}
 use Rattle.row_recursions.specs.Sizes.{RowWithin}
 use Rattle.row_recursions.proofs.DownLaws.{field_down}
 use Rattle.row_recursions.proofs.Equations.{shifted_down-is}
-use Rattle.row_recursions.proofs.FieldLaws.{sum_of_fields}
+use Rattle.row_recursions.proofs.FieldLaws.{sum_of_fields, field_same}
 use Rattle.row_recursions.proofs.RowSizes.{shifted_down_within}
 use Rattle.row_recursions.specs.Cells.{quadrant_of}
-use Rattle.local_shift.proofs.RoundSteps.{quadrant_within, rounds_within}
-
--- a row with the same boxes holds the same field
-field_same : (P s : ℕ) (b : Gaussian) (f : Gaussian → ComplexRatio) (m n : ℕ → BoxEnds) → ((l : ℕ) → l < P → n l ≡ m l) → HoldsField P s b f m → HoldsField P s b f n
-field_same P s b f m n e h = record {
-  coefficient = h.coefficient;
-  fractions = h.fractions;
-  contains = λ l k. subst (λ x. BoxEndsContain (pos (2 ^ 40)) x (h.coefficient l)) (sym (e l k)) (h.contains l k);
-  fraction = h.fraction;
-  sums = h.sums;
-}
-
-zero_added_whole : (x : ℤ) → pos 0 +ℤ x ≡ x
-zero_added_whole x = omega (arith, ints)
-
-zero_added : (b : BoxEnds) → add_box zero_box b ≡ b
-zero_added b =
-    let p = zero_added_whole b.re.lo in
-    let q = zero_added_whole b.re.hi in
-    let r = zero_added_whole b.im.lo in
-    let s = zero_added_whole b.im.hi in
-    λ i. record { re = record { lo = p i; hi = q i }; im = record { lo = r i; hi = s i } }
+use Rattle.row_recursions.proofs.Turns.{unit_quadrant}
+use Rattle.local_shift.proofs.RoundSteps.{rounds_within}
 
 module _ (P : ℕ) (q : Quadrant) (m : ℕ → BoxEnds) where
   -- half of the last round is the row brought down
@@ -63,12 +44,12 @@ module _ (P : ℕ) (q : Quadrant) (m : ℕ → BoxEnds) where
     pub holds_parent : ((k : ℕ) → k < P → old k ≡ zero_box) → (s : ℕ) (b : Gaussian) (field : Gaussian → ComplexRatio) → 1 ≤ s → HoldsField P (2 * s) b field m
         → HoldsField P s (add_gaussian b (scale_gaussian s (quadrant_of q))) field new
     holds_parent nothing s b field s≥1 parent = field_same P s (add_gaussian b (scale_gaussian s (quadrant_of q))) field (shifted_down P m (quadrant_of q)) new
-        (λ k h. adds k h ∙ ap (λ x. add_box x (shifted_down P m (quadrant_of q) k)) (nothing k h) ∙ zero_added _)
+        (λ k h. adds k h ∙ ap (λ x. add_box x (shifted_down P m (quadrant_of q) k)) (nothing k h) ∙ zero_left _)
         (field_down P s (quadrant_of q) b field m s≥1 parent)
 
     pub sum_within : (k n : ℕ) → RowWithin P k m → RowWithin P n old → RowWithin P (k + n) new
     sum_within k n v w i h = subst (BoxEndsWithin (k + n)) (sym (adds i h)) (box_wider (n + k) (k + n) _ (omega arith)
-        (add_box_within n k (old i) (shifted_down P m (quadrant_of q) i) (w i h) (shifted_down_within P k (quadrant_of q) m (quadrant_within q) v i h)))
+        (add_box_within n k (old i) (shifted_down P m (quadrant_of q) i) (w i h) (shifted_down_within P k (quadrant_of q) m (unit_quadrant q) v i h)))
 
 -- the boxes of a row of zero boxes
 pub nothing_at : (P : ℕ) (xs : List CBox) → length xs ≡ P → All IsZero xs → (k : ℕ) → k < P → row_of xs k ≡ zero_box

@@ -1,5 +1,5 @@
 -- What the calls on rows do to what a row contains and to its size.
-use Rattle.std.proofs.Common.{◌≡◌, sym, ap₂, subst, ℕ, ◌+◌, ◌*◌, ◌^◌, ◌<◌, List, [], ◌∷◌, ◌++◌, arith, pos}
+use Rattle.std.proofs.Common.{◌≡◌, sym, subst, ℕ, ◌+◌, ◌*◌, ◌^◌, ◌<◌, List, [], ◌∷◌, ◌++◌, arith, pos}
 use Rattle.std.proofs.lemmas.Int.{ints}
 use Rattle.exact_math.specs.Ends.{BoxEnds, BoxEndsWithin, BoxEndsContain, add_box}
 use Rattle.exact_math.specs.Gaussian.{Gaussian}
@@ -17,11 +17,11 @@ use Rattle.truncation.specs.Entries.{Source, multipole_cut}
 use Rattle.truncation.specs.Places.{GaussianBeyond}
 use Rattle.row_recursions.specs.Cells.{side_of, centre_of, offset_from, moments_of}
 use Rattle.row_recursions.specs.Moments.{HoldsMoments}
-use Rattle.row_recursions.specs.Rows.{RowsAdd, source_moment, multipole_value}
+use Rattle.row_recursions.specs.Rows.{RowsAdd, multipole_value}
 use Rattle.row_recursions.specs.Sizes.{RowWithin}
 use Rattle.row_recursions.specs.Sources.{source_of}
 use Rattle.row_recursions.proofs.MomentLaws.{source_moments, sum_of_moments, multipole_values, moments_same}
-use Rattle.row_recursions.proofs.Points.{pole_of-source, dipole_of-source, place_of-source, side_positive, weight_bounded, moments_within}
+use Rattle.row_recursions.proofs.Points.{side_positive, weight_bounded, moments_within, strength_moments}
 use Rattle.row_recursions.proofs.RowSizes.{far_norm_positive}
 
 module _ (P : ℕ) (c : Cell) (p : Point) (order : IsOrder P) (inside : Holds (square c) p.x p.y) where
@@ -38,9 +38,7 @@ module _ (P : ℕ) (c : Cell) (p : Point) (order : IsOrder P) (inside : Holds (s
 
 -- the moments of a point are those of its source
 point_moments : (P : ℕ) (c : Cell) (p : Point) → HoldsMoments P (side_of c) (centre_of c) (source_of p ∷ []) (moments_of c p)
-point_moments P c p = moments_same P (side_of c) (centre_of c) (source_of p ∷ []) _ (moments_of c p)
-    (λ k h. sym (ap₂ (λ a b. source_moment (side_of c) a b (offset_from c (place p)) k) (pole_of-source (place p) (strength p.kind)) (dipole_of-source (place p) (strength p.kind))))
-    (source_moments P (side_of c) (centre_of c) (source_of p) (side_positive c))
+point_moments P c p = strength_moments P (side_of c) (centre_of c) (place p) (strength p.kind) (side_positive c)
 
 -- a row with the point's moments added contains those of all
 pub added_moments : (P : ℕ) (c : Cell) (p : Point) (xs : List Source) (old new : ℕ → BoxEnds) → RowsAdd P old (moments_of c p) new

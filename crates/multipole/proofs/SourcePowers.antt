@@ -11,7 +11,7 @@ use Rattle.complex_box.proofs.Sizes.{gscale_fits}
 use Rattle.truncation.specs.Places.{GaussianWithin}
 use Rattle.row_recursions.specs.Rows.{units_box, units_over, pole_moment, dipole_moment, source_moment}
 use Rattle.row_recursions.proofs.RowSizes.{box_gquot_within}
-use Rattle.row_recursions.proofs.ZeroBoxes.{zero_scaled, zero_over, zero_turned, zero_right, zero_left}
+use Rattle.complex_box.proofs.ZeroBoxes.{zero_scaled, zero_over, zero_turned, zero_right, zero_left}
 use Rattle.multipole.specs.Powers.{powers, slopes}
 
 -- ---- powers of two

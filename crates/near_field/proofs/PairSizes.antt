@@ -8,7 +8,7 @@ use Rattle.exact_math.specs.Ratio.{ComplexRatio}
 use Rattle.exact_math.specs.Rounding.{floor_div, ceil_div}
 use Rattle.exact_math.specs.Within.{Within}
 use Rattle.exact_math.specs.Terms.{pole_term, dipole_term}
-use Rattle.exact_math.proofs.Integers.{*-mono_left, *-nonneg, *-comm, *-cancel_≤}
+use Rattle.exact_math.proofs.Integers.{*-mono_left, *-comm, *-cancel_≤, square_nonneg}
 use Rattle.exact_math.proofs.Enclosures.{floor_div_le, ceil_div_ge}
 use Rattle.exact_math.proofs.Ring.{int_ring}
 use Rattle.exact_math.proofs.RingTactic.{int_quotes, ring1, ring2, ring3, ring4}
@@ -16,6 +16,7 @@ use Rattle.exact_math.proofs.RoundedQuotients.{floor_near}
 use Rattle.exact_math.proofs.WholeSizes.{within-floor, within-ceil}
 use Rattle.points.specs.Limits.{weight64}
 use Rattle.exact_math.specs.Sizes.{abs_gaussian}
+use Rattle.complex_box.proofs.Sizes.{zero_within}
 use Rattle.points.specs.Points.{strength}
 use Rattle.points.specs.Strength.{pole_part, dipole_part}
 use Rattle.points.specs.declared.Point.{Point}
@@ -60,10 +61,6 @@ bounded-add l m y z n v w =
     split_neg a b n = ring3 int_ring a b n (λ a b n. search int_quotes depth 9) tt
 
 -- ---- the parts of a distance and of its square, by its norm
-square_nonneg : (x : ℤ) → pos 0 ≤ℤ (x *ℤ x)
-square_nonneg (pos n) = *-nonneg (pos n) (pos n) (omega (arith, ints)) (omega (arith, ints))
-square_nonneg (negsuc n) = omega (arith, ints)
-
 size_square : (x : ℤ) → (neg_ℤ (x *ℤ x) ≤ℤ x) × (x ≤ℤ (x *ℤ x))
 size_square (pos zero) = (omega (arith, ints), omega (arith, ints))
 size_square (pos (suc a)) = (omega (arith, ints), omega (arith, ints))
@@ -192,15 +189,12 @@ outward-within m z h w = record {
   im = quot-within (2 ^ 40 * m) _ z.denominator h (bounded-units (2 ^ 40) m z.im z.denominator w.im);
 }
 
-zero-within : (m : ℕ) → BoxEndsWithin m zero_box
-zero-within m = let w : Within m (pos 0) = record { above = omega (arith, ints); below = omega (arith, ints) } in record { re = record { lo = w; hi = w }; im = record { lo = w; hi = w } }
-
 -- all ends of the box of a pair are at most 2^40 times the weight of the source
 pub pair_box-within : (t : Gaussian) (p : Point) → BoxEndsWithin (2 ^ 40 * weight64 p) (pair_box t p)
 pair_box-within t p = cases (is_at t p) refl
   where
     cases : (b : Bool) → is_at t p ≡ b → BoxEndsWithin (2 ^ 40 * weight64 p) (pair_box t p)
-    cases true e = rw e (zero-within _)
+    cases true e = rw e (zero_within _)
     cases false e =
         let h = distance_positive t p e in
         rw e (outward-within _ _ (term_denominator (strength p.kind) _ h) (term_bounded (strength p.kind) (t.re -ℤ p.x) (t.im -ℤ p.y) h))

@@ -59,25 +59,25 @@ target_from_test : (kind : Kind) → target_test kind ≡ true → IsTarget kind
 target_from_test (Charge q) e = absurd (false≢true e)
 target_from_test (Dipole re im) e = absurd (false≢true e)
 target_from_test (Vortex g) e = absurd (false≢true e)
-target_from_test Target e = tt
+target_from_test Target e = refl
 
 test-from_target : (kind : Kind) → IsTarget kind → target_test kind ≡ true
-test-from_target (Charge q) h = absurd h
-test-from_target (Dipole re im) h = absurd h
-test-from_target (Vortex g) h = absurd h
+test-from_target (Charge q) h = absurd (false≢true h)
+test-from_target (Dipole re im) h = absurd (false≢true h)
+test-from_target (Vortex g) h = absurd (false≢true h)
 test-from_target Target h = refl
 
 source_from_test : (kind : Kind) → not (target_test kind) ≡ true → IsSource kind
-source_from_test (Charge q) e = tt
-source_from_test (Dipole re im) e = tt
-source_from_test (Vortex g) e = tt
+source_from_test (Charge q) e = refl
+source_from_test (Dipole re im) e = refl
+source_from_test (Vortex g) e = refl
 source_from_test Target e = absurd (false≢true e)
 
 test-from_source : (kind : Kind) → IsSource kind → not (target_test kind) ≡ true
 test-from_source (Charge q) h = refl
 test-from_source (Dipole re im) h = refl
 test-from_source (Vortex g) h = refl
-test-from_source Target h = absurd h
+test-from_source Target h = absurd (false≢true h)
 
 pub has_target_is : (points : List Point) (c : Square) (b : Bool) → b ≡ list_any (λ k. is_target (slice_get points k)) (members_of points c) → IsTrue b ↔ HasTarget points c
 has_target_is points c b e = (

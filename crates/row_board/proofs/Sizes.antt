@@ -14,6 +14,7 @@ use Rattle.cell_lists.proofs.TreeNumbers.{tree_cell_at}
 use Rattle.complex_box.specs.Box.{BoxWithin}
 use Rattle.complex_box.specs.Rows.{at, zero_cbox}
 use Rattle.complex_box.specs.declared.CBox.{CBox}
+use Rattle.complex_box.proofs.Sizes.{zero_within}
 use Rattle.downward_rows.proofs.SameRows.{within_same}
 use Rattle.downward_rows.proofs.Totals.{row_wider}
 use Rattle.downward_rows.proofs.Trees.{some_tree}
@@ -24,7 +25,6 @@ use Rattle.field_sizes.specs.Sizes.{IsLimited, RowsWithin}
 use Rattle.quadtree.proofs.Limits.{in_grid}
 use Rattle.quadtree.specs.Tree.{AreInGrid}
 use Rattle.quadtree.specs.TreeModel.{IsTree, size, square_of}
-use Rattle.row_recursions.proofs.RowSizes.{zero_within}
 use Rattle.row_recursions.specs.Sizes.{RowWithin}
 use Rattle.tree_field.proofs.EachList.{each_list_has_tree}
 use Rattle.tree_field.specs.Field.{local_radius}

@@ -16,27 +16,18 @@ use Rattle.exact_math.proofs.Ring.{int_ring}
 use Rattle.exact_math.proofs.RingTactic.{int_quotes, ring2}
 use Rattle.exact_math.proofs.Integers as Z
 use Rattle.fixed_interval.proofs.Sizes.{add_within, sub_within, times_within}
-use Rattle.complex_box.proofs.Sizes.{box_wider, add_box_within}
+use Rattle.complex_box.proofs.Sizes.{box_wider, add_box_within, zero_within}
 use Rattle.kernel_table.specs.Kernel.{IsKernelDistance, kernel_entry, kernel_fraction, alternate_complex}
 use Rattle.kernel_table.proofs.Entries.{kernel_entries}
 use Rattle.kernel_table.proofs.Sizes.{Shrunk, shrunk, norm≥4, count_root_le}
-use Rattle.kernel_table.proofs.Widths.{square_abs}
+use Rattle.exact_math.proofs.GaussianSizes.{square_abs}
+use Rattle.exact_math.proofs.WholeSizes.{within-size}
 use Rattle.row_recursions.specs.Rows.{sum_boxes, converted}
 use Rattle.row_recursions.specs.Sizes.{RowWithin, ConvertedSizes}
 use Rattle.row_recursions.proofs.KernelCounts.{column_count, column_count-next, column_count-bounded}
-use Rattle.row_recursions.proofs.RowSizes.{zero_within, box_quot_within, power_positive}
+use Rattle.row_recursions.proofs.RowSizes.{box_quot_within, power_positive, two_products}
 
 -- ---- the exact kernel
--- twice a product is at most the sum of the squares
-square_nonneg : (a : ℤ) → pos 0 ≤ℤ (a *ℤ a)
-square_nonneg a = let e = square_abs a in omega (arith, ints, e)
-
-two_products : (x y : ℕ) → 2 * (x * y) ≤ x * x + y * y
-two_products x y = let h = subst (λ z. pos 0 ≤ℤ z) (expand (pos x) (pos y)) (square_nonneg (pos x -ℤ pos y)) in omega (arith, ints, h)
-  where
-    expand : (x y : ℤ) → (x -ℤ y) *ℤ (x -ℤ y) ≡ x *ℤ x +ℤ y *ℤ y -ℤ pos 2 *ℤ (x *ℤ y)
-    expand x y = ring2 int_ring x y (λ x y. search int_quotes depth 12) tt
-
 sum_root : (x y d : ℕ) → x * x + y * y ≤ d * d → 12 * (x + y) ≤ 17 * d
 sum_root x y d h = let t = two_products x y in count_root_le (12 * (x + y)) (17 * d) (omega (arith, h, t))
 
@@ -59,13 +50,9 @@ shrunk_sum n x h = sum_root (n * unsigned_abs x.re) (n * unsigned_abs x.im) (uns
 abbrev pub parts_size : BoxEnds → ℕ
 parts_size b = unsigned_abs b.re.lo + 2 + (unsigned_abs b.im.lo + 2)
 
-size_within : (z : ℤ) → Within (unsigned_abs z) z
-size_within (pos n) = record { above = omega (arith, ints); below = omega (arith, ints) }
-size_within (negsuc n) = record { above = omega (arith, ints); below = omega (arith, ints) }
-
 narrow_within : (i : Ends) → EndsNarrow 2 i → EndsWithin (unsigned_abs i.lo + 2) i
 narrow_within i h =
-    let w = size_within i.lo in
+    let w = within-size i.lo in
     let a = w.above in
     let b = w.below in
     let o = h.ordered in
@@ -124,7 +111,7 @@ counted_sizes n x = record { re = ap unsigned_abs (less (pos n *ℤ x.re) x.im);
     whole d = omega (arith, ints)
 
 times_units : (z : ℤ) (m : ℕ) → unsigned_abs z ≡ m → (neg_ℤ (pos (2 ^ 40 * m)) ≤ℤ (pos (2 ^ 40) *ℤ z)) × ((pos (2 ^ 40) *ℤ z) ≤ℤ pos (2 ^ 40 * m))
-times_units z m e = let w = size_within z in let a = w.above in let b = w.below in (omega (arith, ints, a, b, e), omega (arith, ints, a, b, e))
+times_units z m e = let w = within-size z in let a = w.above in let b = w.below in (omega (arith, ints, a, b, e), omega (arith, ints, a, b, e))
 
 cancelled : (a b d : ℕ) → 1 ≤ d → a * d ≤ b * d → a ≤ b
 cancelled a b d p h =

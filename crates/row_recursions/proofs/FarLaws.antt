@@ -6,9 +6,11 @@ use Rattle.exact_math.specs.Gaussian.{Gaussian, norm_gaussian, zero_gaussian}
 use Rattle.exact_math.specs.Ratio.{ComplexRatio, whole_complex, neg_complex, over_complex, ◌+ᶜ◌, ◌*ᶜ◌, reciprocal as reciprocal_fraction}
 use Rattle.exact_math.specs.Sums.{pow_complex, natural_complex}
 use Rattle.exact_math.proofs.BoxEnclosures.{EnclosesBox}
+use Rattle.exact_math.proofs.DirectTerms.{Stands-reciprocal}
 use Rattle.exact_math.proofs.Fractions.{Stands, Stands-whole, Stands-count, Stands-add, Stands-neg, Stands-mul, Stands-pow}
 use Rattle.exact_math.proofs.Gaussians.{value}
 use Rattle.exact_math.proofs.Horner.{polynomial}
+use Rattle.exact_math.proofs.DirectTerms.{Stands-reciprocal}
 use Rattle.truncation.specs.CutTerms.{local_pole_cut, local_dipole_cut}
 use Rattle.truncation.specs.Entries.{Source, local_cut}
 use Rattle.truncation.specs.Places.{doubled_offset}
@@ -21,7 +23,6 @@ use Rattle.row_recursions.proofs.CutSums as Cut
 use Rattle.row_recursions.proofs.FarRows.{far_source_holds}
 use Rattle.row_recursions.proofs.FieldLaws.{Stands-over_side, holds_field}
 use Rattle.row_recursions.proofs.Halves.{sides-half, halved_positive, far_ratio, far_ratio-is, far_ratio-over}
-use Rattle.row_recursions.proofs.KernelRows.{Stands-reciprocal}
 use Rattle.row_recursions.proofs.MomentLaws.{value-nothing}
 use Rattle.row_recursions.proofs.Sides.{sides, reciprocal}
 

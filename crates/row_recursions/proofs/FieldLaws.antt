@@ -1,7 +1,7 @@
 -- What local rows contain, in whole numbers.
 use Rattle.exact_math.proofs.Common.{◌≡◌, sym, ap, subst, ◌∙◌, ℕ, arith, ints, pos, ◌<ℤ◌, pow, quotes, ring1, ring3, ℂ, complex_rationals, of_int_ℂ, ◌+ℂ◌, ◌*ℂ◌, rational_ring, sum_below-congruence, sum_below-add, sum_below-mul, sum_below-zero}
 use Prim.Native.Nat.{◌^◌, ◌<◌}
-use Rattle.exact_math.specs.Ends.{BoxEnds, zero_box, add_box}
+use Rattle.exact_math.specs.Ends.{BoxEnds, BoxEndsContain, zero_box, add_box}
 use Rattle.exact_math.specs.Gaussian.{Gaussian}
 use Rattle.exact_math.specs.Ratio.{ComplexRatio, SameComplex, zero_complex, over_complex, ◌+ᶜ◌}
 use Rattle.exact_math.proofs.BoxEnclosures.{EnclosesBox, EnclosesBox-zero, EnclosesBox-add, enclosed_from_contained, contained_from_enclosed}
@@ -51,6 +51,16 @@ module _ {P s : ℕ} {b : Gaussian} {f : Gaussian → ComplexRatio} {m : ℕ →
 
   pub field_stands : (t : Gaussian) → Stands (f t) (field_value P s held_coefficient (doubled_offset t b))
   field_stands t = Stands-same (Stands-field_at P s h.coefficient held_coefficient (doubled_offset t b) s>0 coefficient_stands) (h.sums t)
+
+-- a row with the same boxes
+pub field_same : (P s : ℕ) (b : Gaussian) (f : Gaussian → ComplexRatio) (m n : ℕ → BoxEnds) → ((l : ℕ) → l < P → n l ≡ m l) → HoldsField P s b f m → HoldsField P s b f n
+field_same P s b f m n e h = record {
+  coefficient = h.coefficient;
+  fractions = h.fractions;
+  contains = λ l k. subst (λ x. BoxEndsContain (pos (2 ^ 40)) x (h.coefficient l)) (sym (e l k)) (h.contains l k);
+  fraction = h.fraction;
+  sums = h.sums;
+}
 
 -- and back: fractions c that stand for the coefficients v
 pub holds_field : (P s : ℕ) (b : Gaussian) (f : Gaussian → ComplexRatio) (m : ℕ → BoxEnds) (c : ℕ → ComplexRatio) (v : ℕ → ℂ) → 0 < s → ((l : ℕ) → Stands (c l) (v l))

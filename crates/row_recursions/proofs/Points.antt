@@ -1,42 +1,49 @@
 -- Points in cells, and their strengths.
-use Rattle.std.proofs.Common.{◌≡◌, refl, ℕ, zero, suc, ◌+◌, ◌*◌, ◌^◌, ◌≤◌, arith, ℤ, pos, negsuc, neg_ℤ, ◌+ℤ◌, ◌-ℤ◌, ◌≤ℤ◌, ◌<ℤ◌, SFits, w64, to_z, of_z, to_z-of_z, lit<}
+use Rattle.std.proofs.Common.{◌≡◌, refl, ℕ, zero, suc, ◌+◌, ◌*◌, ◌^◌, ◌≤◌, arith, ℤ, pos, neg_ℤ, ◌+ℤ◌, ◌-ℤ◌, ◌≤ℤ◌, ◌<ℤ◌, SFits, w64, to_z, of_z, to_z-of_z, lit<, negsuc, false, sym}
 use Rattle.std.proofs.lemmas.Int.{ints}
+use Rattle.std.proofs.lemmas.Bool.{false≢true}
 use Rattle.std.proofs.Math.Nat.{mul-le-mul_right}
-use Rattle.std.specs.Prelude.{unsigned_abs}
+use Rattle.std.specs.Prelude.{unsigned_abs, [], ◌∷◌}
 use Rattle.exact_math.specs.Ends.{BoxEnds, BoxEndsWithin}
-use Rattle.exact_math.specs.Gaussian.{Gaussian, gaussian}
+use Rattle.exact_math.specs.Gaussian.{Gaussian, gaussian, norm_gaussian}
 use Rattle.exact_math.specs.Within.{Within}
 use Rattle.points.specs.declared.Point.{Point}
 use Rattle.points.specs.declared.Strength.{Strength}
 use Rattle.points.specs.declared.Strength.TheVariants.{Pole, Dipole, Nothing}
 use Rattle.points.specs.Limits.{most_strength, InGrid, InRange, weight64}
-use Rattle.points.specs.Points.{place, strength, pole, dipole}
-use Rattle.points.specs.Strength.{pole_part, dipole_part, StrengthWithin}
+use Rattle.points.specs.Points.{place, strength, pole, dipole, is_source}
+use Rattle.points.specs.Strength.{pole_part, dipole_part, StrengthWithin, acts}
 use Rattle.exact_math.specs.Sizes.{abs_gaussian, weight_at}
 use Rattle.cell_name.specs.Cell.{square}
 use Rattle.cell_name.specs.Square.{side, corner_x, corner_y, Holds, IsInGrid}
 use Rattle.cell_name.specs.declared.cell.Cell.{Cell}
 use Rattle.cell_name.proofs.Cells.{inside_from_name}
 use Rattle.exact_math.proofs.GaussianSizes.{weight_at-le}
-use Rattle.truncation.specs.Entries.{weight}
+use Rattle.exact_math.proofs.WholeSizes.{unsigned_abs-within}
+use Rattle.truncation.specs.Entries.{weight, local_cut}
 use Rattle.truncation.specs.Places.{GaussianWithin, doubled_offset}
 use Rattle.complex_box.proofs.Sizes.{box_wider}
 use Rattle.row_recursions.specs.Cells.{side_of, centre_of, offset_from, moments_of}
-use Rattle.row_recursions.specs.Moments.{pole_of, dipole_of}
-use Rattle.row_recursions.specs.Rows.{units_box}
+use Rattle.row_recursions.specs.Moments.{pole_of, dipole_of, HoldsMoments}
+use Rattle.row_recursions.specs.Rows.{units_box, source_moment, far_source}
 use Rattle.row_recursions.specs.Sources.{source_at, source_of}
+use Rattle.row_recursions.specs.Fields.{HoldsField}
+use Rattle.row_recursions.proofs.FarLaws.{field_of_source}
+use Rattle.row_recursions.proofs.MomentLaws.{source_moments}
 use Rattle.row_recursions.proofs.RowSizes.{source_moment_within}
 
--- the strengths of a point's source are those of the point
-pub pole_of-source : (z : Gaussian) (a : Strength) → pole_of (source_at z a) ≡ pole_part a
-pole_of-source z (Pole re im) = refl
-pole_of-source z (Dipole re im) = refl
-pole_of-source z Nothing = refl
+-- the moments of a strength at a place, by its pole and its dipole
+pub strength_moments : (P s : ℕ) (c z : Gaussian) (a : Strength) → 1 ≤ s → HoldsMoments P s c (source_at z a ∷ []) (source_moment s (pole_part a) (dipole_part a) (doubled_offset z c))
+strength_moments P s c z (Pole re im) h = source_moments P s c (source_at z (Pole re im)) h
+strength_moments P s c z (Dipole re im) h = source_moments P s c (source_at z (Dipole re im)) h
+strength_moments P s c z Nothing h = source_moments P s c (source_at z Nothing) h
 
-pub dipole_of-source : (z : Gaussian) (a : Strength) → dipole_of (source_at z a) ≡ dipole_part a
-dipole_of-source z (Pole re im) = refl
-dipole_of-source z (Dipole re im) = refl
-dipole_of-source z Nothing = refl
+-- and its field far away
+pub strength_field : (P s : ℕ) (b z : Gaussian) (a : Strength) → 1 ≤ s → pos 0 <ℤ norm_gaussian (doubled_offset z b)
+    → HoldsField P s b (λ t. local_cut P b t (source_at z a)) (far_source s (pole_part a) (dipole_part a) (doubled_offset z b))
+strength_field P s b z (Pole re im) h apart = field_of_source P s b (source_at z (Pole re im)) h apart
+strength_field P s b z (Dipole re im) h apart = field_of_source P s b (source_at z (Dipole re im)) h apart
+strength_field P s b z Nothing h apart = field_of_source P s b (source_at z Nothing) h apart
 
 -- a point weighs what its source does, and up to order 32 no more than at 32
 pub weight-source_of : (P : ℕ) (p : Point) → weight P (source_of p) ≡ weight_at P (pole p.kind) (dipole p.kind)
@@ -82,13 +89,9 @@ side_positive c = power_positive _
     power_positive (suc n) = let h = power_positive n in omega arith
 
 -- ---- weights
-part_small : (n : ℕ) (z : ℤ) → Within n z → unsigned_abs z ≤ n
-part_small n (pos a) h = let l = h.below in omega (arith, ints)
-part_small n (negsuc a) h = let l = h.above in omega (arith, ints)
-
 weight_bounded_at : (a : Strength) → StrengthWithin most_strength a → abs_gaussian (pole_part a) + 64 * abs_gaussian (dipole_part a) ≤ 2 ^ 27
-weight_bounded_at (Pole re im) h = let a = part_small _ re h.0 in let b = part_small _ im h.1 in omega arith
-weight_bounded_at (Dipole re im) h = let a = part_small _ re h.0 in let b = part_small _ im h.1 in omega arith
+weight_bounded_at (Pole re im) h = let a = unsigned_abs-within _ re h.0 in let b = unsigned_abs-within _ im h.1 in omega arith
+weight_bounded_at (Dipole re im) h = let a = unsigned_abs-within _ re h.0 in let b = unsigned_abs-within _ im h.1 in omega arith
 weight_bounded_at Nothing h = omega arith
 
 -- the box of a strength whose components are in their limits, as calls have it
@@ -101,6 +104,15 @@ units_fit {x} {y} v w e =
 -- a point in range is at most 2^27 in weight
 pub weight_bounded : (p : Point) → InRange p → weight64 p ≤ 2 ^ 27
 weight_bounded p h = weight_bounded_at (strength p.kind) h.strength
+
+-- what adds nothing weighs nothing
+pub source_weight-nothing : (P : ℕ) (p : Point) → is_source p.kind ≡ false → weight P (source_of p) ≡ 0
+source_weight-nothing P p = by (place p) (strength p.kind)
+  where
+    by : (z : Gaussian) (a : Strength) → acts a ≡ false → weight P (source_at z a) ≡ 0
+    by z (Pole re im) e = absurd (false≢true (sym e))
+    by z (Dipole re im) e = absurd (false≢true (sym e))
+    by z Nothing e = refl
 
 -- each moment of a point in the cell is at most 2^40 times its weight
 pub moments_within : (c : Cell) (p : Point) (k : ℕ) → k ≤ 64 → Holds (square c) p.x p.y → BoxEndsWithin (2 ^ 40 * weight64 p) (moments_of c p k)

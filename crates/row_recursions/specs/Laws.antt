@@ -1,9 +1,10 @@
 -- What the rounded recursions contain, for every order, side and centre. c and b are doubled centres.
-use Rattle.std.specs.Prelude.{ℕ, ◌*◌, ◌^◌, ◌<◌, ◌≤◌, ◌<ℤ◌, pos, List, [], ◌∷◌, ◌++◌}
+use Rattle.std.specs.Prelude.{ℕ, ◌*◌, ◌<◌, ◌≤◌, ◌<ℤ◌, pos, List, [], ◌∷◌, ◌++◌}
 use Rattle.exact_math.specs.Ends.{BoxEnds, BoxEndsContain, zero_box, add_box}
 use Rattle.exact_math.specs.Gaussian.{Gaussian, add_gaussian, norm_gaussian, scale_gaussian}
 use Rattle.exact_math.specs.Ratio.{ComplexRatio, SameComplex, zero_complex, ◌+ᶜ◌}
 use Rattle.exact_math.specs.Sums.{sum_terms}
+use Rattle.exact_math.specs.Units.{unit}
 use Rattle.truncation.specs.Entries.{Source, pair_cut, multipole_cut, local_cut}
 use Rattle.truncation.specs.Places.{doubled_offset}
 use Rattle.kernel_table.specs.Kernel.{kernel_entry}
@@ -33,7 +34,7 @@ MomentsUp = (P s : ℕ) (q c : Gaussian) (xs : List Source) (m : ℕ → BoxEnds
 -- the value at another place than the centre: the cut terms of the sources
 abbrev pub MultipoleValues : Type 0
 MultipoleValues = (P s : ℕ) (c t : Gaussian) (xs : List Source) (m : ℕ → BoxEnds) → 1 ≤ s → pos 0 <ℤ norm_gaussian (doubled_offset t c)
-    → HoldsMoments P s c xs m → BoxEndsContain (pos (2 ^ 40)) (multipole_value P m s (doubled_offset t c)) (sum_terms (multipole_cut P c t) xs)
+    → HoldsMoments P s c xs m → BoxEndsContain unit (multipole_value P m s (doubled_offset t c)) (sum_terms (multipole_cut P c t) xs)
 
 -- ---- local rows
 -- no field
@@ -68,4 +69,4 @@ FieldDown = (P s : ℕ) (q b : Gaussian) (f : Gaussian → ComplexRatio) (m : �
 -- the value at any place: that of the field
 abbrev pub LocalValues : Type 0
 LocalValues = (P s : ℕ) (b t : Gaussian) (f : Gaussian → ComplexRatio) (m : ℕ → BoxEnds) → 1 ≤ s
-    → HoldsField P s b f m → BoxEndsContain (pos (2 ^ 40)) (local_value P m s (doubled_offset t b)) (f t)
+    → HoldsField P s b f m → BoxEndsContain unit (local_value P m s (doubled_offset t b)) (f t)

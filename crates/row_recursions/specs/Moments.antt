@@ -1,9 +1,10 @@
 -- The exact moments that a multipole row stands for.
-use Rattle.std.specs.Prelude.{ℕ, ◌*◌, ◌^◌, ◌<◌, pos, List, cond}
+use Rattle.std.specs.Prelude.{ℕ, ◌*◌, ◌<◌, pos, List, cond}
 use Rattle.exact_math.specs.Ends.{BoxEnds, BoxEndsContain}
 use Rattle.exact_math.specs.Gaussian.{Gaussian, zero_gaussian}
 use Rattle.exact_math.specs.Ratio.{ComplexRatio, whole_complex, over_complex, ◌+ᶜ◌, ◌*ᶜ◌}
 use Rattle.exact_math.specs.Sums.{pow_complex, slope_complex, sum_terms}
+use Rattle.exact_math.specs.Units.{unit}
 use Rattle.truncation.specs.Entries.{Source}
 use Rattle.truncation.specs.Places.{doubled_offset}
 
@@ -30,4 +31,4 @@ moment s c xs k = sum_terms (moment_of s c k) xs
 
 -- the row, whose boxes count units of 2^-40, contains the moments of the sources
 pub record HoldsMoments (P s : ℕ) (c : Gaussian) (xs : List Source) (m : ℕ → BoxEnds) : Type 0 where
-  pub contains : (k : ℕ) → k < P → BoxEndsContain (pos (2 ^ 40)) (m k) (moment s c xs k)
+  pub contains : (k : ℕ) → k < P → BoxEndsContain unit (m k) (moment s c xs k)

@@ -1,8 +1,9 @@
 -- The rounded recursions on rows of boxes, which count units of 2^-40. A row is a function of its index. s is the side of a cell; an offset is doubled, twice
 -- a place less the doubled centre of the cell; a quadrant q has the parts 1 and -1, 1 for the right and for the top half.
-use Rattle.std.specs.Prelude.{ℕ, zero, suc, ◌-◌, ◌*◌, ◌^◌, ◌<◌, ◌≡◌, pos, ◌*ℤ◌, List}
+use Rattle.std.specs.Prelude.{ℕ, zero, suc, ◌-◌, ◌*◌, ◌<◌, ◌≡◌, pos, ◌*ℤ◌, List}
 use Rattle.exact_math.specs.Ends.{BoxEnds, zero_box, point_box, add_box, neg_box, scale_box, times_box, gscale_box, quot_box, gquot_box}
 use Rattle.exact_math.specs.Gaussian.{Gaussian, norm_gaussian, conj, scale_gaussian}
+use Rattle.exact_math.specs.Units.{unit}
 use Rattle.complex_box.specs.Box.{box_ends}
 use Rattle.complex_box.specs.Rows.{at}
 use Rattle.complex_box.specs.declared.CBox.{CBox}
@@ -22,7 +23,7 @@ pub record HasPart (P : ℕ) (sum part : ℕ → BoxEnds) : Type 0 where
 
 -- 2^40 a
 abbrev pub units_box : Gaussian → BoxEnds
-units_box a = point_box (pos (2 ^ 40) *ℤ a.re) (pos (2 ^ 40) *ℤ a.im)
+units_box a = point_box (unit *ℤ a.re) (unit *ℤ a.im)
 
 -- 2^40 b/s, which is exact where s divides 2^40
 abbrev pub units_over : Gaussian → ℕ → BoxEnds
@@ -66,7 +67,7 @@ shifted_up m q k = up_round m q k 0
 -- ---- contributions to a local row
 -- of the multipole row m, by the entries of a kernel: the sum of products, rounded once
 unfoldable pub converted : ℕ → (ℕ → ℕ → BoxEnds) → (ℕ → BoxEnds) → ℕ → BoxEnds
-converted P kernel m l = quot_box (sum_boxes P (λ k. times_box (kernel k l) (m k))) (pos (2 ^ 40))
+converted P kernel m l = quot_box (sum_boxes P (λ k. times_box (kernel k l) (m k))) unit
 
 -- of a source with the offset zeta: 2^40 a times 2 s/zeta, and again each time
 unfoldable pub far_pole : ℕ → Gaussian → Gaussian → ℕ → BoxEnds

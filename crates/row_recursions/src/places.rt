@@ -1,10 +1,9 @@
 //! Places of the program's points in its cells, as the recursions take them.
 ghost use Rattle.std.specs.Prelude.{◌≡◌, ◌*◌, ◌^◌, ◌≤◌, pos, ◌≤ℤ◌};
-ghost use Rattle.exact_math.specs.Ends.{BoxEndsWithin};
 ghost use Rattle.exact_math.specs.Gaussian.{gaussian, norm_gaussian, conj, scale_gaussian};
 ghost use Rattle.exact_math.specs.Within.{Within};
 ghost use Rattle.truncation.specs.Places.{GaussianWithin, GaussianBeyond};
-ghost use Rattle.complex_box.specs.Box.{box_ends, number};
+ghost use Rattle.complex_box.specs.Box.{box_ends, number, BoxWithin};
 ghost use Rattle.points.specs.Limits.{InGrid};
 ghost use Rattle.row_recursions.specs.Cells.{side_of, offset_from};
 ghost use Rattle.row_recursions.specs.Rows.{units_box};
@@ -35,7 +34,7 @@ pub fn units(re: i64, im: i64) -> CBox
     requires re { Within (2 ^ 20) re }
     requires im { Within (2 ^ 20) im }
     ensures ends { box_ends result ≡ units_box (gaussian re im) }
-    ensures size { BoxEndsWithin (2 ^ 60) (box_ends result) }
+    ensures size { BoxWithin (2 ^ 60) result }
 {
     CBox::point(UNIT * i128::from(re), UNIT * i128::from(im))
 }

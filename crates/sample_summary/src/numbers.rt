@@ -9,7 +9,7 @@ ghost use Rattle.tree_field.specs.Lists.{TreeLists, AreTreeLists};
 
 use crate::widths::Widest;
 use letters::Letter;
-use points::{Kind, Point};
+use points::Point;
 use quadtree::Tree;
 use solve_phase::Field;
 
@@ -36,7 +36,7 @@ pub(crate) struct Summary {
 fn source_count(points: &[Point]) -> u64
     ensures { result ≡ count_by (λ p. is_source p.kind) points.now }
 {
-    points.iter().filter(|p| p.kind != Kind::Target).count() as u64
+    points.iter().filter(|p| p.kind.is_source()).count() as u64
 }
 
 /// How many cells are leaves.

@@ -12,18 +12,16 @@ use Rattle.exact_math.proofs.Fractions.{complex_value, Stands, Stands-itself, St
 use Rattle.exact_math.proofs.BoxEnclosures.{EnclosesBox, enclosed_from_contained}
 use Rattle.cell_name.specs.Square.{Square, side}
 use Rattle.kernel_table.specs.Kernel.{kernel_entry}
-use Rattle.points.specs.Points.{place, pole, dipole}
-use Rattle.points.specs.declared.Kind.{Kind}
-use Rattle.points.specs.declared.Kind.TheVariants.{Charge, Dipole, Vortex, Target}
+use Rattle.points.specs.Points.{place, strength}
+use Rattle.points.specs.declared.Point.{Point}
 use Rattle.row_recursions.specs.Fields.{HoldsField}
 use Rattle.row_recursions.specs.Moments.{HoldsMoments}
-use Rattle.row_recursions.specs.Rows.{converted, far_source, multipole_value}
-use Rattle.row_recursions.specs.Sources.{source_at}
+use Rattle.row_recursions.specs.Rows.{converted, multipole_value}
+use Rattle.row_recursions.specs.Sources.{source_of}
 use Rattle.row_recursions.proofs.BoxSums.{units}
 use Rattle.row_recursions.proofs.ConvertLaws.{field_converted}
-use Rattle.row_recursions.proofs.FarLaws.{field_of_source}
 use Rattle.row_recursions.proofs.MomentLaws.{multipole_values}
-use Rattle.row_recursions.proofs.Points.{place_of-source}
+use Rattle.row_recursions.proofs.Points.{strength_field}
 use Rattle.truncation.specs.Entries.{weight, pair_cut, multipole_cut, local_cut}
 use Rattle.truncation.specs.Places.{GaussianWithin, GaussianBeyond, doubled_offset}
 use Rattle.truncation.specs.Tails.{pair_tail, single_tail, pair_radius, single_radius}
@@ -60,23 +58,19 @@ pub pair_row : (P : ℕ) (b c : Square) (xs : List LeafSource) (m : ℕ → BoxE
 pair_row P b c xs m h held = Local-field P b _ _ (field_converted P (side b) (sides_between b c) (doubled_centre b) (doubled_centre c) (sources_in xs) m (side_positive b) (norm_beyond 2 (sides_between b c) (omega arith) h.apart)
     (subst (λ s. HoldsMoments P s (doubled_centre c) (sources_in xs) m) (sym (sides_of-apart b c h)) held))
 
-point_far : (P : ℕ) (b : Square) (z : Gaussian) (kind : Kind) → IsFarFrom b z
-    → HoldsField P (side b) (doubled_centre b) (λ t. local_cut P (doubled_centre b) t (source_at z kind)) (far_source (side b) (pole kind) (dipole kind) (doubled_offset z (doubled_centre b)))
-point_far P b z (Charge q) h = field_of_source P (side b) (doubled_centre b) (source_at z (Charge q)) (side_positive b) (norm_beyond (3 * side b) (offset b z) (far_norm b z h) h)
-point_far P b z (Dipole re im) h = field_of_source P (side b) (doubled_centre b) (source_at z (Dipole re im)) (side_positive b) (norm_beyond (3 * side b) (offset b z) (far_norm b z h) h)
-point_far P b z (Vortex g) h = field_of_source P (side b) (doubled_centre b) (source_at z (Vortex g)) (side_positive b) (norm_beyond (3 * side b) (offset b z) (far_norm b z h) h)
-point_far P b z Target h = field_of_source P (side b) (doubled_centre b) (source_at z Target) (side_positive b) (norm_beyond (3 * side b) (offset b z) (far_norm b z h) h)
+point_far : (P : ℕ) (b : Square) (p : Point) → IsFarFrom b (place p) → HoldsField P (side b) (doubled_centre b) (λ t. local_cut P (doubled_centre b) t (source_of p)) (far_coefficients_in b p)
+point_far P b p h = strength_field P (side b) (doubled_centre b) (place p) (strength p.kind) (side_positive b) (norm_beyond (3 * side b) (offset b (place p)) (far_norm b (place p) h) h)
 
 pub far_row : (P : ℕ) (b : Square) (xs : List LeafSource) → All (λ x. IsFarFrom b (place x.point)) xs → Local P b (far_sum P b xs) (total_row (λ x. far_coefficients_in b x.point) xs)
 far_row P b xs far = Local-same P b _ (far_sum P b xs) (total_row (λ x. far_coefficients_in b x.point) xs) sums
     (Local-total P b (λ x t. units *ℂ complex_value (local_cut P (doubled_centre b) t (source_in x))) (λ x. far_coefficients_in b x.point) xs (λ k d l. one (get_or xs k d) (far k d l)))
   where
     one : (x : LeafSource) → IsFarFrom b (place x.point) → Local P b (λ t. units *ℂ complex_value (local_cut P (doubled_centre b) t (source_in x))) (far_coefficients_in b x.point)
-    one x h = Local-field P b (λ t. local_cut P (doubled_centre b) t (source_in x)) _ (point_far P b (place x.point) x.point.kind h)
+    one x h = Local-field P b (λ t. local_cut P (doubled_centre b) t (source_in x)) _ (point_far P b x.point h)
 
     each : (t : Gaussian) → All (λ x. Stands (local_cut P (doubled_centre b) t x) (complex_value (local_cut P (doubled_centre b) t x))) (sources_in xs)
     each t = All-map (λ x. Stands (local_cut P (doubled_centre b) t x) (complex_value (local_cut P (doubled_centre b) t x))) source_in xs
-        (λ k d l. Stands-itself _ ((point_far P b (place (get_or xs k d).point) (get_or xs k d).point.kind (far k d l)).fraction t))
+        (λ k d l. Stands-itself _ ((point_far P b (get_or xs k d).point (far k d l)).fraction t))
 
     sums : (t : Gaussian) → sum_list complex_rationals (λ x. units *ℂ complex_value (local_cut P (doubled_centre b) t (source_in x))) xs ≡ far_sum P b xs t
     sums t =
@@ -89,27 +83,23 @@ multipole_held P c xs m t h held =
     enclosed_from_contained (pos (2 ^ 40)) (multipole_value P m (side c) (offset c t)) (Stands-itself _ v.re.fraction) v
 
 -- ---- how near the cut terms are
--- the place of a point's source
-at_source : (Q : Gaussian → Type 0) (x : LeafSource) → Q (place x.point) → Q (source_in x).place
-at_source Q x h = subst Q (sym (place_of-source (place x.point) x.point.kind)) h
-
 pub pair_near : (P : ℕ) (b c : Square) (t : Gaussian) (xs : List LeafSource) → 1 ≤ P → CellsAreApart b c → IsIn b t → All (λ x. IsIn c (place x.point)) xs
     → IsNear (pair_radius P (weight_of P xs) (side b)) (sum_list complex_rationals (term_in_units t) xs) (pair_sum P b c xs t)
 pair_near P b c t xs order h target sources =
     entry_near P t (pair_cut P (side b) (sides_between b c) (doubled_centre b) (doubled_centre c) t) (pair_tail P) (side b) (λ x. GaussianWithin (side b) (doubled_offset x.place (doubled_centre c)))
     (λ ys each. pair_entries P (side b) (sides_between b c) (doubled_centre b) (doubled_centre c) t order (side_positive b) h.apart (centres_of-apart b c h) target ys each) (side_positive b) xs
-    (λ k d l. at_source (λ z. GaussianWithin (side b) (doubled_offset z (doubled_centre c))) (get_or xs k d) (subst (λ s. GaussianWithin s (offset c (place (get_or xs k d).point))) (sym (sides_of-apart b c h)) (sources k d l)))
+    (λ k d l. subst (λ s. GaussianWithin s (offset c (place (get_or xs k d).point))) (sym (sides_of-apart b c h)) (sources k d l))
 
 pub multipole_near : (P : ℕ) (c : Square) (t : Gaussian) (xs : List LeafSource) → 2 ≤ P → IsFarFrom c t → All (λ x. IsIn c (place x.point)) xs
     → IsNear (single_radius P (weight_of P xs) (side c)) (sum_list complex_rationals (term_in_units t) xs) (multipole_sum P c xs t)
 multipole_near P c t xs order far sources =
     entry_near P t (multipole_cut P (doubled_centre c) t) (single_tail P) (side c) (λ x. GaussianWithin (side c) (doubled_offset x.place (doubled_centre c)))
     (λ ys each. multipole_entries P (side c) (doubled_centre c) t order (side_positive c) far ys each) (side_positive c) xs
-    (λ k d l. at_source (λ z. GaussianWithin (side c) (doubled_offset z (doubled_centre c))) (get_or xs k d) (sources k d l))
+    sources
 
 pub far_near : (P : ℕ) (b : Square) (t : Gaussian) (xs : List LeafSource) → 2 ≤ P → IsIn b t → All (λ x. IsFarFrom b (place x.point)) xs
     → IsNear (single_radius P (weight_of P xs) (side b)) (sum_list complex_rationals (term_in_units t) xs) (far_sum P b xs t)
 far_near P b t xs order near far =
     entry_near P t (local_cut P (doubled_centre b) t) (single_tail P) (side b) (λ x. GaussianBeyond (3 * side b) (doubled_offset x.place (doubled_centre b)))
     (λ ys each. local_entries P (side b) (doubled_centre b) t order (side_positive b) near ys each) (side_positive b) xs
-    (λ k d l. at_source (λ z. GaussianBeyond (3 * side b) (doubled_offset z (doubled_centre b))) (get_or xs k d) (far k d l))
+    far

@@ -15,7 +15,7 @@ use Rattle.exact_math.proofs.BoxEnclosures.{EnclosesBox, enclosed_from_contained
 use Rattle.row_recursions.proofs.BoxSums.{units}
 use Rattle.truncation.specs.Entries.{Source, weight, exact_term}
 use Rattle.truncation.specs.Truncation.{Truncated}
-use Rattle.truncation.proofs.Counting.{contains-rounded}
+use Rattle.truncation.proofs.Counting.{contains-div_ceil}
 use Rattle.soundness.specs.Accounts.{LeafSource}
 use Rattle.soundness.proofs.Boxes.{slack, IsNear}
 use Rattle.soundness.proofs.Terms.{source_in, sources_in, term_in_units, one_positive, exact_sum}
@@ -25,8 +25,8 @@ pub cut_off : (exact cut : ComplexRatio) (m s : ℕ) → 1 ≤ s → Truncated e
 cut_off exact cut m s least t = subst (EnclosesBox (slack (div_ceil m s)))
     (ring3 complex_rationals units (complex_value exact) (complex_value cut) (λ u a b. search quotes depth 12) tt)
     (enclosed_from_contained (pos (2 ^ 40)) (slack (div_ceil m s)) (Stands-sub (Stands-itself exact t.exact_fraction) (Stands-itself cut t.cut_fraction)) (record {
-      re = contains-rounded (pos (2 ^ 40)) m s least t.re;
-      im = contains-rounded (pos (2 ^ 40)) m s least t.im;
+      re = contains-div_ceil (pos (2 ^ 40)) m s least t.re;
+      im = contains-div_ceil (pos (2 ^ 40)) m s least t.im;
     }))
 
 -- ---- all sources of an entry

@@ -7,22 +7,18 @@ use Rattle.std.proofs.lemmas.List.Elements.{All-filter, filter_passes}
 use Rattle.std.proofs.lemmas.Bool.{ltb-true, eqb-true, cases_Bool, and_parts, true≢false}
 use mathlib.Core.Logic.{⊎_elim}
 use Rattle.exact_math.specs.Ends.{BoxEnds}
-use Rattle.exact_math.specs.Gaussian.{Gaussian}
 use Rattle.exact_math.proofs.Sums.{sum_list, sum_list-mul}
 use Rattle.exact_math.proofs.ListSums.{sum_list-map}
 use Rattle.exact_math.proofs.ComplexRationals.{ℂ, complex_rationals, ◌*ℂ◌}
 use Rattle.exact_math.proofs.BoxEnclosures.{EnclosesBox, enclosed_from_contained, contained_from_enclosed}
 use Rattle.exact_math.proofs.EndsBridges.{BoxEndsContain-inside}
 use Rattle.cell_name.specs.Square.{Square, side}
-use Rattle.points.specs.Points.{place, pole, dipole}
-use Rattle.points.specs.declared.Kind.{Kind}
-use Rattle.points.specs.declared.Kind.TheVariants.{Charge, Dipole, Vortex, Target}
+use Rattle.points.specs.Points.{place, strength}
 use Rattle.row_recursions.specs.Moments.{HoldsMoments}
-use Rattle.row_recursions.specs.Rows.{source_moment, shifted_up}
-use Rattle.row_recursions.specs.Sources.{source_at}
+use Rattle.row_recursions.specs.Rows.{shifted_up}
 use Rattle.row_recursions.proofs.BoxSums.{units}
-use Rattle.row_recursions.proofs.MomentLaws.{exact_of, Stands-moment, source_moments, moments_up}
-use Rattle.truncation.specs.Places.{doubled_offset}
+use Rattle.row_recursions.proofs.MomentLaws.{exact_of, Stands-moment, moments_up}
+use Rattle.row_recursions.proofs.Points.{strength_moments}
 use Rattle.soundness.specs.Squares.{doubled_centre, quadrant, IsQuarterOf}
 use Rattle.soundness.specs.Accounts.{LeafSource, Accounting, is_child, is_leaf, children, sources_under}
 use Rattle.soundness.specs.Computed.{total_row, moments_in, shifted_rows}
@@ -63,12 +59,6 @@ module _ (P : ℕ) (c : Square) where
   pub HoldsIn-inside : (xs : List LeafSource) (m n : ℕ → BoxEnds) → RowInside P m n → HoldsIn P c xs m → HoldsIn P c xs n
   HoldsIn-inside xs m n i h = record { contains = λ k l. BoxEndsContain-inside (h.contains k l) (i k l) }
 
-  point_moments : (z : Gaussian) (kind : Kind) → HoldsMoments P (side c) (doubled_centre c) (source_at z kind ∷ []) (source_moment (side c) (pole kind) (dipole kind) (doubled_offset z (doubled_centre c)))
-  point_moments z (Charge q) = source_moments P (side c) (doubled_centre c) (source_at z (Charge q)) (side_positive c)
-  point_moments z (Dipole re im) = source_moments P (side c) (doubled_centre c) (source_at z (Dipole re im)) (side_positive c)
-  point_moments z (Vortex g) = source_moments P (side c) (doubled_centre c) (source_at z (Vortex g)) (side_positive c)
-  point_moments z Target = source_moments P (side c) (doubled_centre c) (source_at z Target) (side_positive c)
-
   -- the sum over sources
   pub HoldsIn-sources : (xs : List LeafSource) → HoldsIn P c xs (total_row (λ x. moments_in c x.point) xs)
   HoldsIn-sources xs = moments_to xs (total_row (λ x. moments_in c x.point) xs) (λ k l. subst (EnclosesBox (total_row (λ x. moments_in c x.point) xs k)) (sum_list-mul complex_rationals units (moment_at k) xs)
@@ -76,7 +66,7 @@ module _ (P : ℕ) (c : Square) where
     where
       one : (k : ℕ) → k < P → (x : LeafSource) → EnclosesBox (moments_in c x.point k) (units *ℂ moment_at k x)
       one k l x = subst (λ z. EnclosesBox (moments_in c x.point k) (units *ℂ z)) (complex_rationals.add_zero (moment_at k x))
-          (moments_from (x ∷ []) (moments_in c x.point) (point_moments (place x.point) x.point.kind) k l)
+          (moments_from (x ∷ []) (moments_in c x.point) (strength_moments P (side c) (doubled_centre c) (place x.point) (strength x.point.kind) (side_positive c)) k l)
 
   -- the sum over rows of parts of the sources
   pub HoldsIn-parts : {Part : Type 0} (row : Part → ℕ → BoxEnds) (part : Part → List LeafSource) (parts : List Part) (xs : List LeafSource)

@@ -18,12 +18,13 @@ use Rattle.exact_math.proofs.DirectTerms.{pole-value}
 use Rattle.exact_math.proofs.Fractions.{complex_value, Stands, Stands-itself, Stands-zero, Stands-sum_terms}
 use Rattle.exact_math.proofs.BoxEnclosures.{EnclosesBox, EnclosesBox-zero, enclosed_from_contained}
 use Rattle.near_field.specs.DirectSum.{acts_on, acting_on, direct_sum}
-use Rattle.points.specs.Points.{is_source, place}
-use Rattle.near_field.specs.Pair.{is_at, term_at, term_of, outward, pair_box}
+use Rattle.points.specs.Points.{place, strength}
+use Rattle.points.specs.Strength.{acts}
+use Rattle.near_field.specs.Pair.{is_at, strength_term, term_of, outward, pair_box}
 use Rattle.near_field.proofs.PairContains.{distance_positive, term_denominator, pair_box-contains, acts-apart}
-use Rattle.points.specs.declared.Kind.{Kind}
-use Rattle.points.specs.declared.Kind.TheVariants.{Charge, Dipole, Vortex, Target}
 use Rattle.points.specs.declared.Point.{Point}
+use Rattle.points.specs.declared.Strength.{Strength}
+use Rattle.points.specs.declared.Strength.TheVariants.{Pole, Dipole, Nothing}
 use Rattle.row_recursions.specs.Sources.{source_at, source_of}
 use Rattle.row_recursions.proofs.BoxSums.{units}
 use Rattle.row_recursions.proofs.MomentLaws.{value-nothing}
@@ -56,28 +57,26 @@ pair_holds t x = by (is_at t x.point) refl
     by true e = subst₂ EnclosesBox (sym (ap (λ b. if b then zero_box else outward (term_of t x.point)) e))
         (sym (ap (λ b. units *ℂ cond b (of_int_ℂ (pos 0)) (complex_value (term_of t x.point))) e ∙ zero_times units)) EnclosesBox-zero
     by false e = subst (EnclosesBox (pair_box t x.point)) (sym (ap (λ b. units *ℂ cond b (of_int_ℂ (pos 0)) (complex_value (term_of t x.point))) e))
-        (enclosed_from_contained (pos (2 ^ 40)) (pair_box t x.point) (Stands-itself (term_of t x.point) (term_denominator x.point.kind _ (distance_positive t x.point e))) (pair_box-contains t x.point e))
+        (enclosed_from_contained (pos (2 ^ 40)) (pair_box t x.point) (Stands-itself (term_of t x.point) (term_denominator (strength x.point.kind) _ (distance_positive t x.point e))) (pair_box-contains t x.point e))
 
 -- ---- the direct sum
 -- a target adds nothing
-acting_value : (k : Kind) (at : Bool) (delta : Gaussian) → cond (is_source k && not at) (complex_value (term_at k delta)) (of_int_ℂ (pos 0)) ≡ cond at (of_int_ℂ (pos 0)) (complex_value (term_at k delta))
-acting_value (Charge q) true delta = refl
-acting_value (Charge q) false delta = refl
+acting_value : (a : Strength) (at : Bool) (delta : Gaussian) → cond (acts a && not at) (complex_value (strength_term a delta)) (of_int_ℂ (pos 0)) ≡ cond at (of_int_ℂ (pos 0)) (complex_value (strength_term a delta))
+acting_value (Pole re im) true delta = refl
+acting_value (Pole re im) false delta = refl
 acting_value (Dipole re im) true delta = refl
 acting_value (Dipole re im) false delta = refl
-acting_value (Vortex g) true delta = refl
-acting_value (Vortex g) false delta = refl
-acting_value Target true delta = refl
-acting_value Target false delta = sym (Stands-zero.is)
+acting_value Nothing true delta = refl
+acting_value Nothing false delta = sym (Stands-zero.is)
 
 pub direct_sum-stands : (t : Gaussian) (points : List Point) → Stands (direct_sum t points) (sum_list complex_rationals (term_value t) points)
 direct_sum-stands t points = subst (Stands (direct_sum t points))
     (sum_list-filter complex_rationals (acts_on t) (λ p. complex_value (term_of t p)) points
-    ∙ sum_list-congruence complex_rationals _ _ points (λ p. acting_value p.kind (is_at t p) _))
+    ∙ sum_list-congruence complex_rationals _ _ points (λ p. acting_value (strength p.kind) (is_at t p) _))
     (Stands-sum_terms (term_of t) (λ p. complex_value (term_of t p)) (acting_on t points) (λ k d l. acting (get_or (acting_on t points) k d) (filter_passes (acts_on t) points k d l)))
   where
     acting : (p : Point) → acts_on t p ≡ true → Stands (term_of t p) (complex_value (term_of t p))
-    acting p e = Stands-itself (term_of t p) (term_denominator p.kind _ (distance_positive t p (acts-apart t p e)))
+    acting p e = Stands-itself (term_of t p) (term_denominator (strength p.kind) _ (distance_positive t p (acts-apart t p e)))
 
 -- in units, over sources with their leaves
 pub direct_sum-in_units : (t : Gaussian) (xs : List LeafSource) → units *ℂ sum_list complex_rationals (term_value t) (points_of xs) ≡ sum_list complex_rationals (term_in_units t) xs
@@ -92,11 +91,10 @@ one_positive t x h = below (exact_term t x).denominator h
     below d h = omega (arith, ints)
 
 -- the norm of a distance is above 0 where the term is a fraction
-norm_of_term : (t z : Gaussian) (k : Kind) → pos 0 <ℤ (exact_term t (source_at z k)).denominator → norm_gaussian (sub_gaussian t z) ≡ pos 0 → ⊥
-norm_of_term t z (Charge q) h e = let k = subst (λ n. pos 0 <ℤ n) e h in omega (arith, ints)
+norm_of_term : (t z : Gaussian) (a : Strength) → pos 0 <ℤ (exact_term t (source_at z a)).denominator → norm_gaussian (sub_gaussian t z) ≡ pos 0 → ⊥
+norm_of_term t z (Pole re im) h e = let k = subst (λ n. pos 0 <ℤ n) e h in omega (arith, ints)
 norm_of_term t z (Dipole re im) h e = let k = subst (λ n. pos 0 <ℤ (n *ℤ n)) e h in omega (arith, ints)
-norm_of_term t z (Vortex g) h e = let k = subst (λ n. pos 0 <ℤ n) e h in omega (arith, ints)
-norm_of_term t z Target h e = let k = subst (λ n. pos 0 <ℤ n) e h in omega (arith, ints)
+norm_of_term t z Nothing h e = let k = subst (λ n. pos 0 <ℤ n) e h in omega (arith, ints)
 
 -- so the source stands elsewhere
 elsewhere : (t : Gaussian) (p : Point) → pos 0 <ℤ (exact_term t (source_of p)).denominator → is_at t p ≡ false
@@ -112,20 +110,19 @@ elsewhere t p h = by (is_at t p) refl
     by false e = e
     by true e =
         let q = and_parts (int_eq p.x t.re) (int_eq p.y t.im) e in
-        absurd (norm_of_term t (place p) p.kind h (none ((Decides-int_eq p.x t.re).0 q.0) ((Decides-int_eq p.y t.im).0 q.1)))
+        absurd (norm_of_term t (place p) (strength p.kind) h (none ((Decides-int_eq p.x t.re).0 q.0) ((Decides-int_eq p.y t.im).0 q.1)))
 
 -- the term of the source is that of the point
-same_term : (t z : Gaussian) (k : Kind) → complex_value (exact_term t (source_at z k)) ≡ complex_value (term_at k (sub_gaussian t z))
-same_term t z (Charge q) = refl
+same_term : (t z : Gaussian) (a : Strength) → complex_value (exact_term t (source_at z a)) ≡ complex_value (strength_term a (sub_gaussian t z))
+same_term t z (Pole re im) = refl
 same_term t z (Dipole re im) = refl
-same_term t z (Vortex g) = refl
-same_term t z Target = pole-value zero_gaussian (sub_gaussian t z) ∙ ap (λ a. a *ℂ inverse_ℂ (value (sub_gaussian t z))) value-nothing ∙ times_zero (inverse_ℂ (value (sub_gaussian t z))) ∙ sym (Stands-zero.is)
+same_term t z Nothing = pole-value zero_gaussian (sub_gaussian t z) ∙ ap (λ a. a *ℂ inverse_ℂ (value (sub_gaussian t z))) value-nothing ∙ times_zero (inverse_ℂ (value (sub_gaussian t z))) ∙ sym (Stands-zero.is)
   where
     times_zero : (z : ℂ) → of_int_ℂ (pos 0) *ℂ z ≡ of_int_ℂ (pos 0)
     times_zero z = ring1 complex_rationals z (λ z. search quotes depth 9) tt
 
 exact_value : (t : Gaussian) (p : Point) → pos 0 <ℤ (exact_term t (source_of p)).denominator → complex_value (exact_term t (source_of p)) ≡ term_value t p
-exact_value t p h = same_term t (place p) p.kind ∙ sym (ap (λ b. cond b (of_int_ℂ (pos 0)) (complex_value (term_of t p))) (elsewhere t p h))
+exact_value t p h = same_term t (place p) (strength p.kind) ∙ sym (ap (λ b. cond b (of_int_ℂ (pos 0)) (complex_value (term_of t p))) (elsewhere t p h))
 
 -- the sum of the terms of sources whose terms are fractions
 pub exact_sum : (t : Gaussian) (xs : List LeafSource) → All (λ x. pos 0 <ℤ (exact_term t (source_in x)).denominator) xs

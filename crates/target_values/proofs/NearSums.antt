@@ -6,14 +6,12 @@ use Rattle.std.proofs.lemmas.List.Elements.{filter-append}
 use Rattle.std.proofs.lemmas.List.Sums.{fold-append, fold_more, sum_by-append, count_by-le-length}
 use Rattle.exact_math.specs.Ends.{BoxEnds, add_box, zero_box}
 use Rattle.exact_math.specs.Gaussian.{Gaussian, gaussian}
-use Rattle.exact_math.specs.Within.{Within}
-use Rattle.points.specs.Points.{is_source, pole, dipole}
+use Rattle.points.specs.Points.{is_source}
 use Rattle.near_field.specs.Pair.{is_at, pair_box}
-use Rattle.points.specs.Limits.{InGrid, InRange, HasStrength, most_strength, weight64}
-use Rattle.exact_math.specs.Sizes.{abs_gaussian}
-use Rattle.points.specs.declared.Kind.{Kind}
-use Rattle.points.specs.declared.Kind.TheVariants.{Charge, Dipole, Vortex, Target}
+use Rattle.points.specs.Limits.{InGrid, InRange, weight64}
+use Rattle.points.specs.declared.Kind.TheVariants.{Charge}
 use Rattle.points.specs.declared.Point.{Point}
+use Rattle.row_recursions.proofs.Points.{weight_bounded}
 use Rattle.soundness.specs.Computed.{total_box}
 use Rattle.target_values.specs.Points.{point_at, sources, sources_at, count_apart}
 
@@ -45,16 +43,7 @@ pairs_of_one t p m n source h = h ∙ ap (λ k. n + k) (one (is_at t p) ∙ ap (
 
 -- a point in range brings little
 pub weight-most : (p : Point) → InRange p → 2 ^ 40 * weight64 p ≤ 2 ^ 67
-weight-most p range = bounded p.kind range.strength
-  where
-    small : (q : ℤ) → Within most_strength q → unsigned_abs q ≤ most_strength
-    small q w = omega (arith, ints)
-
-    bounded : (k : Kind) → HasStrength k → 2 ^ 40 * (abs_gaussian (pole k) + 64 * abs_gaussian (dipole k)) ≤ 2 ^ 67
-    bounded (Charge q) w = let a = small q w in omega arith
-    bounded (Vortex g) w = let a = small (neg_ℤ g) (record { above = omega (arith, ints); below = omega (arith, ints) }) in omega arith
-    bounded (Dipole re im) w = let a = small re w.0 in let b = small im w.1 in omega arith
-    bounded Target w = omega arith
+weight-most p range = let light = weight_bounded p range in omega arith
 
 -- what a slice reads past its end
 abbrev pub first_point : Point

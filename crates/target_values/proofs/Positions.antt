@@ -21,7 +21,6 @@ use Rattle.quadtree.proofs.Distinct.{Contains-filter}
 use Rattle.tree_field.specs.Field.{targets}
 use Rattle.tree_field.specs.Lists.{TreeLists}
 use Rattle.quadtree.proofs.Lists.{All-from_members, filter-map, range_below}
-use Rattle.tree_field.proofs.Occupants.{is_target_from}
 use Rattle.tree_rows.specs.FieldRows.{AreFieldRows, AreWeights}
 use Rattle.target_values.specs.Field.{AreRowsOfLeaf}
 use Rattle.target_values.specs.Points.{no_point, point_at}
@@ -86,7 +85,7 @@ module _ (points : List Point) (cap : ℕ) (tree : TreeModel) (h : IsTreeOf 16 t
   has_target = record {
     target = point_at points k;
     here = record { listed = Contains-get_or points k no_point is.inside; held = (leaf_at_position tree points cap h k no_point is.inside).held };
-    is_target = is_target_from (point_at points k).kind is.is_target;
+    is_target = ap not is.is_target;
   }
 
 pub leaf_in_tree : (points : List Point) (cap : ℕ) (tree : TreeModel) → IsTreeOf 16 tree points cap → (positions : List ℕ) → positions ≡ target_positions points → (i : ℕ) → i < length positions → (b : ℕ) → b ≡ leaf_of tree (get_or positions i 0) → b < size tree

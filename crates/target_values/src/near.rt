@@ -1,10 +1,10 @@
 //! The pairs of a target with the sources of its leaf's U entries.
 ghost use Rattle.std.specs.Prelude.{◌≡◌, ℕ, ◌+◌, ◌^◌, ◌<◌, ◌≤◌, length, [], ◌∷◌, fold, All, sum_by};
-ghost use Rattle.exact_math.specs.Ends.{BoxEndsWithin, add_box};
-ghost use Rattle.complex_box.specs.Box.{box_ends};
+ghost use Rattle.exact_math.specs.Ends.{add_box};
+ghost use Rattle.complex_box.specs.Box.{box_ends, BoxWithin};
 ghost use Rattle.cell_lists.specs.Lists.{AreLists};
 ghost use Rattle.cell_lists.specs.Row.{row};
-ghost use Rattle.points.specs.Points.{is_source, place};
+ghost use Rattle.points.specs.Points.{place};
 ghost use Rattle.near_field.specs.Pair.{pair_box};
 ghost use Rattle.points.specs.Limits.{InGrid, InRange};
 ghost use Rattle.quadtree.specs.TreeModel.{size, node_of};
@@ -16,31 +16,21 @@ ghost use Rattle.target_values.specs.Values.{near_pairs, near_count};
 use cell_lists::EntryLists;
 use complex_box::{CBox, Work};
 use near_field::pair;
-use points::{Kind, Point};
+use points::Point;
 use quadtree::Tree;
-
-/// Whether a point is a charge, a dipole or a vortex.
-pub(crate) fn is_source(p: &Point) -> bool
-    ensures { result ≡ is_source p.now.kind }
-{
-    match p.kind {
-        Kind::Charge(_) | Kind::Dipole(_, _) | Kind::Vortex(_) => true,
-        Kind::Target => false,
-    }
-}
 
 /// The sum and the box of the pair of the point and the target, where the point is a source.
 fn with_pair(sum: CBox, p: &Point, target: &Point, work: &mut Work) -> CBox
     requires range { InRange p.now }
     requires grid { InGrid target.now.x target.now.y }
-    requires size { BoxEndsWithin (2 ^ 100) (box_ends sum) }
+    requires size { BoxWithin (2 ^ 100) sum }
     requires room { work.old.pairs < 2 ^ 63 }
     ensures ends { box_ends result ≡ fold (λ b q. add_box b (pair_box (place target.now) q)) (box_ends sum) (sources (p.now ∷ [])) }
-    ensures size { (n : ℕ) → BoxEndsWithin n (box_ends sum) → BoxEndsWithin (n + 2 ^ 67) (box_ends result) }
+    ensures size { (n : ℕ) → BoxWithin n sum → BoxWithin (n + 2 ^ 67) result }
     ensures pairs { work.new.pairs ≡ work.old.pairs + count_apart (place target.now) (sources (p.now ∷ [])) }
     ensures translations { work.new.translations ≡ work.old.translations }
 {
-    if !is_source(p) {
+    if !p.kind.is_source() {
         return sum;
     }
     sum.add(pair(p, target.x, target.y, work))
@@ -54,7 +44,7 @@ fn pairs_with(points: &[Point], members: &[u32], target: &Point, work: &mut Work
     requires grid { InGrid target.now.x target.now.y }
     requires room { work.old.pairs + length members.now < 2 ^ 63 }
     ensures ends { box_ends result ≡ total_box (pair_box (place target.now)) (sources_at points.now members.now) }
-    ensures size { BoxEndsWithin (2 ^ 83) (box_ends result) }
+    ensures size { BoxWithin (2 ^ 83) result }
     ensures pairs { work.new.pairs ≡ work.old.pairs + count_apart (place target.now) (sources_at points.now members.now) }
     ensures few { work.new.pairs ≤ work.old.pairs + 2 ^ 16 }
     ensures translations { work.new.translations ≡ work.old.translations }
@@ -81,7 +71,7 @@ pub(crate) fn near_pairs(
     requires grid { InGrid target.now.x target.now.y }
     requires room { work.old.pairs < 2 ^ 62 }
     ensures ends { box_ends result ≡ near_pairs tree.now lists.now points.now b (place target.now) }
-    ensures size { BoxEndsWithin (2 ^ 99) (box_ends result) }
+    ensures size { BoxWithin (2 ^ 99) result }
     ensures pairs { work.new.pairs ≡ work.old.pairs + near_count tree.now lists.now points.now b (place target.now) }
     ensures few { work.new.pairs ≤ work.old.pairs + length points.now }
     ensures translations { work.new.translations ≡ work.old.translations }

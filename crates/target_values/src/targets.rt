@@ -2,7 +2,6 @@
 ghost use Rattle.std.specs.Prelude.{◌≡◌, ◌≤◌, length, IfOk};
 ghost use Rattle.target_values.specs.Targets.{target_positions};
 
-use crate::near::is_source;
 use points::Point;
 use std::alloc::{AllocError, Global};
 
@@ -13,7 +12,7 @@ pub fn target_positions(alloc: Global, points: &[Point]) -> Result<Vec<u32>, All
 {
     let mut positions = Vec::new(alloc);
     for (k, p) in points.iter().enumerate() {
-        if !is_source(p) {
+        if !p.kind.is_source() {
             positions.push(k as u32)?;
         }
     }

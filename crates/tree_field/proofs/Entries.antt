@@ -1,7 +1,7 @@
 -- The entries of the field as an accounting has them: their places are apart, and each source is accounted for once.
 use Rattle.std.proofs.Common.{ℕ, ◌≡◌, ◌≢◌, ◌<◌, ◌≤◌, List, ◌++◌, length, Bool, true, false, refl, sym, ap, ◌∙◌, subst, arith}
 use Rattle.std.specs.Prelude.{◌==◌, All, AllPairs, Contains, count_by}
-use Rattle.std.proofs.lemmas.Bool.{true≢false, and_parts, and_from, eqb-true, eq-eqb, not-true}
+use Rattle.std.proofs.lemmas.Bool.{true≢false, and_parts, and_from, eqb-true, eq-eqb}
 use Rattle.std.proofs.lemmas.List.Elements.{All-append, All-map, All-contains, Contains-append_left, Contains-append_right}
 use Rattle.cell_name.specs.Order.{IsBefore}
 use Rattle.cell_name.specs.Square.{Square, Holds, Touches}
@@ -28,7 +28,6 @@ use Rattle.quadtree.proofs.Ascending.{ascending_differ}
 use Rattle.tree_field.proofs.Leaves.{leaf_holds, only_leaf, cell_of_leaf, under_is_holding}
 use Rattle.quadtree.proofs.Lists.{All-from_members, Contains-into_map, AllPairs-map, AllPairs-both}
 use Rattle.tree_field.proofs.Members.{count_one}
-use Rattle.tree_field.proofs.Occupants.{is_target_from, is_source_from}
 use Rattle.tree_field.proofs.Numbers.{number, cell_at, above, number_below, cell_of_number}
 
 letter_itself : (l : Letter) → is_letter l l ≡ true
@@ -171,7 +170,7 @@ module _ (grid : ℕ) (points : List Point) (cap P : ℕ) (lists : TreeLists) (p
   accounted_once t p ht hp =
       let kt = Contains-filter _ points t ht in
       let kp = Contains-filter _ points p hp in
-      let o = each_pair_has_one_entry grid points cap t p positive inside (record { target_listed = kt.0; is_target = is_target_from t.kind (not-true _ kt.1); source_listed = kp.0; is_source = is_source_from p.kind kp.1 }) in
+      let o = each_pair_has_one_entry grid points cap t p positive inside (record { target_listed = kt.0; is_target = kt.1; source_listed = kp.0; is_source = kp.1 }) in
       let tc = (in_tree_of grid points cap o.letter o.b o.c o.entry.pair).1 in
       let test : Entry → Bool = accounts given (leaf_number grid points cap P lists t) (leaf_source grid points cap P lists p) in
       let the : Entry = entry grid points cap P lists o.letter o.b o.c in

@@ -10,7 +10,7 @@ use Rattle.kernel_table.specs.Kernel.{kernel_entry}
 use Rattle.near_field.specs.Pair.{pair_box}
 use Rattle.points.specs.declared.Point.{Point}
 use Rattle.quadtree.specs.Tree.{AreInGrid}
-use Rattle.row_recursions.proofs.ZeroBoxes.{zero_left}
+use Rattle.complex_box.proofs.ZeroBoxes.{zero_left}
 use Rattle.row_recursions.specs.Rows.{converted, shifted_down, multipole_value}
 use Rattle.row_recursions.specs.Sources.{source_of}
 use Rattle.soundness.specs.Accounts.{LeafTarget, Accounting, sources_under}

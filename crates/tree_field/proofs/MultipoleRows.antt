@@ -21,7 +21,7 @@ use Rattle.quadtree.proofs.Distinct.{Contains-filter, Contains-into_filter}
 use Rattle.quadtree.proofs.LeafLevel.{cell_of, tree_at_next}
 use Rattle.quadtree.proofs.Parents.{cell_of_point, leaf_or_split, IsTreeCell-below, IsTreeCell-from_below}
 use Rattle.cell_name.proofs.Quarters.{IsQuarter, quarters_are, quarters_contain}
-use Rattle.row_recursions.proofs.ZeroBoxes.{zero_scaled, zero_gscaled, zero_over, zero_right}
+use Rattle.complex_box.proofs.ZeroBoxes.{zero_scaled, zero_gscaled, zero_over, zero_right}
 use Rattle.row_recursions.specs.Rows.{up_round, shifted_up}
 use Rattle.soundness.specs.Accounts.{Accounting, is_child, is_leaf, children}
 use Rattle.soundness.specs.Computed.{total_box, total_row, moments_in, shifted_rows, leaf_row as given_leaf_row}

@@ -1,11 +1,9 @@
 -- Whether a cell has a source or a target, as tests.
-use Rattle.std.proofs.Common.{◌≡◌, ◌≤◌, List, true, false, not, refl, sym}
-use Rattle.std.proofs.lemmas.Bool.{true≢false, and_parts, and_from, not-true}
+use Rattle.std.proofs.Common.{◌≡◌, ◌≤◌, List, true, not}
+use Rattle.std.proofs.lemmas.Bool.{and_parts, and_from}
 use Rattle.cell_name.specs.Square.{Square, holds_test}
 use Rattle.cell_name.proofs.HoldsTest.{Holds-from_test, test-from_Holds}
-use Rattle.points.specs.Points.{is_source, IsTarget, IsSource}
-use Rattle.points.specs.declared.Kind.{Kind}
-use Rattle.points.specs.declared.Kind.TheVariants.{Charge, Dipole, Vortex, Target}
+use Rattle.points.specs.Points.{is_source}
 use Rattle.points.specs.declared.Point.{Point}
 use Rattle.quadtree.specs.Tree.{count_in, HasTarget, HasSource}
 use Rattle.quadtree.proofs.Counts.{count_by-listed}
@@ -13,49 +11,25 @@ use Rattle.tree_field.specs.Field.{is_source_in, has_source}
 use Rattle.tree_field.specs.Work.{is_target_in, has_target}
 use Rattle.tree_field.proofs.Members.{found, list_any-member}
 
-pub is_target_from : (k : Kind) → is_source k ≡ false → IsTarget k
-is_target_from (Charge q) e = absurd (true≢false e)
-is_target_from (Dipole re im) e = absurd (true≢false e)
-is_target_from (Vortex g) e = absurd (true≢false e)
-is_target_from Target e = tt
-
-pub is_source_from : (k : Kind) → is_source k ≡ true → IsSource k
-is_source_from (Charge q) e = tt
-is_source_from (Dipole re im) e = tt
-is_source_from (Vortex g) e = tt
-is_source_from Target e = absurd (true≢false (sym e))
-
-target_test : (k : Kind) → IsTarget k → not (is_source k) ≡ true
-target_test (Charge q) h = absurd h
-target_test (Dipole re im) h = absurd h
-target_test (Vortex g) h = absurd h
-target_test Target h = refl
-
-source_test : (k : Kind) → IsSource k → is_source k ≡ true
-source_test (Charge q) h = refl
-source_test (Dipole re im) h = refl
-source_test (Vortex g) h = refl
-source_test Target h = absurd h
-
 pub HasTarget-from_test : (points : List Point) (b : Square) → has_target points b ≡ true → HasTarget points b
 HasTarget-from_test points b e =
     let f = found (is_target_in b) points e in
     let parts = and_parts (not (is_source f.member.kind)) (holds_test b f.member.x f.member.y) f.passes in
-    record { target = f.member; here = record { listed = f.listed; held = Holds-from_test b f.member.x f.member.y parts.1 }; is_target = is_target_from f.member.kind (not-true _ parts.0) }
+    record { target = f.member; here = record { listed = f.listed; held = Holds-from_test b f.member.x f.member.y parts.1 }; is_target = parts.0 }
 
 pub test-from_HasTarget : (points : List Point) (b : Square) → HasTarget points b → has_target points b ≡ true
 test-from_HasTarget points b h =
-    list_any-member (is_target_in b) points h.target h.here.listed (and_from (not (is_source h.target.kind)) (holds_test b h.target.x h.target.y) (target_test h.target.kind h.is_target) (test-from_Holds b h.target.x h.target.y h.here.held))
+    list_any-member (is_target_in b) points h.target h.here.listed (and_from (not (is_source h.target.kind)) (holds_test b h.target.x h.target.y) h.is_target (test-from_Holds b h.target.x h.target.y h.here.held))
 
 pub HasSource-from_test : (points : List Point) (c : Square) → has_source points c ≡ true → HasSource points c
 HasSource-from_test points c e =
     let f = found (is_source_in c) points e in
     let parts = and_parts (is_source f.member.kind) (holds_test c f.member.x f.member.y) f.passes in
-    record { source = f.member; here = record { listed = f.listed; held = Holds-from_test c f.member.x f.member.y parts.1 }; is_source = is_source_from f.member.kind parts.0 }
+    record { source = f.member; here = record { listed = f.listed; held = Holds-from_test c f.member.x f.member.y parts.1 }; is_source = parts.0 }
 
 pub test-from_HasSource : (points : List Point) (c : Square) → HasSource points c → has_source points c ≡ true
 test-from_HasSource points c h =
-    list_any-member (is_source_in c) points h.source h.here.listed (and_from (is_source h.source.kind) (holds_test c h.source.x h.source.y) (source_test h.source.kind h.is_source) (test-from_Holds c h.source.x h.source.y h.here.held))
+    list_any-member (is_source_in c) points h.source h.here.listed (and_from (is_source h.source.kind) (holds_test c h.source.x h.source.y) h.is_source (test-from_Holds c h.source.x h.source.y h.here.held))
 
 -- a cell with a source has a point
 pub occupied_from_source : (points : List Point) (c : Square) → has_source points c ≡ true → 1 ≤ count_in points c

@@ -6,7 +6,7 @@ use Rattle.std.proofs.lemmas.List.Elements.{All-tail}
 use Rattle.std.proofs.lemmas.List.Folds.{fold-map}
 use Rattle.std.proofs.lemmas.List.Sums.{sum_by-cons}
 use Rattle.exact_math.specs.Ends.{BoxEnds, zero_box, add_box}
-use Rattle.row_recursions.proofs.ZeroBoxes.{zero_right}
+use Rattle.complex_box.proofs.ZeroBoxes.{zero_right}
 use Rattle.soundness.specs.Computed.{total_box}
 use Rattle.quadtree.proofs.Lists.{later}
 

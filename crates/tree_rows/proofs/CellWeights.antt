@@ -12,14 +12,13 @@ use Rattle.exact_math.specs.Gaussian.{Gaussian}
 use Rattle.cell_name.specs.Square.{Square}
 use Rattle.points.specs.Points.{is_source, place}
 use Rattle.points.specs.Limits.{InRange, weight64, total_weight}
-use Rattle.points.specs.declared.Kind.{Kind}
-use Rattle.points.specs.declared.Kind.TheVariants.{Charge, Dipole, Vortex, Target}
+use Rattle.points.specs.declared.Kind.TheVariants.{Charge}
 use Rattle.points.specs.declared.Point.{Point}
 use Rattle.quadtree.specs.Members.{holds_position, members_of}
 use Rattle.quadtree.specs.TreeModel.{TreeModel, size, square_of, node_of}
 use Rattle.quadtree.proofs.Distinct.{Contains-filter}
 use Rattle.row_recursions.specs.Sources.{source_at, source_of}
-use Rattle.row_recursions.proofs.Points.{grid_of, weight-le-weight64}
+use Rattle.row_recursions.proofs.Points.{grid_of, weight-le-weight64, source_weight-nothing}
 use Rattle.truncation.specs.Entries.{weight}
 use Rattle.tree_field.specs.Field.{is_source_in, weight_in}
 use Rattle.quadtree.proofs.Lists.{range_below}
@@ -43,16 +42,6 @@ cell_light points P c few =
     let a = sum_by-filter_both (is_source_in c) (λ p. not (is_source_in c p)) (λ p. refl) (weighs P) points in
     let b = sum_by-le-sum_by (weighs P) weight64 points (λ p. weight-le-weight64 P p few) in
     omega (arith, a, b)
-
--- ---- a target weighs nothing
-nothing : (P : ℕ) (p : Point) → is_source p.kind ≡ false → weighs P p ≡ 0
-nothing P p = by (place p) p.kind
-  where
-    by : (z : Gaussian) (k : Kind) → is_source k ≡ false → weight P (source_at z k) ≡ 0
-    by z (Charge q) e = absurd (false≢true (sym e))
-    by z (Dipole re im) e = absurd (false≢true (sym e))
-    by z (Vortex g) e = absurd (false≢true (sym e))
-    by z Target e = refl
 
 sum_of_kept : {X : Type 0} (f : X → ℕ) (p : X → Bool) (xs : List X) → ((x : X) → p x ≡ false → f x ≡ 0) → sum_by f (filter p xs) ≡ sum_by f xs
 sum_of_kept f p [] none = refl
@@ -87,7 +76,7 @@ module _ (points : List Point) (tree : TreeModel) (h : IsTreeOfPoints points tre
   members_weigh P =
       let in_grid = All-weaker InRange _ (λ p r. grid_of p.x p.y r.grid) points h.range in
       sym (sum_by-map (weighs P) (λ k. get_or points k no_point) (node_of tree n).members)
-      ∙ sym (sum_of_kept (weighs P) (λ p. is_source p.kind) (map (λ k. get_or points k no_point) (node_of tree n).members) (nothing P))
+      ∙ sym (sum_of_kept (weighs P) (λ p. is_source p.kind) (map (λ k. get_or points k no_point) (node_of tree n).members) (source_weight-nothing P))
       ∙ ap (sum_by (weighs P)) ((nodes_of_tree tree points h.cap in_grid h.is_tree n lt).members no_point)
 
   -- the members so far and the next one weigh no more than a list may

@@ -112,8 +112,8 @@ neg_floor m n = twice_negated (floor_div (neg_ℤ (pos m)) (pos n))
     twice_negated z = ring1 int_ring z (λ z. search int_quotes depth 9) tt
 
 -- at most m/n in size, in other units, is at most ceil(m/n)
-pub contains-rounded : (u : ℤ) (m n : ℕ) → 1 ≤ n → {x : Ratio} → Contains (u *ℤ pos n) (neg_ℤ (pos m)) (pos m) x → Contains u (neg_ℤ (pos (div_ceil m n))) (pos (div_ceil m n)) x
-contains-rounded u m n n>0 {x} k = subst₂ (λ l h. Contains u l h x) (neg_floor m n ∙ ap neg_ℤ (sym up)) (sym up) (contains-units u (pos n) (omega (arith, ints)) k)
+pub contains-div_ceil : (u : ℤ) (m n : ℕ) → 1 ≤ n → {x : Ratio} → Contains (u *ℤ pos n) (neg_ℤ (pos m)) (pos m) x → Contains u (neg_ℤ (pos (div_ceil m n))) (pos (div_ceil m n)) x
+contains-div_ceil u m n n>0 {x} k = subst₂ (λ l h. Contains u l h x) (neg_floor m n ∙ ap neg_ℤ (sym up)) (sym up) (contains-units u (pos n) (omega (arith, ints)) k)
   where
     up : pos (div_ceil m n) ≡ ceil_div (pos m) (pos n)
     up = div_ceil-is m n n>0
@@ -121,6 +121,6 @@ contains-rounded u m n n>0 {x} k = subst₂ (λ l h. Contains u l h x) (neg_floo
 -- a box of the cut sum, widened by m/n rounded up, contains the exact sum
 pub radius_widens : (m n : ℕ) → 1 ≤ n → MakesUp m n (div_ceil m n)
 radius_widens m n n>0 exact cut box t h = record {
-  re = contains-widen (pos (div_ceil m n)) (re_part exact) h.re (contains-rounded (pos (2 ^ 40)) m n n>0 t.re);
-  im = contains-widen (pos (div_ceil m n)) (im_part exact) h.im (contains-rounded (pos (2 ^ 40)) m n n>0 t.im);
+  re = contains-widen (pos (div_ceil m n)) (re_part exact) h.re (contains-div_ceil (pos (2 ^ 40)) m n n>0 t.re);
+  im = contains-widen (pos (div_ceil m n)) (im_part exact) h.im (contains-div_ceil (pos (2 ^ 40)) m n n>0 t.im);
 }

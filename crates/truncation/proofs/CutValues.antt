@@ -1,18 +1,18 @@
 -- What the cut terms and the doubled distances stand for.
-use Rattle.exact_math.proofs.Common.{◌≡◌, refl, sym, ap, ap₂, subst, subst₂, ◌∙◌, ℕ, suc, arith, ints, ℤ, pos, negsuc, ◌+ℤ◌, ◌-ℤ◌, ◌*ℤ◌, ◌<ℤ◌, quotes, combine, ring1, ring2, ring3, pow, ℚ, rational_ring, of_int, of_int-add, of_int-mul, of_int-≤, ◌+ℚ◌, ◌*ℚ◌, neg_ℚ, inverse, ◌≤ℚ◌, ◌<ℚ◌, int-<, inverse_right, positive_mul, sum_below, ℂ, complex_rationals, of_int_ℂ, ◌+ℂ◌, ◌*ℂ◌, ◌-ℂ◌, neg_ℂ, inverse_ℂ, *ℂ-inverse, norm, norm-mul, real, parts-add, parts-neg, parts-int, parts-inverse}
+use Rattle.exact_math.proofs.Common.{◌≡◌, refl, sym, ap, ap₂, subst, subst₂, ◌∙◌, ℕ, suc, arith, ints, ℤ, pos, ◌+ℤ◌, ◌-ℤ◌, ◌*ℤ◌, ◌<ℤ◌, quotes, combine, ring1, ring2, ring3, pow, ℚ, rational_ring, of_int, of_int-add, of_int-mul, of_int-≤, ◌+ℚ◌, ◌*ℚ◌, neg_ℚ, inverse, ◌≤ℚ◌, ◌<ℚ◌, int-<, inverse_right, positive_mul, sum_below, ℂ, complex_rationals, of_int_ℂ, ◌+ℂ◌, ◌*ℂ◌, ◌-ℂ◌, neg_ℂ, inverse_ℂ, *ℂ-inverse, norm, norm-mul, real, parts-add, parts-neg, parts-int}
 use Rattle.exact_math.specs.Gaussian.{Gaussian, gaussian, sub_gaussian, norm_gaussian, scale_gaussian, twice}
 use Rattle.exact_math.specs.Ratio.{ComplexRatio, neg_complex, ◌*ᶜ◌, reciprocal, invert}
-use Rattle.exact_math.specs.Within.{Within}
 use Rattle.exact_math.proofs.ComplexRationals.{real-mul, inverse_unique}
 use Rattle.exact_math.proofs.QuadraticExtension.{same_pair, pow_slope}
 use Rattle.exact_math.proofs.TruncatedKernel.{kernel_sum}
 use Rattle.exact_math.proofs.KernelSlope.{slope_sum}
 use Rattle.exact_math.proofs.Enclosures.{of_int-neg}
 use Rattle.exact_math.proofs.GaussianSizes.{absolute_int}
-use Rattle.exact_math.proofs.Gaussians.{value, value-norm, value-sub}
+use Rattle.exact_math.proofs.Gaussians.{value, value-sub}
 use Rattle.exact_math.proofs.Fractions.{complex_value, complex_value-split, Stands, Stands-whole, Stands-count, Stands-mul, Stands-neg, Stands-pow, Stands-slope, Stands-sum}
+use Rattle.exact_math.proofs.WholeSizes.{unsigned_abs-within}
 use Rattle.exact_math.proofs.KernelIdentity.{Stands-kernel, Stands-kernel_slope}
-use Rattle.exact_math.proofs.DirectTerms.{norm_positive, Stands-pole, Stands-dipole}
+use Rattle.exact_math.proofs.DirectTerms.{norm_positive, Stands-reciprocal, Stands-pole, Stands-dipole}
 use Rattle.truncation.specs.CutTerms.{half, pair_pole_cut, pair_dipole_cut, multipole_pole_cut, multipole_dipole_cut, local_pole_cut, local_dipole_cut}
 use Rattle.truncation.specs.Places.{GaussianWithin, GaussianBeyond, pair_distance}
 use Rattle.truncation.specs.Truncation.{halved_pole_term, halved_dipole_term}
@@ -23,21 +23,7 @@ use mathlib.Core.Logic.{inl, inr}
 use native.Mathlib.Nat.{mul-le-mul_left}
 use Prim.Native.Nat.{◌*◌, ◌≤◌}
 
--- ---- sizes
-size_le : (m : ℕ) (z : ℤ) → Within m z → unsigned_abs z ≤ m
-size_le m (pos n) h = let l = h.below in omega (arith, ints)
-size_le m (negsuc n) h = let l = h.above in omega (arith, ints)
-
 -- ---- reciprocals
-Stands-reciprocal : (g : Gaussian) → pos 0 <ℤ norm_gaussian g → Stands (reciprocal g) (inverse_ℂ (value g))
-Stands-reciprocal g h = record {
-  positive = h;
-  is = same_pair rational_ring _ _
-      (ap (λ n. of_int g.re *ℚ inverse n) (value-norm g))
-      (ap₂ (λ a n. a *ℚ inverse n) (of_int-neg g.im) (value-norm g))
-      ∙ sym (parts-inverse (value g));
-}
-
 real_one : real (of_int (pos 1)) ≡ of_int_ℂ (pos 1)
 real_one = sym (parts-int (pos 1))
 
@@ -95,8 +81,8 @@ int_le m n h = (of_int-≤ _ _).1 (omega (arith, ints))
 -- an offset within s
 pub offset_parts : (g : Gaussian) (s : ℕ) → GaussianWithin s g → PartsAtMost (double (halved g)) (of_int (pos s))
 offset_parts g s h = subst (λ z. PartsAtMost z (of_int (pos s))) (sym (double_halved g)) (record {
-  re = subst (λ q. q ≤ℚ of_int (pos s)) (sym (absolute_int g.re)) (int_le _ _ (size_le s g.re h.re));
-  im = subst (λ q. q ≤ℚ of_int (pos s)) (sym (absolute_int g.im)) (int_le _ _ (size_le s g.im h.im));
+  re = subst (λ q. q ≤ℚ of_int (pos s)) (sym (absolute_int g.re)) (int_le _ _ (unsigned_abs-within s g.re h.re));
+  im = subst (λ q. q ≤ℚ of_int (pos s)) (sym (absolute_int g.im)) (int_le _ _ (unsigned_abs-within s g.im h.im));
 })
 
 value_parts : (g : Gaussian) (m : ℕ) → GaussianBeyond m g → SomePartAtLeast (value g) (of_int (pos m))

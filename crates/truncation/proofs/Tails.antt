@@ -4,7 +4,7 @@ use Rattle.exact_math.specs.Rounding.{ceil_div}
 pub use Rattle.truncation.specs.Tails.{pair_tail, single_tail}
 use Rattle.std.specs.Int.{div_ceil}
 use Rattle.std.proofs.lemmas.Grind.{div_ceil_times}
-use Prim.Native.Nat.{◌+◌, ◌*◌, ◌-◌, ◌/◌, ◌^◌, ◌≤◌, ◌<◌}
+use Prim.Native.Nat.{◌+◌, ◌*◌, ◌/◌, ◌^◌, ◌≤◌, ◌<◌}
 
 -- a <= n ceil(a/n)
 pub div_ceil-ge : (a n : ℕ) → 0 < n → a ≤ n * div_ceil a n

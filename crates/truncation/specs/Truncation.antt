@@ -6,6 +6,7 @@ use Rattle.exact_math.specs.Gaussian.{Gaussian, zero_gaussian, sub_gaussian, twi
 use Rattle.exact_math.specs.Ratio.{ComplexRatio, re_part, im_part, ◌-ᶜ◌}
 use Rattle.exact_math.specs.Sizes.{weight_at}
 use Rattle.exact_math.specs.Terms.{pole_term, dipole_term}
+use Rattle.exact_math.specs.Units.{unit}
 use Rattle.truncation.specs.CutTerms.{pair_pole_cut, pair_dipole_cut, multipole_pole_cut, multipole_dipole_cut, local_pole_cut, local_dipole_cut}
 use Rattle.truncation.specs.Places.{PairPlaces, pair_distance, SinglePlaces}
 use Rattle.truncation.specs.Tails.{pair_tail, single_tail}
@@ -20,7 +21,7 @@ pub record Truncated (exact cut : ComplexRatio) (m n : ℕ) : Type 0 where
 -- r makes up for a loss of loss/s: a box that contains what is cut, in units of 2^-40, contains the exact sum once it is widened by r
 abbrev pub MakesUp : ℕ → ℕ → ℕ → Type 0
 MakesUp loss s r = (exact cut : ComplexRatio) (box : BoxEnds) → Truncated exact cut loss s
-    → BoxEndsContain (pos (2 ^ 40)) box cut → BoxEndsContain (pos (2 ^ 40)) (widen_box box (pos r)) exact
+    → BoxEndsContain unit box cut → BoxEndsContain unit (widen_box box (pos r)) exact
 
 -- a/delta and b/delta^2 for 2 delta = D: (2 a)/D and (4 b)/D^2
 abbrev pub halved_pole_term : Gaussian → Gaussian → ComplexRatio

@@ -10,8 +10,6 @@ use Rattle.cell_name.specs.Square.{Square, root, child, holds_test}
 use Rattle.cell_name.specs.declared.cell.Quadrant.{Quadrant}
 use Rattle.cell_name.proofs.HoldsTest.{Holds-from_test, test-from_Holds}
 use Rattle.points.specs.Points.{is_source, IsSource}
-use Rattle.points.specs.declared.Kind.{Kind}
-use Rattle.points.specs.declared.Kind.TheVariants.{Charge, Dipole, Vortex, Target}
 use Rattle.points.specs.declared.Point.{Point}
 use Rattle.cell_name.specs.Quarters.{quarter, quarters}
 use Rattle.quadtree.specs.Tree.{count_in, IsTreeCell, IsSplit, HasSource}
@@ -23,49 +21,18 @@ use Rattle.row_recursions.specs.Cells.{sign, quadrant_of}
 use Rattle.exact_math.specs.Gaussian.{gaussian}
 use Rattle.soundness.specs.Squares.{quadrant}
 use Rattle.tree_field.specs.Field.{is_source_in, has_source, leaf_row, multipole_row}
-use Rattle.tree_field.proofs.Members.{found, list_any-member}
+use Rattle.tree_field.proofs.Occupants.{HasSource-from_test, test-from_HasSource, occupied_from_source}
 use Rattle.tree_field.proofs.MultipoleRows.{multipole_row-leaf}
-
-source_test-from : (kind : Kind) → IsSource kind → is_source kind ≡ true
-source_test-from (Charge q) h = refl
-source_test-from (Dipole re im) h = refl
-source_test-from (Vortex g) h = refl
-source_test-from Target h = absurd h
-
-source_from_test : (kind : Kind) → is_source kind ≡ true → IsSource kind
-source_from_test (Charge q) e = tt
-source_from_test (Dipole re im) e = tt
-source_from_test (Vortex g) e = tt
-source_from_test Target e = absurd (false≢true e)
-
-has_source-from : (points : List Point) (c : Square) → HasSource points c → has_source points c ≡ true
-has_source-from points c h =
-    let p : Point = h.source in
-    list_any-member (is_source_in c) points p h.here.listed (and_from (is_source p.kind) (holds_test c p.x p.y) (source_test-from p.kind h.is_source) (test-from_Holds c p.x p.y h.here.held))
-
-HasSource-from : (points : List Point) (c : Square) → has_source points c ≡ true → HasSource points c
-HasSource-from points c e =
-    let f = found (is_source_in c) points e in
-    let p : Point = f.member in
-    let parts = and_parts (is_source p.kind) (holds_test c p.x p.y) f.passes in
-    record { source = p; here = record { listed = f.listed; held = Holds-from_test c p.x p.y parts.1 }; is_source = source_from_test p.kind parts.0 }
-
-occupied : (points : List Point) (c : Square) → has_source points c ≡ true → 1 ≤ count_in points c
-occupied points c e =
-    let f = found (is_source_in c) points e in
-    let p : Point = f.member in
-    let parts = and_parts (is_source p.kind) (holds_test c p.x p.y) f.passes in
-    count_by-listed (λ p. holds_test c p.x p.y) points p f.listed parts.1
 
 module _ (tree : TreeModel) (points : List Point) (capacity : ℕ) (is : IsTreeOf 16 tree points capacity) where
   pub cell_is : (n : ℕ) → n < size tree → IsTreeCell 16 points capacity (square_of tree n)
   cell_is n lt = All-get_or (IsTreeCell 16 points capacity) (squares tree) n (root 16) (omega (arith, length-map tree.cells square)) is.cells_are.in_tree
 
   pub source_from_node : (n : ℕ) → n < size tree → (node_of tree n).has_source ≡ true → has_source points (square_of tree n) ≡ true
-  source_from_node n lt e = has_source-from points (square_of tree n) ((is.nodes_are n lt).source.0 e)
+  source_from_node n lt e = test-from_HasSource points (square_of tree n) ((is.nodes_are n lt).source.0 e)
 
   pub node_from_source : (n : ℕ) → n < size tree → has_source points (square_of tree n) ≡ true → (node_of tree n).has_source ≡ true
-  node_from_source n lt e = (is.nodes_are n lt).source.1 (HasSource-from points (square_of tree n) e)
+  node_from_source n lt e = (is.nodes_are n lt).source.1 (HasSource-from_test points (square_of tree n) e)
 
   -- ---- leaves
   pub row_of_leaf : (n : ℕ) → n < size tree → (node_of tree n).is_leaf ≡ true → (k : ℕ) → multipole_row points capacity (square_of tree n) k ≡ leaf_row points (square_of tree n) k
@@ -94,7 +61,7 @@ module _ (tree : TreeModel) (points : List Point) (capacity : ℕ) (is : IsTreeO
   -- a quarter with a source is in the tree
   pub quarter_listed : (n : ℕ) (q : Square) → IsInner n → IsQuarter (square_of tree n) q → has_source points q ≡ true → Contains (squares tree) q
   quarter_listed n q inner is_quarter e =
-      is.cells_are.whole q (IsTreeCell-from_below 16 points capacity q (is_quarter.of_grid ∙ inner.of_grid) (omega (arith, is_quarter.level)) (omega (arith, is_quarter.level, inner.room)) (occupied points q e)
+      is.cells_are.whole q (IsTreeCell-from_below 16 points capacity q (is_quarter.of_grid ∙ inner.of_grid) (omega (arith, is_quarter.level)) (omega (arith, is_quarter.level, inner.room)) (occupied_from_source points q e)
       (subst (IsSplit points capacity) (sym is_quarter.parent_is) (record { over_cap = inner.over })))
 
   -- and has a greater number

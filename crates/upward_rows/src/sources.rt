@@ -2,7 +2,6 @@
 ghost use Rattle.std.specs.Prelude.{◌≡◌, ℕ, ◌≤◌, ◌<◌, length, All};
 ghost use Rattle.exact_math.specs.Orders.{IsOrder};
 ghost use Rattle.cell_name.specs.Cell.{square};
-ghost use Rattle.points.specs.Points.{is_source as source_kind};
 ghost use Rattle.points.specs.Limits.{InRange, most_weight, total_weight};
 ghost use Rattle.quadtree.specs.Members.{members_of};
 ghost use Rattle.row_recursions.specs.Rows.{row_of};
@@ -11,13 +10,7 @@ ghost use Rattle.tree_field.specs.Field.{leaf_row};
 use cell_name::Cell;
 use complex_box::{CBox, clear};
 use multipole::add_source;
-use points::{Kind, Point};
-
-fn is_source(kind: Kind) -> bool
-    ensures { result ≡ source_kind kind }
-{
-    !matches!(kind, Kind::Target)
-}
+use points::Point;
 
 /// Makes the sum of the moments of the sources in a cell, whose points stand at the positions `members`.
 pub(crate) fn sum_sources<const P: usize>(
@@ -36,7 +29,7 @@ pub(crate) fn sum_sources<const P: usize>(
     clear(row);
     for k in members {
         let p = &points[*k as usize];
-        if is_source(p.kind) {
+        if p.kind.is_source() {
             add_source::<P>(row, cell, p);
         }
     }

@@ -1,24 +1,24 @@
-use Rattle.std.proofs.Common.{◌∙◌, ◌+◌, sym, ap, arith, subst}
+use Rattle.std.proofs.Common.{◌∙◌, ◌+◌, not, sym, ap, arith, subst}
 use Rattle.std.specs.Io.KnownBytes.{Appends}
 use Rattle.quadtree.proofs.Limits.{in_grid}
 use Rattle.tree_field.proofs.EachList.{each_list_has_tree}
 use Rattle.field_report.proofs.FieldTexts.{targets-most, value-in_range, written-exit, written-step, text-source, count-source, count-target}
 use Rattle.field_report.proofs.Pieces.{always-err}
 use Rattle.field_report.proofs.report.write_targets.Goals as goal
-use Rattle.field_report.proofs.report.write_targets.Goals.{then-is_target+in_ok-write_target, else-is_target}
+use Rattle.field_report.proofs.report.write_targets.Goals.{then-not-is_source+in_ok-write_target, else-not-is_source}
 
 pub value-requires : goal.value-requires
 value-requires g c =
     let some = each_list_has_tree 16 c.args.points.now c.args.field.now.cap (omega arith) (in_grid c.args.points.now c.requires.range) in
     let here = value-in_range c.args.mode c.args.points.now c.args.field.now.cap g.row.P some.0 c.args.field.now.values.items c.loop-p.p-index c.loop-p.k _ (omega arith)
-    (sym c.is_target.ensures ∙ c.if-is_target.true) c.loop-p.invariant.count (c.requires.field.over some.0 some.1).values_are in
+    (ap not (sym c.is_source.ensures ∙ c.if-not-is_source.true)) c.loop-p.invariant.count (c.requires.field.over some.0 some.1).values_are in
     (omega arith, omega (arith, here))
 
 pub returns-in_err-write_target-clause-part : goal.returns-in_err-write_target-clause-part
 returns-in_err-write_target-clause-part g c lists are =
     always-err c.from_residual.result _
     (written-exit c.args.mode c.args.points.now c.args.field.now.cap g.row.P lists c.args.field.now.values.items c.loop-p.p-index c.loop-p.k _ c.value.result (omega arith)
-    (sym c.is_target.ensures ∙ c.if-is_target.true) c.loop-p.invariant.count (c.requires.field.over lists are).values_are (c.requires.range _ _ (omega arith)) c.value.ensures.value
+    (ap not (sym c.is_source.ensures ∙ c.if-not-is_source.true)) c.loop-p.invariant.count (c.requires.field.over lists are).values_are (c.requires.range _ _ (omega arith)) c.value.ensures.value
     _ _ _ (c.loop-p.invariant.held lists are) c.in_err-write_target.ensures.part)
 
 pub overflow_add-k : goal.overflow_add-k
@@ -26,9 +26,9 @@ overflow_add-k g c = let few = targets-most c.args.points.now c.loop-p.p-index i
 
 pub loop-p-preserved : goal.loop-p-preserved
 loop-p-preserved g c =
-    elim c.if-is_target.branch [
-      | then-is_target+in_ok-write_target w ↦
-          let has = sym c.is_target.ensures ∙ w.if-is_target.true in
+    elim c.if-not-is_source.branch [
+      | then-not-is_source+in_ok-write_target w ↦
+          let has = ap not (sym c.is_source.ensures ∙ w.if-not-is_source.true) in
           record {
             held = λ lists are. subst (λ s. Appends (g.S.Sink.held c.args.sink.now) (g.S.Sink.held s) _) (sym w.sink-is)
                 (written-step c.args.mode c.args.points.now c.args.field.now.cap g.row.P lists c.args.field.now.values.items c.loop-p.p-index c.loop-p.k _ w.value.result (omega arith)
@@ -37,8 +37,8 @@ loop-p-preserved g c =
             faults = rw w.sink-is (omega (arith, c.loop-p.invariant.faults, w.write_target.ensures.cause.later));
             count = w.k-is ∙ ap (λ n. n + 1) c.loop-p.invariant.count ∙ sym (count-target c.args.points.now c.loop-p.p-index _ (omega arith) has);
           }
-      | else-is_target w ↦
-          let none = sym c.is_target.ensures ∙ w.if-is_target.false in
+      | else-not-is_source w ↦
+          let none = ap not (sym c.is_source.ensures ∙ w.if-not-is_source.false) in
           record {
             held = λ lists are. rw (w.sink-is, text-source c.args.mode c.args.points.now c.args.field.now.cap g.row.P lists c.args.points.now c.loop-p.p-index _ (omega arith) none) (c.loop-p.invariant.held lists are);
             faults = rw w.sink-is c.loop-p.invariant.faults;

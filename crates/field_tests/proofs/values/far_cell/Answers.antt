@@ -1,8 +1,7 @@
 use Rattle.std.proofs.Common.{◌^◌}
 use Rattle.std.proofs.lemmas.List.Elements.{All-replicate}
 use Rattle.complex_box.specs.Box.{BoxWithin}
-use Rattle.complex_box.proofs.Sizes.{box_within}
-use Rattle.row_recursions.proofs.RowSizes.{zero_within}
+use Rattle.complex_box.proofs.Sizes.{box_within, zero_within}
 use Rattle.field_tests.proofs.values.far_cell.Goals as goal
 
 pub put-requires-clause-size : goal.put-requires-clause-size

@@ -1,7 +1,7 @@
 -- The zero box under the operations on boxes.
 use Rattle.std.proofs.Common.{◌≡◌, refl, ap, ◌∙◌, arith, ℤ, pos, negsuc, ◌+ℤ◌, ◌*ℤ◌, ◌≤ℤ◌}
 use Rattle.std.proofs.lemmas.Int.{ints}
-use Rattle.exact_math.specs.Ends.{BoxEnds, point_ends, add_ends, sub_ends, zero_box, add_box, neg_box, scale_ends, scale_box, gscale_box, quot_box, gquot_box}
+use Rattle.exact_math.specs.Ends.{BoxEnds, point_ends, add_ends, sub_ends, zero_box, add_box, scale_ends, scale_box, gscale_box, quot_box, gquot_box}
 use Rattle.exact_math.specs.Gaussian.{Gaussian}
 use Rattle.exact_math.specs.Rounding.{floor_div}
 
@@ -13,9 +13,6 @@ zero_scaled k = λ i. record { re = zero_times k i; im = zero_times k i }
 
 pub zero_gscaled : (g : Gaussian) → gscale_box zero_box g ≡ zero_box
 zero_gscaled g = λ i. record { re = sub_ends (zero_times g.re i) (zero_times g.im i); im = add_ends (zero_times g.im i) (zero_times g.re i) }
-
-pub zero_negated : neg_box zero_box ≡ zero_box
-zero_negated = refl
 
 zero_floor : (d : ℤ) → pos 1 ≤ℤ d → floor_div (pos 0) d ≡ pos 0
 zero_floor (pos n) h = omega (arith, ints)
