@@ -1,5 +1,5 @@
 -- The truncation bound of one source: how far its cut term is from its term of the direct sum.
-use Rattle.std.specs.Prelude.{ℕ, pos, neg_ℤ, ◌*◌, ◌^◌, ◌≤◌, ◌<ℤ◌}
+use Rattle.std.specs.Prelude.{ℕ, pos, neg_ℤ, ◌*◌, ◌*ℤ◌, ◌≤◌, ◌<ℤ◌}
 use Rattle.exact_math.specs.Contains.{Contains}
 use Rattle.exact_math.specs.Ends.{BoxEnds, BoxEndsContain, widen_box}
 use Rattle.exact_math.specs.Gaussian.{Gaussian, zero_gaussian, sub_gaussian, twice}
@@ -15,8 +15,8 @@ use Rattle.truncation.specs.Tails.{pair_tail, single_tail}
 pub record Truncated (exact cut : ComplexRatio) (m n : ℕ) : Type 0 where
   pub exact_fraction : pos 0 <ℤ exact.denominator
   pub cut_fraction : pos 0 <ℤ cut.denominator
-  pub re : Contains (pos (2 ^ 40 * n)) (neg_ℤ (pos m)) (pos m) (re_part (exact -ᶜ cut))
-  pub im : Contains (pos (2 ^ 40 * n)) (neg_ℤ (pos m)) (pos m) (im_part (exact -ᶜ cut))
+  pub re : Contains (unit *ℤ pos n) (neg_ℤ (pos m)) (pos m) (re_part (exact -ᶜ cut))
+  pub im : Contains (unit *ℤ pos n) (neg_ℤ (pos m)) (pos m) (im_part (exact -ᶜ cut))
 
 -- r makes up for a loss of loss/s: a box that contains what is cut, in units of 2^-40, contains the exact sum once it is widened by r
 abbrev pub MakesUp : ℕ → ℕ → ℕ → Type 0
