@@ -21,6 +21,7 @@ pub mod Runs
 pub mod Searches
 pub mod Sorted
 pub mod TreeCells
+pub mod TreeChildren
 pub mod TreeLevels
 pub mod TreeNumbers
 pub mod Whole

@@ -3,7 +3,7 @@
 ghost use Rattle.std.specs.Prelude.{◌≡◌, ◌≤◌, length, map, All, IfErr, IfNone, IfOk, IfSome, OnOk};
 ghost use Rattle.exact_math.specs.Orders.{IsCapacity};
 ghost use Rattle.points.specs.Limits.{WithinLimits, most_points};
-ghost use Rattle.quadtree.specs.Faults.{most_cells, NoneIsCrowded, HasMoreCells, IsFaultOf};
+ghost use Rattle.quadtree.specs.Faults.{most_cells, NoneIsCrowded, HasTree, IsFaultOf};
 ghost use Rattle.quadtree.specs.Splitting.{squares_of, AreRuns, HaveParents, IsCrowdedRun, IsFirstCrowdedRun};
 ghost use Rattle.quadtree.specs.Tree.{AreInGrid, AreTreeCells};
 ghost use Rattle.quadtree.specs.TreeModel.{IsTreeOf};
@@ -106,8 +106,7 @@ impl Tree {
 
         // Every answer but `Memory` is the one that the list and the capacity determine.
         ensures tree { IfOk result (λ tree. IsTreeOf 16 tree points.now.list cap) }
-        ensures none_crowded { OnOk result (NoneIsCrowded 16 points.now.list) }
-        ensures no_more { OnOk result (HasMoreCells 16 points.now.list cap most_cells → ⊥) }
+        ensures has_tree { OnOk result (HasTree 16 points.now.list cap) }
         ensures fault { IfErr result (IsFaultOf 16 points.now.list cap) }
     {
         let list = points.list.points();
