@@ -1,18 +1,15 @@
 -- What is made of a row reads its first P boxes alone.
-use Rattle.std.proofs.Common.{ℕ, zero, suc, ◌-◌, ◌≤◌, ◌<◌, ◌^◌, ◌≡◌, refl, ap, ap₂, subst, sym, arith, pos}
+use Rattle.std.proofs.Common.{ℕ, zero, suc, ◌-◌, ◌≤◌, ◌^◌, ◌≡◌, refl, ap, ap₂, subst, sym, arith, pos}
 use Rattle.exact_math.specs.Ends.{BoxEnds, BoxEndsWithin, add_box, scale_box, times_box, gscale_box, quot_box}
 use Rattle.exact_math.specs.Gaussian.{Gaussian}
-use Rattle.row_recursions.specs.Rows.{sum_boxes, converted, down_round, shifted_down}
+use Rattle.row_recursions.proofs.BoxSums.{sum_boxes-same}
+use Rattle.row_recursions.specs.Rows.{converted, down_round, shifted_down}
 use Rattle.row_recursions.specs.Sizes.{RowWithin}
 use Rattle.tree_rows.specs.FlatRows.{AreSameRows}
 
-sum_same : (n : ℕ) (f g : ℕ → BoxEnds) → ((k : ℕ) → k < n → f k ≡ g k) → sum_boxes n f ≡ sum_boxes n g
-sum_same zero f g h = refl
-sum_same (suc n) f g h = ap₂ add_box (sum_same n f g (λ k l. h k (omega arith))) (h n (omega arith))
-
 pub converted_same : (P : ℕ) (kernel : ℕ → ℕ → BoxEnds) (m n : ℕ → BoxEnds) → AreSameRows P m n → (l : ℕ) → converted P kernel m l ≡ converted P kernel n l
 unfolding converted
-converted_same P kernel m n h l = ap (λ b. quot_box b (pos (2 ^ 40))) (sum_same P (λ k. times_box (kernel k l) (m k)) (λ k. times_box (kernel k l) (n k)) (λ k i. ap (times_box (kernel k l)) (h k i)))
+converted_same P kernel m n h l = ap (λ b. quot_box b (pos (2 ^ 40))) (sum_boxes-same P (λ k. times_box (kernel k l) (m k)) (λ k. times_box (kernel k l) (n k)) (λ k i. ap (times_box (kernel k l)) (h k i)))
 
 down_same : (P : ℕ) (m n : ℕ → BoxEnds) (q : Gaussian) → AreSameRows P m n → (r k : ℕ) → r ≤ P → down_round P m q r k ≡ down_round P n q r k
 unfolding down_round

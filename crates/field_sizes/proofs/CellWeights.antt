@@ -1,17 +1,14 @@
 -- What the sources of a cell weigh, and that its quarters weigh no more together.
-use Rattle.std.proofs.Common.{ℕ, ◌≡◌, ◌≢◌, ◌+◌, ◌*◌, ◌<◌, ◌≤◌, List, Bool, true, false, ◌&&◌, filter, refl, sym, ap, ap₂, ◌∙◌, subst, arith}
+use Rattle.std.proofs.Common.{ℕ, ◌≡◌, ◌≢◌, ◌<◌, ◌≤◌, List, Bool, true, false, ◌&&◌, filter, refl, sym, ap, ap₂, ◌∙◌, subst, arith}
 use Rattle.std.specs.Prelude.{All, AllPairs, sum_by}
 use Rattle.std.proofs.lemmas.Bool.{and_parts, and_from}
 use Rattle.std.proofs.lemmas.List.Elements.{All-weaker, All-from_recursion, filter_agree}
 use Rattle.std.proofs.lemmas.List.Sums.{sum_by-le-sum_by}
-use Rattle.std.proofs.Math.Nat.{mul-le-mul_right}
-use Rattle.exact_math.specs.Gaussian.{Gaussian}
-use Rattle.exact_math.specs.Sizes.{abs_gaussian}
 use Rattle.cell_name.specs.Square.{Square, child, Holds, holds_test}
 use Rattle.cell_name.proofs.Cells.{Holds-parent}
 use Rattle.cell_name.proofs.HoldsTest.{Holds-from_test, test-from_Holds}
 use Rattle.cell_name.proofs.Quarters.{lies_in_one_child}
-use Rattle.points.specs.Points.{is_source, place, pole, dipole}
+use Rattle.points.specs.Points.{is_source}
 use Rattle.points.specs.Limits.{weight64, total_weight}
 use Rattle.points.specs.declared.Point.{Point}
 use Rattle.quadtree.specs.Splitting.{quarters}

@@ -14,6 +14,7 @@ use Rattle.points.specs.declared.Mode.{Mode}
 use Rattle.points.specs.declared.Point.{Point}
 use Rattle.quadtree.proofs.Limits.{in_grid}
 use Rattle.quadtree.specs.Tree.{AreInGrid}
+use Rattle.row_recursions.proofs.RowSizes.{order_least}
 use Rattle.tree_field.proofs.Whole.{field_contains}
 use Rattle.tree_field.proofs.Work.{translations_are_few}
 use Rattle.tree_field.specs.Field.{targets, target_box}
@@ -22,12 +23,6 @@ use Rattle.fmm_program.proofs.OneListEntry.{one_list_entry}
 use Rattle.fmm_program.specs.Answers.{IsCertified, IsReported, LineContains, SolveEnds}
 use Rattle.fmm_program.specs.declared.status.Status.{Status}
 use Rattle.fmm_program.specs.declared.status.Status.TheVariants.{Done}
-
-at_least_two : (order : ℕ) → IsOrder order → 2 ≤ order
-at_least_two order (inl e) = omega arith
-at_least_two order (inr (inl e)) = omega arith
-at_least_two order (inr (inr (inl e))) = omega arith
-at_least_two order (inr (inr (inr e))) = omega arith
 
 lines_contain : (mode : Mode) (points : List Point) (cap P : ℕ) (lists : TreeLists) (some : List Point)
     → AllByRecursion (λ t. BoxEndsContain (pos (2 ^ 40)) (target_box points cap P lists 16 (place t)) (direct_sum (place t) points)) some
@@ -39,7 +34,7 @@ lines_contain mode points cap P lists (t ∷ some) h =
 pub certified : (order cap : ℕ) (input out : List ℕ) → IsOrder order → IsReported order cap input out → IsCertified order cap input out
 certified order cap input out is_order s =
     let inside : AreInGrid 16 s.points = in_grid s.points s.spelled.limits.range in
-    let boxes = field_contains 16 s.points cap order s.lists (omega arith) (at_least_two order is_order) inside s.lists_are in
+    let boxes = field_contains 16 s.points cap order s.lists (omega arith) (order_least order is_order) inside s.lists_are in
     record {
       mode = s.mode;
       points = s.points;

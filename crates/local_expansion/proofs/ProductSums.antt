@@ -7,15 +7,12 @@ use Rattle.complex_box.proofs.Sizes.{box_wider, add_box_within, times_box_within
 use Rattle.kernel_table.specs.Kernel.{kernel_entry}
 use Rattle.row_recursions.specs.Rows.{sum_boxes, converted}
 use Rattle.row_recursions.specs.Sizes.{RowWithin}
+use Rattle.row_recursions.proofs.BoxSums.{sum_boxes-same}
 use Rattle.row_recursions.proofs.Equations.{converted-is}
 use Rattle.row_recursions.proofs.RowSizes.{zero_within}
 
 pub sum_next : (f : ℕ → BoxEnds) (k : ℕ) (s t : BoxEnds) → s ≡ sum_boxes k f → t ≡ add_box s (f k) → t ≡ sum_boxes (k + 1) f
 sum_next f k s t e h = h ∙ ap (λ b. add_box b (f k)) e ∙ ap (λ n. sum_boxes n f) {x = suc k} {y = k + 1} (omega arith)
-
-sum_same : (P : ℕ) (f g : ℕ → BoxEnds) → ((k : ℕ) → k < P → f k ≡ g k) → sum_boxes P f ≡ sum_boxes P g
-sum_same zero f g h = refl
-sum_same (suc P) f g h = ap₂ add_box (sum_same P f g (λ k l. h k (omega (arith, l)))) (h P (omega arith))
 
 -- an entry is at most 2^39 + 1 in size, and a box of the row 2^80
 module _ (P : ℕ) (column row : ℕ → BoxEnds) (few : P ≤ 32) (narrow : RowWithin P (2 ^ 39 + 1) column) (bounded : RowWithin P (2 ^ 80) row) where
@@ -42,4 +39,4 @@ module _ (P : ℕ) (column row : ℕ → BoxEnds) (few : P ≤ 32) (narrow : Row
 -- by the entries of the kernel
 pub by_kernel : (P : ℕ) (e : Gaussian) (l : ℕ) (column row : ℕ → BoxEnds) → ((k : ℕ) → k < P → column k ≡ kernel_entry e k l)
     → quot_box (sum_boxes P (λ k. times_box (column k) (row k))) (pos (2 ^ 40)) ≡ converted P (kernel_entry e) row l
-by_kernel P e l column row h = ap (λ b. quot_box b (pos (2 ^ 40))) (sum_same P _ _ (λ k i. ap (λ b. times_box b (row k)) (h k i))) ∙ sym (converted-is P (kernel_entry e) row l)
+by_kernel P e l column row h = ap (λ b. quot_box b (pos (2 ^ 40))) (sum_boxes-same P _ _ (λ k i. ap (λ b. times_box b (row k)) (h k i))) ∙ sym (converted-is P (kernel_entry e) row l)

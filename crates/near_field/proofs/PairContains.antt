@@ -17,7 +17,7 @@ use Rattle.near_field.specs.DirectSum.{acts_on}
 use Rattle.near_field.specs.Pair.{is_at, strength_term, term_of, outward, pair_box}
 
 -- ---- the denominators are above 0
-square_nonneg : (x : ℤ) → pos 0 ≤ℤ (x *ℤ x)
+pub square_nonneg : (x : ℤ) → pos 0 ≤ℤ (x *ℤ x)
 square_nonneg (pos n) = *-nonneg (pos n) (pos n) (omega (arith, ints)) (omega (arith, ints))
 square_nonneg (negsuc n) = omega (arith, ints)
 

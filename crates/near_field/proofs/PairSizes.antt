@@ -22,7 +22,7 @@ use Rattle.points.specs.declared.Strength.{Strength}
 use Rattle.points.specs.declared.Strength.TheVariants.{Pole, Dipole, Nothing}
 use Rattle.near_field.specs.Pair.{is_at, strength_term, term_of, outward, pair_box}
 use Rattle.near_field.proofs.TermSizes.{pole_re, dipole_re, squared}
-use Rattle.near_field.proofs.PairContains.{distance_positive, term_denominator}
+use Rattle.near_field.proofs.PairContains.{square_nonneg, distance_positive, term_denominator}
 
 -- z is at most m n in size
 pub record Bounded (m : ℕ) (z n : ℤ) : Type 0 where
@@ -59,10 +59,6 @@ bounded-add l m y z n v w =
     split_neg a b n = ring3 int_ring a b n (λ a b n. search int_quotes depth 9) tt
 
 -- ---- the parts of a distance and of its square, by its norm
-square_nonneg : (x : ℤ) → pos 0 ≤ℤ (x *ℤ x)
-square_nonneg (pos n) = *-nonneg (pos n) (pos n) (omega (arith, ints)) (omega (arith, ints))
-square_nonneg (negsuc n) = omega (arith, ints)
-
 size_square : (x : ℤ) → (neg_ℤ (x *ℤ x) ≤ℤ x) × (x ≤ℤ (x *ℤ x))
 size_square (pos zero) = (omega (arith, ints), omega (arith, ints))
 size_square (pos (suc a)) = (omega (arith, ints), omega (arith, ints))

@@ -1,7 +1,8 @@
 -- What multiples, sums and quotients of boxes hold, for complex numbers with rational parts.
 use Rattle.exact_math.proofs.Common.{◌≡◌, sym, ap, subst, ◌∙◌, ℕ, zero, suc, arith, ints, ℤ, pos, neg_ℤ, ◌*ℤ◌, ◌<ℤ◌, quotes, combine, ring2, ring7, rational_ring, of_int, of_int-mul, ◌*ℚ◌, neg_ℚ, sum_below, ℂ, complex_rationals, of_int_ℂ, ◌*ℂ◌, neg_ℂ, real, parts-int}
+use Rattle.std.proofs.Common.{ap₂, refl}
 use Prim.Native.Nat.{◌<◌, ◌^◌}
-use Rattle.exact_math.specs.Ends.{BoxEnds, scale_box}
+use Rattle.exact_math.specs.Ends.{BoxEnds, add_box, scale_box}
 use Rattle.exact_math.specs.Gaussian.{Gaussian, gaussian, conj, norm_gaussian}
 use Rattle.exact_math.proofs.BoxEnclosures.{EnclosesBox, EnclosesBox-zero, EnclosesBox-add, EnclosesBox-gquot, whole_times}
 use Rattle.exact_math.proofs.ComplexRationals.{times_conjugate}
@@ -23,6 +24,11 @@ EnclosesBox-scale k {b} {z} h = rw (whole_times k z) (record { re = Encloses-sca
 pub EnclosesBox-sum : (n : ℕ) (f : ℕ → BoxEnds) (g : ℕ → ℂ) → ((k : ℕ) → k < n → EnclosesBox (f k) (g k)) → EnclosesBox (sum_boxes n f) (sum_below complex_rationals n g)
 EnclosesBox-sum zero f g h = EnclosesBox-zero
 EnclosesBox-sum (suc n) f g h = EnclosesBox-add (EnclosesBox-sum n f g (λ k l. h k (omega arith))) (h n (omega arith))
+
+-- a sum reads its first n boxes alone
+pub sum_boxes-same : (n : ℕ) (f g : ℕ → BoxEnds) → ((k : ℕ) → k < n → f k ≡ g k) → sum_boxes n f ≡ sum_boxes n g
+sum_boxes-same zero f g h = refl
+sum_boxes-same (suc n) f g h = ap₂ add_box (sum_boxes-same n f g (λ k l. h k (omega arith))) (h n (omega arith))
 
 -- the value of n g
 pub value-multiple : (n : ℤ) (g : Gaussian) → value (gaussian (n *ℤ g.re) (n *ℤ g.im)) ≡ of_int_ℂ n *ℂ value g

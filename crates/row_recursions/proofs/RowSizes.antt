@@ -246,7 +246,10 @@ taken_within P m n old part new adds v w k h =
       im = record { lo = left_within m n (ap (λ (x : BoxEnds). x.im.lo) e) a.im.lo b.im.lo; hi = left_within m n (ap (λ (x : BoxEnds). x.im.hi) e) a.im.hi b.im.hi };
     }
 
--- the orders are at most 24
+-- the orders are at least 2, and at most 24
+pub order_least : (P : ℕ) → IsOrder P → 2 ≤ P
+order_least P h = ⊎_elim (λ e. omega arith) (λ l. ⊎_elim (λ e. omega arith) (λ k. ⊎_elim (λ e. omega arith) (λ e. omega arith) k) l) h
+
 pub order_small : (P : ℕ) → IsOrder P → P ≤ 24
 order_small P h = ⊎_elim (λ e. omega arith) (λ l. ⊎_elim (λ e. omega arith) (λ k. ⊎_elim (λ e. omega arith) (λ e. omega arith) k) l) h
 

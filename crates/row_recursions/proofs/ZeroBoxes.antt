@@ -14,9 +14,6 @@ zero_scaled k = λ i. record { re = zero_times k i; im = zero_times k i }
 pub zero_gscaled : (g : Gaussian) → gscale_box zero_box g ≡ zero_box
 zero_gscaled g = λ i. record { re = sub_ends (zero_times g.re i) (zero_times g.im i); im = add_ends (zero_times g.im i) (zero_times g.re i) }
 
-pub zero_negated : neg_box zero_box ≡ zero_box
-zero_negated = refl
-
 zero_floor : (d : ℤ) → pos 1 ≤ℤ d → floor_div (pos 0) d ≡ pos 0
 zero_floor (pos n) h = omega (arith, ints)
 zero_floor (negsuc n) h = absurd (omega (arith, ints))

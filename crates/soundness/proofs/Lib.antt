@@ -14,4 +14,3 @@ pub mod Places
 pub mod Premises
 pub mod Targets
 pub mod Terms
-pub mod ZeroRows

@@ -20,16 +20,11 @@ use Rattle.row_recursions.proofs.BoxSums.{units}
 use Rattle.truncation.specs.Entries.{Source, weight, sum_weights, exact_term}
 use Rattle.truncation.specs.Tails.{ceiling}
 use Rattle.truncation.specs.Truncation.{Truncated}
+use Rattle.truncation.proofs.Counting.{neg_floor}
 use Rattle.truncation.proofs.Tails.{ceiling_is}
 use Rattle.soundness.specs.Accounts.{LeafSource}
 use Rattle.soundness.proofs.Boxes.{slack, IsNear}
 use Rattle.soundness.proofs.Terms.{source_in, sources_in, term_in_units, one_positive, exact_sum}
-
-neg_floor : (m n : ℕ) → floor_div (neg_ℤ (pos m)) (pos n) ≡ neg_ℤ (ceil_div (pos m) (pos n))
-neg_floor m n = twice_negated (floor_div (neg_ℤ (pos m)) (pos n))
-  where
-    twice_negated : (z : ℤ) → z ≡ neg_ℤ (neg_ℤ z)
-    twice_negated z = ring1 int_ring z (λ z. search int_quotes depth 9) tt
 
 -- a bound over s, rounded up, in units
 pub cut_off : (exact cut : ComplexRatio) (m s : ℕ) → 1 ≤ s → Truncated exact cut m s → IsNear (ceiling m s) (units *ℂ complex_value exact) (units *ℂ complex_value cut)

@@ -23,6 +23,7 @@ use Rattle.quadtree.specs.TreeModel.{TreeModel, IsTreeOf, IsLeafOf, size, square
 use Rattle.row_recursions.specs.Rows.{multipole_value}
 use Rattle.soundness.specs.Computed.{total_box}
 use Rattle.soundness.specs.Squares.{offset}
+use Rattle.row_recursions.proofs.RowSizes.{order_least}
 use Rattle.tree_field.specs.Field.{sources_in, multipole_row, local_row, single_radius, multipole_values_at, pairs_at, box_in, target_box, targets}
 use Rattle.tree_field.specs.Lists.{TreeLists}
 use Rattle.tree_field.proofs.Program.{lists_of_tree, nodes_of_tree, leaves_of_tree}
@@ -76,9 +77,6 @@ module _ (points : List Point) (cap P : ℕ) (tree : TreeModel) (lists : EntryLi
       (ap₂ (λ r n. r +ℤ pos n) rows.radius_is lost_same)
 
 -- ---- the box of a point at a position
-order_least : (P : ℕ) → IsOrder P → 2 ≤ P
-order_least P h = ⊎_elim (λ e. omega arith) (λ l. ⊎_elim (λ e. omega arith) (λ k. ⊎_elim (λ e. omega arith) (λ e. omega arith) k) l) h
-
 pub leaf_at_position : (tree : TreeModel) (points : List Point) (cap : ℕ) → IsTreeOf 16 tree points cap → (k : ℕ) (d : Point) → k < length points → IsLeafOf 16 tree points cap (leaf_of tree k) (get_or points k d)
 leaf_at_position tree points cap h k d lt = h.leaves_are k (get_or points k d) (slice_get-get_or points k d lt)
 

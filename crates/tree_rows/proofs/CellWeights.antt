@@ -1,18 +1,14 @@
 -- What the members of a cell weigh together.
-use Rattle.std.proofs.Common.{ℕ, ◌≡◌, ◌+◌, ◌*◌, ◌^◌, ◌≤◌, ◌<◌, ℤ, pos, ◌+ℤ◌, SFits, to_z, of_z, List, [], ◌∷◌, length, get_or, map, take, Bool, true, false, cond, not, filter, refl, sym, ap, ◌∙◌, subst, arith}
+use Rattle.std.proofs.Common.{ℕ, ◌≡◌, ◌+◌, ◌^◌, ◌≤◌, ◌<◌, ℤ, pos, ◌+ℤ◌, SFits, to_z, of_z, List, [], ◌∷◌, length, get_or, map, take, Bool, true, false, cond, not, filter, refl, sym, ap, ◌∙◌, subst, arith}
 use Rattle.std.specs.Int.{w128}
 use Rattle.std.specs.Prelude.{Contains, sum_by}
 use Rattle.std.specs.List.{range_with_len}
-use Rattle.std.proofs.lemmas.Bool.{false≢true}
 use Rattle.std.proofs.lemmas.Int.{ints}
 use Rattle.std.proofs.lemmas.List.Elements.{All-weaker, Contains-get_or}
 use Rattle.std.proofs.lemmas.List.Filters.{sum_by-filter_both}
 use Rattle.std.proofs.lemmas.List.Sums.{sum_by-cons, sum_by-le-sum_by, sum_by_more_le}
-use Rattle.std.proofs.Math.Nat.{mul-le-mul_right}
-use Rattle.exact_math.specs.Gaussian.{Gaussian}
-use Rattle.exact_math.specs.Sizes.{abs_gaussian}
 use Rattle.cell_name.specs.Square.{Square}
-use Rattle.points.specs.Points.{is_source, place, pole, dipole}
+use Rattle.points.specs.Points.{is_source}
 use Rattle.points.specs.Limits.{InRange, weight64, total_weight}
 use Rattle.points.specs.declared.Kind.TheVariants.{Charge}
 use Rattle.points.specs.declared.Point.{Point}
