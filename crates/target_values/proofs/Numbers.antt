@@ -46,9 +46,6 @@ few_below n (x ∷ xs) below up =
         let f = up k (omega arith) in
         omega (arith, next, f, h)
 
-pub in_grid : (points : List Point) → All InRange points → AreInGrid 16 points
-in_grid points range k d lt = grid_of _ _ (range k d lt).grid
-
 -- ---- a list of entries, as it is read
 module _ (tree : TreeModel) (lists : EntryLists) (points : List Point) (cap : ℕ) (inside : AreInGrid 16 points) (h : IsTreeOf 16 tree points cap) (are : AreLists tree lists) (letter : Letter) (b : ℕ) (lt : b < size tree)
     (items : List ℕ) (is : items ≡ row (lists_of lists letter) b) where

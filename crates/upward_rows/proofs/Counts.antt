@@ -25,9 +25,6 @@ use Rattle.tree_field.proofs.Numbers.{number, number_below, cell_of_number, numb
 use Rattle.upward_rows.specs.Upward.{shifts_into, is_shifted}
 use Rattle.upward_rows.proofs.Trees.{inner_is, quarter_listed}
 
-pub in_grid : (points : List Point) → All InRange points → AreInGrid 16 points
-in_grid points h = All-weaker InRange (λ p. IsInGrid 16 p.x p.y) (λ p r. grid_of p.x p.y r.grid) points h
-
 -- the quarters whose rows are shifted into that of the cell n
 abbrev shifted_quarters : List Point → TreeModel → ℕ → List Square
 shifted_quarters points tree n = cond (node_of tree n).is_leaf [] (filter (has_source points) (quarters (square_of tree n)))
@@ -35,13 +32,6 @@ shifted_quarters points tree n = cond (node_of tree n).is_leaf [] (filter (has_s
 as_many : (b : Bool) (p : Square → Bool) (xs : List Square) → cond {A = ℕ} b 0 (count_by p xs) ≡ length (cond b [] (filter p xs))
 as_many true p xs = refl
 as_many false p xs = sym (length-filter p xs)
-
-at_most : (b : Bool) (p : Square → Bool) (xs : List Square) → cond {A = ℕ} b 0 (count_by p xs) ≤ length xs
-at_most true p xs = omega arith
-at_most false p xs = count_by-le-length p xs
-
-pub shifts_few : (points : List Point) (tree : TreeModel) (n : ℕ) → shifts_into points tree n ≤ 4
-shifts_few points tree n = at_most (node_of tree n).is_leaf (has_source points) (quarters (square_of tree n))
 
 shifts_are : (points : List Point) (tree : TreeModel) (xs : List ℕ) → sum_by (shifts_into points tree) xs ≡ length (flat_map (shifted_quarters points tree) xs)
 shifts_are points tree [] = refl
