@@ -1,9 +1,8 @@
 -- The value of a target from the rows of the field is the field's box.
-use Rattle.std.proofs.Common.{◌≡◌, ◌∙◌, ◌*◌, ◌^◌, ◌<◌, ◌≤◌, sym, ap, ap₂, arith, ℕ, ℤ, pos, ◌+ℤ◌, unsigned_abs, List, length, map, get_or, lit<}
+use Rattle.std.proofs.Common.{◌≡◌, ◌∙◌, ◌*◌, ◌^◌, ◌<◌, sym, ap, ap₂, ℕ, ℤ, pos, ◌+ℤ◌, unsigned_abs, List, length, map, get_or, lit<}
 use Rattle.std.specs.Prelude.{All, sum_by}
 use Rattle.std.proofs.lemmas.List.Elements.{Contains-get_or}
 use Rattle.std.proofs.lemmas.Option.{slice_get-get_or}
-use mathlib.Core.Logic.{⊎_elim}
 use Rattle.exact_math.specs.Ends.{BoxEnds, BoxEndsContain, add_box, widen_box}
 use Rattle.exact_math.specs.Gaussian.{Gaussian}
 use Rattle.exact_math.specs.Orders.{IsOrder}
