@@ -15,7 +15,6 @@ use Rattle.quadtree.proofs.Distinct.{Contains-filter, Contains-into_filter}
 use Rattle.tree_field.specs.Program.{source_children}
 use Rattle.quadtree.proofs.Lists.{Contains-range, range_below}
 use Rattle.tree_rows.specs.Trees.{IsTreeOfPoints}
-use Rattle.quadtree.proofs.Limits.{in_grid}
 use Rattle.upward_rows.proofs.Trees.{quarter_behind}
 
 -- a cell with a greater number
