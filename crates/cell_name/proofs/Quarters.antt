@@ -110,13 +110,6 @@ half_number-at_most : (b : Bool) → half_number b ≤ 1
 half_number-at_most true = omega arith
 half_number-at_most false = omega arith
 
--- a quarter of a cell has it as its parent
-pub parent-quarter : (cell whole : Cell) (q : Quadrant) → square cell ≡ quarter (square whole) q → parent (square cell) ≡ square whole
-parent-quarter cell whole q e = ap parent e ∙ parent-child (square whole) (half_number q.right) (half_number q.top) (half_number-at_most q.right) (half_number-at_most q.top)
-
-pub level-quarter : (cell whole : Cell) (q : Quadrant) → square cell ≡ quarter (square whole) q → cell.level ≡ whole.level + 1
-level-quarter cell whole q e = ap (λ (c : Square). c.level) e
-
 -- the column's and the row's parity tell which quarter of its parent a cell is
 pub right_of_parent : (c : Square) (q : Quadrant) → quarter (parent c) q ≡ c → half_number q.right ≡ c.i % 2
 right_of_parent c q e = let i : 2 * (c.i / 2) + half_number q.right ≡ c.i = ap (λ (s : Square). s.i) e in omega (arith, half_number-at_most q.right)

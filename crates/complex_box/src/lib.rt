@@ -1,10 +1,11 @@
 //! Boxes: complex intervals of whole ends, rows of them, sums of their products, and the counts of work.
 //!
 //! A box counts units of its caller's choice. One rule holds for every call but `take`, which undoes `add`: whatever
-//! complex fractions the arguments contain, the result contains the exact result.
+//! complex fractions the arguments contain, the result contains the exact result in the same unit, and a product in the
+//! product of the units.
 #![tactic(auto)]
 
-ghost use Rattle.std.specs.Prelude.{◌≡◌, ℕ, ◌^◌, ◌<◌, pos, ◌≤ℤ◌, IsTrue, ◌↔◌};
+ghost use Rattle.std.specs.Prelude.{◌≡◌, ℕ, ◌^◌, ◌<◌, ℤ, pos, ◌*ℤ◌, ◌≤ℤ◌, IsTrue, ◌↔◌};
 ghost use Rattle.exact_math.specs.Ends.{BoxEndsWithin, BoxEndsContain, BoxEndsInside, EndsWithin, zero_box, point_box, add_box, take_box, neg_box, sub_box, scale_box, times_box, gscale_box, quot_box, gquot_box, widen_box};
 ghost use Rattle.exact_math.specs.Gaussian.{gaussian};
 ghost use Rattle.exact_math.specs.Ratio.{ComplexRatio, whole_complex, zero_complex, neg_complex, over_complex, ◌+ᶜ◌, ◌-ᶜ◌, ◌*ᶜ◌};
@@ -45,7 +46,7 @@ impl CBox {
     /// The box that holds 0 alone.
     pub fn zero() -> CBox
         ensures ends { box_ends result ≡ zero_box }
-        ensures contains { BoxContains (pos 1) result zero_complex }
+        ensures contains { (u : ℤ) → BoxContains u result zero_complex }
     {
         CBox::point(0, 0)
     }
@@ -68,7 +69,7 @@ impl CBox {
     pub fn add(self, o: CBox) -> CBox
         requires { BoxEndsWithin (2 ^ 126) (add_box (box_ends self) (box_ends o)) }
         ensures ends { box_ends result ≡ add_box (box_ends self) (box_ends o) }
-        ensures contains { (z w : ComplexRatio) → BoxContains (pos 1) self z → BoxContains (pos 1) o w → BoxContains (pos 1) result (z +ᶜ w) }
+        ensures contains { (u : ℤ) (z w : ComplexRatio) → BoxContains u self z → BoxContains u o w → BoxContains u result (z +ᶜ w) }
     {
         CBox {
             re: self.re.add(o.re),
@@ -95,7 +96,7 @@ impl CBox {
     pub fn sub(self, o: CBox) -> CBox
         requires { BoxEndsWithin (2 ^ 126) (sub_box (box_ends self) (box_ends o)) }
         ensures ends { box_ends result ≡ sub_box (box_ends self) (box_ends o) }
-        ensures contains { (z w : ComplexRatio) → BoxContains (pos 1) self z → BoxContains (pos 1) o w → BoxContains (pos 1) result (z -ᶜ w) }
+        ensures contains { (u : ℤ) (z w : ComplexRatio) → BoxContains u self z → BoxContains u o w → BoxContains u result (z -ᶜ w) }
     {
         CBox {
             re: self.re.sub(o.re),
@@ -107,7 +108,7 @@ impl CBox {
     #[inline]
     pub fn neg(self) -> CBox
         ensures ends { box_ends result ≡ neg_box (box_ends self) }
-        ensures contains { (z : ComplexRatio) → BoxContains (pos 1) self z → BoxContains (pos 1) result (neg_complex z) }
+        ensures contains { (u : ℤ) (z : ComplexRatio) → BoxContains u self z → BoxContains u result (neg_complex z) }
     {
         CBox {
             re: self.re.neg(),
@@ -120,7 +121,7 @@ impl CBox {
     pub fn scale(self, k: i128) -> CBox
         requires { BoxEndsWithin (2 ^ 126) (scale_box (box_ends self) k) }
         ensures ends { box_ends result ≡ scale_box (box_ends self) k }
-        ensures contains { (z : ComplexRatio) → BoxContains (pos 1) self z → BoxContains (pos 1) result (whole_complex (gaussian k (pos 0)) *ᶜ z) }
+        ensures contains { (u : ℤ) (z : ComplexRatio) → BoxContains u self z → BoxContains u result (whole_complex (gaussian k (pos 0)) *ᶜ z) }
     {
         CBox {
             re: self.re.scale(k),
@@ -135,7 +136,7 @@ impl CBox {
         requires radius { pos 0 ≤ℤ r }
         requires fits { BoxEndsWithin (2 ^ 126) (widen_box (box_ends self) r) }
         ensures ends { box_ends result ≡ widen_box (box_ends self) r }
-        ensures contains { (z w : ComplexRatio) → BoxContains (pos 1) self z → BoxEndsContain (pos 1) (around r) (w -ᶜ z) → BoxContains (pos 1) result w }
+        ensures contains { (u : ℤ) (z w : ComplexRatio) → BoxContains u self z → BoxEndsContain u (around r) (w -ᶜ z) → BoxContains u result w }
     {
         CBox {
             re: self.re.widen(r),
@@ -148,7 +149,7 @@ impl CBox {
     pub fn quot(self, n: i128) -> CBox
         requires { pos 1 ≤ℤ n }
         ensures ends { box_ends result ≡ quot_box (box_ends self) n }
-        ensures contains { (z : ComplexRatio) → BoxContains (pos 1) self z → BoxContains (pos 1) result (over_complex z n) }
+        ensures contains { (u : ℤ) (z : ComplexRatio) → BoxContains u self z → BoxContains u result (over_complex z n) }
     {
         CBox {
             re: self.re.quot(n),
@@ -161,7 +162,7 @@ impl CBox {
     pub fn quot_shift(self, k: u32) -> CBox
         requires { k < 127 }
         ensures ends { box_ends result ≡ quot_box (box_ends self) (pos (2 ^ k)) }
-        ensures contains { (z : ComplexRatio) → BoxContains (pos 1) self z → BoxContains (pos 1) result (over_complex z (pos (2 ^ k))) }
+        ensures contains { (u : ℤ) (z : ComplexRatio) → BoxContains u self z → BoxContains u result (over_complex z (pos (2 ^ k))) }
     {
         CBox {
             re: self.re.quot_shift(k),
@@ -175,7 +176,7 @@ impl CBox {
     pub fn times(self, o: CBox) -> CBox
         requires { TimesFits (box_ends self) (box_ends o) }
         ensures ends { box_ends result ≡ times_box (box_ends self) (box_ends o) }
-        ensures contains { (z w : ComplexRatio) → BoxContains (pos 1) self z → BoxContains (pos 1) o w → BoxContains (pos 1) result (z *ᶜ w) }
+        ensures contains { (u v : ℤ) (z w : ComplexRatio) → BoxContains u self z → BoxContains v o w → BoxContains (u *ℤ v) result (z *ᶜ w) }
     {
         CBox {
             re: self.re.times(o.re).sub(self.im.times(o.im)),
@@ -189,7 +190,7 @@ impl CBox {
     pub fn gscale(self, g: Gauss) -> CBox
         requires { GscaleFits (box_ends self) (number g) }
         ensures ends { box_ends result ≡ gscale_box (box_ends self) (number g) }
-        ensures contains { (z : ComplexRatio) → BoxContains (pos 1) self z → BoxContains (pos 1) result (whole_complex (number g) *ᶜ z) }
+        ensures contains { (u : ℤ) (z : ComplexRatio) → BoxContains u self z → BoxContains u result (whole_complex (number g) *ᶜ z) }
     {
         let re = i128::from(g.re);
         let im = i128::from(g.im);
@@ -206,7 +207,7 @@ impl CBox {
         requires fits { GscaleFits (box_ends self) (number g) }
         requires divisor { pos 1 ≤ℤ n }
         ensures ends { box_ends result ≡ gquot_box (box_ends self) (number g) n }
-        ensures contains { (z : ComplexRatio) → BoxContains (pos 1) self z → BoxContains (pos 1) result (over_complex (whole_complex (number g) *ᶜ z) n) }
+        ensures contains { (u : ℤ) (z : ComplexRatio) → BoxContains u self z → BoxContains u result (over_complex (whole_complex (number g) *ᶜ z) n) }
     {
         self.gscale(g).quot(n)
     }
@@ -215,7 +216,7 @@ impl CBox {
     #[inline]
     pub fn inside(self, outer: CBox) -> bool
         ensures exactly { IsTrue result ↔ BoxEndsInside (box_ends self) (box_ends outer) }
-        ensures contains { IsTrue result → (z : ComplexRatio) → BoxContains (pos 1) self z → BoxContains (pos 1) outer z }
+        ensures contains { IsTrue result → (u : ℤ) (z : ComplexRatio) → BoxContains u self z → BoxContains u outer z }
     {
         self.re.inside(outer.re) && self.im.inside(outer.im)
     }

@@ -9,7 +9,6 @@ use Rattle.std.proofs.lemmas.Map.Keys.{sorted_from_strictly_increasing}
 use Rattle.std.proofs.lemmas.Map.Views.{length-le_from_below}
 use Rattle.std.proofs.lemmas.Option.{get_or_from_slice_get}
 use Rattle.cell_name.proofs.HoldsTest.{Holds-from_test}
-use Rattle.cell_name.specs.Square.{Square, Touches}
 use Rattle.cell_lists.proofs.TreeNumbers.{tree_cell_at}
 use Rattle.cell_lists.specs.Entries.{IsEntry, IsVPair, IsWPair}
 use Rattle.cell_lists.specs.Lists.{IsListOf, lists_of}
@@ -17,6 +16,7 @@ use Rattle.cell_lists.specs.Row.{row}
 use Rattle.cell_lists.specs.declared.entry_lists.EntryLists.{EntryLists}
 use Rattle.letters.specs.declared.Letter.{Letter}
 use Rattle.letters.specs.declared.Letter.TheVariants.{V, X}
+use Rattle.cell_name.proofs.Cells.{Touches-sym}
 use Rattle.points.specs.Limits.{InRange}
 use Rattle.points.specs.declared.Point.{Point}
 use Rattle.quadtree.proofs.Distinct.{Contains-filter}
@@ -27,9 +27,6 @@ use Rattle.row_recursions.proofs.Geometry.{pairs_of_cells, far_places}
 use Rattle.quadtree.proofs.Lists.{range_below}
 use Rattle.downward_rows.specs.Entries.{IsPairAt, IsFarPosition, IsFarCell, HasFarEntries}
 use Rattle.tree_rows.specs.Trees.{IsTreeWithLists}
-
-other_way : (b c : Square) → Touches b c → Touches c b
-other_way b c h = record { west = h.east; east = h.west; south = h.north; north = h.south }
 
 module _ (tree : TreeModel) (lists : EntryLists) (points : List Point) (has : IsTreeWithLists points tree lists) (n : ℕ) (lt : n < size tree) where
   the_list : (letter : Letter) → IsListOf tree points has.tree_is.cap letter n (row (lists_of lists letter) n)
@@ -57,7 +54,7 @@ module _ (tree : TreeModel) (lists : EntryLists) (points : List Point) (has : Is
     inside = inside;
     range = λ p is. subst InRange (get_or_from_slice_get points k p p is) (has.tree_is.range k p inside);
     far = λ p is. far_places (square_of tree c) (square_of tree n) p.x p.y (grid_is c h ∙ sym (grid_is n lt)) (omega (arith, e.comes_apart.deeper)) (omega (arith, grid_is n lt, level_is n lt))
-        (λ t. e.comes_apart.apart (other_way (square_of tree c) (square_of tree n) t))
+        (λ t. e.comes_apart.apart (Touches-sym (square_of tree c) (square_of tree n) t))
         (Holds-from_test (square_of tree c) p.x p.y (sym (ap (holds_point (square_of tree c)) is) ∙ held));
   }
     where

@@ -15,7 +15,7 @@ use Rattle.letters.specs.declared.Letter.TheVariants.{V, X}
 use Rattle.complex_box.specs.declared.CBox.{CBox}
 use Rattle.kernel_table.specs.Kernel.{kernel_entry}
 use Rattle.local_expansion.proofs.FarSources.{no_coefficients}
-use Rattle.points.specs.Points.{is_source, place, pole, dipole}
+use Rattle.points.specs.Points.{is_source, place, strength}
 use Rattle.points.specs.declared.Strength.{Strength}
 use Rattle.points.specs.declared.Strength.TheVariants.{Pole, Dipole, Nothing}
 use Rattle.points.specs.Strength.{pole_part, dipole_part, acts}

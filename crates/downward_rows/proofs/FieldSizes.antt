@@ -24,7 +24,7 @@ use Rattle.tree_rows.specs.FlatRows.{row_at}
 use Rattle.tree_rows.specs.Trees.{IsTreeOfPoints}
 use Rattle.downward_rows.specs.Radii.{IsRadiusOf}
 use Rattle.downward_rows.proofs.SameRows.{within_same}
-use Rattle.downward_rows.proofs.Totals.{row_wider}
+use Rattle.field_sizes.proofs.RowTotals.{wider}
 
 module _ (points : List Point) (tree : TreeModel) (has : IsTreeOfPoints points tree) where
   pub some_field : (field : TreeLists) × IsFieldOf points has.cap tree field
@@ -40,7 +40,7 @@ module _ (points : List Point) (tree : TreeModel) (has : IsTreeOfPoints points t
     within = rows_within points has.cap P field order limited (square_of tree n) (tree_cell_at tree points has.cap n has.is_tree lt)
 
     pub multipole_small : (rows : List CBox) → AreMultipoleRows points has.cap P tree rows → RowWithin P (2 ^ 80) (row_at P rows n)
-    multipole_small rows are = within_same P (2 ^ 80) (row_at P rows n) (multipole_row points has.cap (square_of tree n)) (are.each n lt) (row_wider P (2 ^ 74) (2 ^ 80) (multipole_row points has.cap (square_of tree n)) (omega arith) within.multipole)
+    multipole_small rows are = within_same P (2 ^ 80) (row_at P rows n) (multipole_row points has.cap (square_of tree n)) (are.each n lt) (wider P (2 ^ 74) (2 ^ 80) (multipole_row points has.cap (square_of tree n)) (omega arith) within.multipole)
 
     target_or_not : {A : Type 0} → (HasTarget points (square_of tree n) → A) → ((HasTarget points (square_of tree n) → ⊥) → A) → A
     target_or_not there none = ⊎_elim
@@ -50,7 +50,7 @@ module _ (points : List Point) (tree : TreeModel) (has : IsTreeOfPoints points t
 
     pub local_small : (rows : List CBox) → IsLocalRow points has.cap P tree field rows n → RowWithin P (2 ^ 90) (row_at P rows n)
     local_small rows here = target_or_not
-        (λ t. within_same P (2 ^ 90) (row_at P rows n) (local_row points has.cap P field (square_of tree n)) (here.row_is t) (row_wider P (2 ^ 82) (2 ^ 90) (local_row points has.cap P field (square_of tree n)) (omega arith) within.local))
+        (λ t. within_same P (2 ^ 90) (row_at P rows n) (local_row points has.cap P field (square_of tree n)) (here.row_is t) (wider P (2 ^ 82) (2 ^ 90) (local_row points has.cap P field (square_of tree n)) (omega arith) within.local))
         (λ no. within_same P (2 ^ 90) (row_at P rows n) (λ k. zero_box) (here.empty no) (λ k h. zero_within (2 ^ 90)))
 
     bounded : (r : ℤ) (m : ℕ) → r ≡ pos m → m ≤ 2 ^ 80 → (pos 0 ≤ℤ r) × (r ≤ℤ pos (2 ^ 90))

@@ -36,7 +36,8 @@ use Rattle.downward_rows.proofs.EntryPlaces.{far_entries}
 use Rattle.downward_rows.proofs.FieldRows.{row_is}
 use Rattle.downward_rows.proofs.FlatPlaces.{room, row_before, row_here, other_rows}
 use Rattle.downward_rows.proofs.Totals.{add_box-assoc}
-use Rattle.downward_rows.proofs.Trees.{some_tree, target_of_parent}
+use Rattle.tree_rows.proofs.Trees.{some_tree}
+use Rattle.downward_rows.proofs.Trees.{target_of_parent}
 
 pub zero_row_within : (P : ℕ) (xs : List CBox) → length xs ≡ P → All IsZero xs → RowWithin P 0 (row_of xs)
 zero_row_within P xs e z k h = subst (BoxEndsWithin 0) (sym (nothing_at P xs e z k h)) (zero_within 0)

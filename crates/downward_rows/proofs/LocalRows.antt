@@ -23,7 +23,7 @@ use Rattle.tree_rows.specs.FlatRows.{row_at, AreSameRows}
 use Rattle.tree_rows.specs.Trees.{IsTreeWithLists}
 use Rattle.downward_rows.specs.Translations.{translations_at}
 use Rattle.downward_rows.proofs.EntryPlaces.{entry_at}
-use Rattle.downward_rows.proofs.Trees.{some_tree}
+use Rattle.tree_rows.proofs.Trees.{some_tree}
 
 -- ---- rows
 pub no_rows : (points : List Point) (cap P : ℕ) (tree : TreeModel) (field : TreeLists) (rows : List CBox) → AreLocalRowsTo points cap P tree field rows 0

@@ -15,7 +15,7 @@ use Rattle.tree_field.specs.Lists.{TreeLists}
 use Rattle.tree_rows.specs.FieldRows.{AreWeights, IsFieldOf, IsRadius, AreRadiiTo}
 use Rattle.downward_rows.specs.Radii.{IsRadiusOf, AreWeightsOfTree}
 use Rattle.downward_rows.proofs.FieldSizes.{some_field, radius_small}
-use Rattle.downward_rows.proofs.Trees.{some_tree}
+use Rattle.tree_rows.proofs.Trees.{some_tree}
 use mir.Syntax.{w128}
 
 -- a number of at most 2^120 as it comes back from a call

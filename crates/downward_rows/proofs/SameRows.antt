@@ -1,8 +1,9 @@
 -- What is made of a row reads its first P boxes alone.
-use Rattle.std.proofs.Common.{ℕ, zero, suc, ◌-◌, ◌≤◌, ◌<◌, ◌^◌, ◌≡◌, refl, ap, ap₂, subst, sym, arith, pos}
+use Rattle.std.proofs.Common.{ℕ, zero, suc, ◌-◌, ◌≤◌, ◌^◌, ◌≡◌, refl, ap, ap₂, subst, sym, arith, pos}
 use Rattle.exact_math.specs.Ends.{BoxEnds, BoxEndsWithin, add_box, scale_box, times_box, gscale_box, quot_box}
 use Rattle.exact_math.specs.Gaussian.{Gaussian}
-use Rattle.row_recursions.specs.Rows.{sum_boxes, converted, down_round, shifted_down}
+use Rattle.row_recursions.proofs.Equations.{sum_boxes-same}
+use Rattle.row_recursions.specs.Rows.{converted, down_round, shifted_down}
 use Rattle.row_recursions.specs.Sizes.{RowWithin}
 use Rattle.row_recursions.proofs.Equations.{sum_boxes-same}
 use Rattle.tree_rows.specs.FlatRows.{AreSameRows}

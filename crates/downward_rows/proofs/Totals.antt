@@ -1,13 +1,11 @@
 -- Sums of rows over lists, one member more at a time.
-use Rattle.std.proofs.Common.{ℕ, ◌+◌, ◌<◌, ◌≤◌, ◌≡◌, List, length, get_or, take, sym, ap, ◌∙◌, arith, ℤ, ◌+ℤ◌}
+use Rattle.std.proofs.Common.{ℕ, ◌+◌, ◌<◌, ◌≡◌, List, length, get_or, take, sym, ap, ◌∙◌, arith, ℤ, ◌+ℤ◌}
 use Rattle.std.proofs.lemmas.Int.{ints}
 use Rattle.std.proofs.lemmas.List.Sums.{fold_more}
-use Rattle.std.proofs.Math.Seq.{take-length}
 use Rattle.exact_math.specs.Ends.{BoxEnds, zero_box, add_box}
 use Rattle.complex_box.proofs.Sizes.{box_wider}
 use Rattle.complex_box.proofs.ZeroBoxes.{zero_right}
 use Rattle.row_recursions.specs.Rows.{RowsAdd}
-use Rattle.row_recursions.specs.Sizes.{RowWithin}
 use Rattle.soundness.specs.Computed.{total_row}
 
 pub add_box-assoc : (a b c : BoxEnds) → add_box (add_box a b) c ≡ add_box a (add_box b c)
@@ -29,10 +27,3 @@ pub one_added : {A : Type 0} (P : ℕ) (f : A → ℕ → BoxEnds) (xs : List A)
 one_added P f xs i d start old new lt was adds k h =
     adds k h ∙ ap (λ b. add_box b (f (get_or xs i d) k)) (was k h) ∙ add_box-assoc (start k) _ _
     ∙ ap (add_box (start k)) (sym (fold_more (λ b x. add_box b (f x k)) zero_box xs i d lt))
-
--- all
-pub all_added : {A : Type 0} (P : ℕ) (f : A → ℕ → BoxEnds) (xs : List A) (n : ℕ) (start new : ℕ → BoxEnds) → n ≡ length xs → RowsAdd P start (total_row f (take n xs)) new → RowsAdd P start (total_row f xs) new
-all_added P f xs n start new e adds k h = adds k h ∙ ap (λ l. add_box (start k) (total_row f l k)) (ap (λ m. take m xs) e ∙ take-length xs)
-
-pub row_wider : (P m n : ℕ) (row : ℕ → BoxEnds) → m ≤ n → RowWithin P m row → RowWithin P n row
-row_wider P m n row le w k h = box_wider m n (row k) le (w k h)

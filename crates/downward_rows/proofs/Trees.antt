@@ -1,16 +1,11 @@
--- The tree of the points as a tree of some points, and that a parent has the targets of its children.
+-- A parent has the targets of its children.
 use Rattle.std.proofs.Common.{ℕ, ◌<◌, ◌≤◌, List, sym, subst}
 use Rattle.cell_name.proofs.Cells.{Holds-parent}
 use Rattle.cell_name.specs.Square.{Square, parent}
 use Rattle.cell_lists.proofs.CellNumbers.{level_positive, parent_before, level_in_grid}
 use Rattle.points.specs.declared.Point.{Point}
-use Rattle.quadtree.proofs.Limits.{in_grid}
 use Rattle.quadtree.specs.Tree.{HasTarget}
 use Rattle.quadtree.specs.TreeModel.{TreeModel, size, square_of, node_of, IsTree}
-use Rattle.tree_rows.specs.Trees.{IsTreeOfPoints}
-
-pub some_tree : (points : List Point) (tree : TreeModel) → IsTreeOfPoints points tree → IsTree tree
-some_tree points tree h = record { points = points; cap = h.cap; in_grid = in_grid points h.range; few_points = h.few; is_tree = h.is_tree }
 
 target_above : (points : List Point) (c : Square) → 0 < c.level → c.level ≤ c.grid → HasTarget points c → HasTarget points (parent c)
 target_above points c lo hi h = record { target = h.target; here = record { listed = h.here.listed; held = Holds-parent c h.target.x h.target.y lo hi h.here.held }; is_target = h.is_target }

@@ -1,18 +1,19 @@
 -- The lines of targets, one point after another, and the report in its pieces.
-use Rattle.std.proofs.Common.{◌≡◌, ◌∙◌, sym, ap, subst, refl, arith, ℕ, ◌+◌, ◌≤◌, ◌<◌, not, true, false, List, [], ◌∷◌, ◌++◌, length, take, drop, get_or, map, append_assoc, ap₂, to_z, of_z, to_z-of_z, w64, SFits}
+use Rattle.std.proofs.Common.{◌≡◌, ◌∙◌, sym, ap, subst, refl, arith, ℕ, ◌+◌, ◌≤◌, ◌<◌, not, true, false, Result, List, [], ◌∷◌, ◌++◌, length, take, drop, get_or, map, append_assoc, ap₂, to_z, of_z, to_z-of_z, w64, SFits}
 use Rattle.std.proofs.Math.Seq.{get_or-append_seam}
 use Rattle.std.proofs.lemmas.List.{append-nil, take_more, take-append-drop, map-append, length-append, length-take, get_or-map, length-map}
 use Rattle.std.proofs.lemmas.List.Concat.{flat_map-append}
 use Rattle.std.proofs.lemmas.List.Elements.{filter-append}
 use Rattle.std.proofs.lemmas.List.Filters.{length-filter_both}
 use Rattle.std.proofs.lemmas.Int.{ints}
+use Rattle.std.proofs.KnownBytes.{Appends-trans}
 use Rattle.std.specs.Io.KnownBytes.{Appends}
 use Rattle.std.specs.List.{flat_map}
 use Rattle.std.specs.declared.option.Option.{Option}
 use Rattle.complex_box.specs.Box.{box_ends}
 use Rattle.complex_box.specs.Rows.{at, zero_cbox}
 use Rattle.complex_box.specs.declared.CBox.{CBox}
-use Rattle.io_ports.specs.Bytes.{AppendsPrefix}
+use Rattle.io_ports.specs.Bytes.{AppendsPrefix, Writes}
 use Rattle.points.specs.Points.{is_source, place}
 use Rattle.points.specs.Limits.{InRange}
 use Rattle.points.specs.declared.Mode.{Mode}
@@ -22,8 +23,8 @@ use Rattle.tree_field.specs.Lists.{TreeLists, AreTreeLists}
 use Rattle.tree_field.specs.Work.{translations, pairs}
 use Rattle.field_report.specs.Counts.{target_counts}
 use Rattle.field_report.specs.FieldText.{field_line, field_text, target_text}
-use Rattle.field_report.specs.Report.{head_line, target_line, work_line, end_line, last_lines}
-use Rattle.field_report.proofs.Pieces.{Appends-then, AppendsPrefix-then, AppendsPrefix-front}
+use Rattle.field_report.specs.Report.{report_head, target_line, work_line, end_line, last_lines}
+use Rattle.field_report.proofs.Pieces.{AppendsPrefix-then, AppendsPrefix-front, Writes-then}
 
 targets-append : (xs ys : List Point) → targets (xs ++ ys) ≡ targets xs ++ targets ys
 targets-append xs ys = filter-append (λ p. not (is_source p.kind)) xs ys
@@ -93,7 +94,7 @@ module _ (mode : Mode) (points : List Point) (cap P : ℕ) (lists : TreeLists) w
 
     pub text-step : not (is_source (get_or xs i d).kind) ≡ true → (before mid after : Option (List ℕ)) → Appends before mid (target_text mode points cap P lists (take i xs))
         → Appends mid after (target_line mode (field_line mode points cap P lists (get_or xs i d))) → Appends before after (target_text mode points cap P lists (take (i + 1) xs))
-    text-step h before mid after p q = subst (Appends before after) (sym (text-more h)) (Appends-then before mid after _ _ p q)
+    text-step h before mid after p q = subst (Appends before after) (sym (text-more h)) (Appends-trans before mid after _ _ p q)
 
     pub text-exit : not (is_source (get_or xs i d).kind) ≡ true → (before mid after : Option (List ℕ)) → Appends before mid (target_text mode points cap P lists (take i xs))
         → AppendsPrefix mid after (target_line mode (field_line mode points cap P lists (get_or xs i d))) → AppendsPrefix before after (target_text mode points cap P lists xs)
@@ -154,29 +155,23 @@ of-same mode list points limit cap P lists F e k h =
 
 -- ---- the whole report, in three pieces
 module _ (mode : Mode) (points : List Point) (order cap : ℕ) (lists : TreeLists) (made summed : ℕ) (made_is : made ≡ translations points lists) (summed_is : summed ≡ pairs points lists) where
-  whole : head_line mode order cap ++ (target_text mode points cap order lists points ++ last_lines made summed) ≡ field_text mode points order cap lists
+  whole : report_head mode order cap ++ (target_text mode points cap order lists points ++ last_lines made summed) ≡ field_text mode points order cap lists
   whole =
-      ap₂ (λ m n. head_line mode order cap ++ (target_text mode points cap order lists points ++ last_lines m n)) made_is summed_is
-      ∙ sym (append_assoc (head_line mode order cap) _ _)
-      ∙ sym (append_assoc (head_line mode order cap ++ target_text mode points cap order lists points) (work_line (translations points lists) (pairs points lists)) end_line)
+      ap₂ (λ m n. report_head mode order cap ++ (target_text mode points cap order lists points ++ last_lines m n)) made_is summed_is
+      ∙ sym (append_assoc (report_head mode order cap) _ _)
+      ∙ sym (append_assoc (report_head mode order cap ++ target_text mode points cap order lists points) (work_line (translations points lists) (pairs points lists)) end_line)
 
-  pub head-exit : (before after : Option (List ℕ)) → AppendsPrefix before after (head_line mode order cap) → AppendsPrefix before after (field_text mode points order cap lists)
-  head-exit before after p = subst (AppendsPrefix before after) whole (AppendsPrefix-front before after (head_line mode order cap) (target_text mode points cap order lists points ++ last_lines made summed) p)
+  pub head-exit : (before after : Option (List ℕ)) → AppendsPrefix before after (report_head mode order cap) → AppendsPrefix before after (field_text mode points order cap lists)
+  head-exit before after p = subst (AppendsPrefix before after) whole (AppendsPrefix-front before after (report_head mode order cap) (target_text mode points cap order lists points ++ last_lines made summed) p)
 
-  pub targets-exit : (before mid after : Option (List ℕ)) → Appends before mid (head_line mode order cap) → AppendsPrefix mid after (target_text mode points cap order lists points)
+  pub targets-exit : (before mid after : Option (List ℕ)) → Appends before mid (report_head mode order cap) → AppendsPrefix mid after (target_text mode points cap order lists points)
       → AppendsPrefix before after (field_text mode points order cap lists)
   targets-exit before mid after p q = subst (AppendsPrefix before after) whole
-      (AppendsPrefix-then before mid after (head_line mode order cap) (target_text mode points cap order lists points ++ last_lines made summed) p
+      (AppendsPrefix-then before mid after (report_head mode order cap) (target_text mode points cap order lists points ++ last_lines made summed) p
       (AppendsPrefix-front mid after (target_text mode points cap order lists points) (last_lines made summed) q))
 
-  pub end-done : (before first second after : Option (List ℕ)) → Appends before first (head_line mode order cap) → Appends first second (target_text mode points cap order lists points)
-      → Appends second after (last_lines made summed) → Appends before after (field_text mode points order cap lists)
-  end-done before first second after p q r = subst (Appends before after) whole
-      (Appends-then before first after (head_line mode order cap) (target_text mode points cap order lists points ++ last_lines made summed) p
-      (Appends-then first second after (target_text mode points cap order lists points) (last_lines made summed) q r))
-
-  pub end-exit : (before first second after : Option (List ℕ)) → Appends before first (head_line mode order cap) → Appends first second (target_text mode points cap order lists points)
-      → AppendsPrefix second after (last_lines made summed) → AppendsPrefix before after (field_text mode points order cap lists)
-  end-exit before first second after p q r = subst (AppendsPrefix before after) whole
-      (AppendsPrefix-then before first after (head_line mode order cap) (target_text mode points cap order lists points ++ last_lines made summed) p
-      (AppendsPrefix-then first second after (target_text mode points cap order lists points) (last_lines made summed) q r))
+  pub end-written : {T E : Type 0} (result : Result T E) (before first second after : Option (List ℕ)) → Appends before first (report_head mode order cap) → Appends first second (target_text mode points cap order lists points)
+      → Writes result second after (last_lines made summed) → Writes result before after (field_text mode points order cap lists)
+  end-written result before first second after p q r = subst (Writes result before after) whole
+      (Writes-then result before first after (report_head mode order cap) (target_text mode points cap order lists points ++ last_lines made summed) p
+      (Writes-then result first second after (target_text mode points cap order lists points) (last_lines made summed) q r))

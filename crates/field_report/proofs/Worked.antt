@@ -6,6 +6,7 @@ use Rattle.letters.specs.declared.Letter.{Letter}
 use Rattle.letters.specs.declared.Letter.TheVariants.{U, V, W, X}
 use Rattle.exact_math.specs.Gaussian.{gaussian}
 use Rattle.near_field.specs.DirectSum.{direct_sum}
+use Rattle.number_text.specs.Parts.{line_feed}
 use Rattle.points.specs.declared.Kind.{Kind}
 use Rattle.points.specs.declared.Kind.TheVariants.{Charge, Dipole, Vortex, Target}
 use Rattle.points.specs.declared.Mode.TheVariants.{Field, Velocity}
@@ -15,7 +16,6 @@ use Rattle.tree_field.specs.Field.{leaf_below, local_at_level, radius_at_level}
 use Rattle.tree_field.specs.Lists.{TreeLists}
 use Rattle.line_text.specs.Decimals.{digits_in}
 use Rattle.field_report.specs.FieldText.{field_text}
-use Rattle.field_report.specs.Report.{line_feed}
 
 -- lists of these cells, with the same U entries for each of them and no others
 abbrev lists_of : List Square → List Square → TreeLists
@@ -43,74 +43,74 @@ at x y kind = record { x = x; y = y; kind = kind }
 -- a charge of 1, five places away
 five_away : field_text Field (at (pos 0) (pos 0) (Charge (pos 1)) ∷ at (pos 3) (pos 4) Target ∷ []) 8 8 one_leaf
     ≡ codes "fmm report 1 field order 8 cap 8" ++ line_feed
-    ++ codes "target 3 4 re 0.119999999999 0.120000000001 im -0.160000000001 -0.159999999999" ++ line_feed
-    ++ codes "work translations 0 pairs 1" ++ line_feed ++ codes "end" ++ line_feed
+    ∷ codes "target 3 4 re 0.119999999999 0.120000000001 im -0.160000000001 -0.159999999999" ++ line_feed
+    ∷ codes "work translations 0 pairs 1" ++ line_feed ∷ codes "end" ++ line_feed ∷ []
 unfolding digits digits_in leaf_below local_at_level radius_at_level local_value local_round
 five_away = refl
 
 -- an exact value has no width
 one_away : field_text Field (at (pos 0) (pos 0) (Charge (pos 1)) ∷ at (pos 1) (pos 0) Target ∷ []) 8 8 one_leaf
     ≡ codes "fmm report 1 field order 8 cap 8" ++ line_feed
-    ++ codes "target 1 0 re 1.000000000000 1.000000000000 im 0.000000000000 0.000000000000" ++ line_feed
-    ++ codes "work translations 0 pairs 1" ++ line_feed ++ codes "end" ++ line_feed
+    ∷ codes "target 1 0 re 1.000000000000 1.000000000000 im 0.000000000000 0.000000000000" ++ line_feed
+    ∷ codes "work translations 0 pairs 1" ++ line_feed ∷ codes "end" ++ line_feed ∷ []
 unfolding digits digits_in leaf_below local_at_level radius_at_level local_value local_round
 one_away = refl
 
 -- a vortex of circulation 1: the second number is the negative of the imaginary part
 vortex : field_text Velocity (at (pos 0) (pos 0) (Vortex (pos 1)) ∷ at (pos 1) (pos 0) Target ∷ []) 8 8 one_leaf
     ≡ codes "fmm report 1 velocity order 8 cap 8" ++ line_feed
-    ++ codes "target 1 0 u 0.000000000000 0.000000000000 v 1.000000000000 1.000000000000" ++ line_feed
-    ++ codes "work translations 0 pairs 1" ++ line_feed ++ codes "end" ++ line_feed
+    ∷ codes "target 1 0 u 0.000000000000 0.000000000000 v 1.000000000000 1.000000000000" ++ line_feed
+    ∷ codes "work translations 0 pairs 1" ++ line_feed ∷ codes "end" ++ line_feed ∷ []
 unfolding digits digits_in leaf_below local_at_level radius_at_level local_value local_round
 vortex = refl
 
 -- a source at the place of the target is left out
 same_place : field_text Field (at (pos 5) (pos 5) (Charge (pos 7)) ∷ at (pos 5) (pos 5) Target ∷ []) 8 8 one_leaf
     ≡ codes "fmm report 1 field order 8 cap 8" ++ line_feed
-    ++ codes "target 5 5 re 0.000000000000 0.000000000000 im 0.000000000000 0.000000000000" ++ line_feed
-    ++ codes "work translations 0 pairs 0" ++ line_feed ++ codes "end" ++ line_feed
+    ∷ codes "target 5 5 re 0.000000000000 0.000000000000 im 0.000000000000 0.000000000000" ++ line_feed
+    ∷ codes "work translations 0 pairs 0" ++ line_feed ∷ codes "end" ++ line_feed ∷ []
 unfolding digits digits_in leaf_below local_at_level radius_at_level local_value local_round
 same_place = refl
 
 -- the largest difference
 across : field_text Field (at (negsuc 32767) (negsuc 32767) (Charge (pos 1)) ∷ at (pos 32767) (pos 32767) Target ∷ []) 8 8 one_leaf
     ≡ codes "fmm report 1 field order 8 cap 8" ++ line_feed
-    ++ codes "target 32767 32767 re 0.000007629510 0.000007629512 im -0.000007629512 -0.000007629510" ++ line_feed
-    ++ codes "work translations 0 pairs 1" ++ line_feed ++ codes "end" ++ line_feed
+    ∷ codes "target 32767 32767 re 0.000007629510 0.000007629512 im -0.000007629512 -0.000007629510" ++ line_feed
+    ∷ codes "work translations 0 pairs 1" ++ line_feed ∷ codes "end" ++ line_feed ∷ []
 unfolding digits digits_in leaf_below local_at_level radius_at_level local_value local_round
 across = refl
 
 -- a dipole, two places away
 dipole : field_text Field (at (pos 0) (pos 0) (Dipole (pos 1) (pos 0)) ∷ at (pos 0) (pos 2) Target ∷ []) 8 8 one_leaf
     ≡ codes "fmm report 1 field order 8 cap 8" ++ line_feed
-    ++ codes "target 0 2 re -0.250000000000 -0.250000000000 im 0.000000000000 0.000000000000" ++ line_feed
-    ++ codes "work translations 0 pairs 1" ++ line_feed ++ codes "end" ++ line_feed
+    ∷ codes "target 0 2 re -0.250000000000 -0.250000000000 im 0.000000000000 0.000000000000" ++ line_feed
+    ∷ codes "work translations 0 pairs 1" ++ line_feed ∷ codes "end" ++ line_feed ∷ []
 unfolding digits digits_in leaf_below local_at_level radius_at_level local_value local_round
 dipole = refl
 
 -- no point, and a target alone
-nothing : field_text Field [] 8 8 no_cell ≡ codes "fmm report 1 field order 8 cap 8" ++ line_feed ++ codes "work translations 0 pairs 0" ++ line_feed ++ codes "end" ++ line_feed
+nothing : field_text Field [] 8 8 no_cell ≡ codes "fmm report 1 field order 8 cap 8" ++ line_feed ∷ codes "work translations 0 pairs 0" ++ line_feed ∷ codes "end" ++ line_feed ∷ []
 unfolding digits digits_in leaf_below local_at_level radius_at_level local_value local_round
 nothing = refl
 
 alone : field_text Field (at (pos 0) (pos 0) Target ∷ []) 8 8 lone_leaf
     ≡ codes "fmm report 1 field order 8 cap 8" ++ line_feed
-    ++ codes "target 0 0 re 0.000000000000 0.000000000000 im 0.000000000000 0.000000000000" ++ line_feed
-    ++ codes "work translations 0 pairs 0" ++ line_feed ++ codes "end" ++ line_feed
+    ∷ codes "target 0 0 re 0.000000000000 0.000000000000 im 0.000000000000 0.000000000000" ++ line_feed
+    ∷ codes "work translations 0 pairs 0" ++ line_feed ∷ codes "end" ++ line_feed ∷ []
 unfolding digits digits_in leaf_below local_at_level radius_at_level local_value local_round
 alone = refl
 
 -- a charge alone
 unasked : field_text Field (at (pos 0) (pos 0) (Charge (pos 1)) ∷ []) 8 8 lone_leaf
-    ≡ codes "fmm report 1 field order 8 cap 8" ++ line_feed ++ codes "work translations 0 pairs 0" ++ line_feed ++ codes "end" ++ line_feed
+    ≡ codes "fmm report 1 field order 8 cap 8" ++ line_feed ∷ codes "work translations 0 pairs 0" ++ line_feed ∷ codes "end" ++ line_feed ∷ []
 unfolding digits digits_in leaf_below local_at_level radius_at_level local_value local_round
 unasked = refl
 
 -- strengths that cancel
 cancel : field_text Field (at (pos 0) (pos 0) (Charge (pos 1048576)) ∷ at (pos 1) (pos 0) (Charge (negsuc 1048575)) ∷ at (pos 100) (pos 0) Target ∷ []) 8 8 one_leaf
     ≡ codes "fmm report 1 field order 8 cap 8" ++ line_feed
-    ++ codes "target 100 0 re -105.916767676770 -105.916767676767 im 0.000000000000 0.000000000000" ++ line_feed
-    ++ codes "work translations 0 pairs 2" ++ line_feed ++ codes "end" ++ line_feed
+    ∷ codes "target 100 0 re -105.916767676770 -105.916767676767 im 0.000000000000 0.000000000000" ++ line_feed
+    ∷ codes "work translations 0 pairs 2" ++ line_feed ∷ codes "end" ++ line_feed ∷ []
 unfolding digits digits_in leaf_below local_at_level radius_at_level local_value local_round
 cancel = refl
 
@@ -120,8 +120,8 @@ unit = at (pos 0) (pos 0) (Charge (pos 1))
 -- seven charges at one place
 seven : field_text Field (unit ∷ unit ∷ unit ∷ unit ∷ unit ∷ unit ∷ unit ∷ at (pos 1) (pos 0) Target ∷ []) 8 8 one_leaf
     ≡ codes "fmm report 1 field order 8 cap 8" ++ line_feed
-    ++ codes "target 1 0 re 7.000000000000 7.000000000000 im 0.000000000000 0.000000000000" ++ line_feed
-    ++ codes "work translations 0 pairs 7" ++ line_feed ++ codes "end" ++ line_feed
+    ∷ codes "target 1 0 re 7.000000000000 7.000000000000 im 0.000000000000 0.000000000000" ++ line_feed
+    ∷ codes "work translations 0 pairs 7" ++ line_feed ∷ codes "end" ++ line_feed ∷ []
 unfolding digits digits_in leaf_below local_at_level radius_at_level local_value local_round
 seven = refl
 

@@ -1,14 +1,11 @@
 -- The lines of a report.
 use Rattle.std.specs.Prelude.{ℕ, ℤ, List, [], ◌∷◌, ◌++◌, codes, decimal, flat_map}
 use Rattle.std.specs.Fmt.{signed_decimal}
+use Rattle.number_text.specs.Parts.{line_feed}
 use Rattle.points.specs.declared.Mode.{Mode}
 use Rattle.points.specs.declared.Mode.TheVariants.{Field, Velocity}
 use Rattle.field_report.specs.Counts.{TargetCounts}
 use Rattle.line_text.specs.Decimals.{decimal_text}
-
--- a line feed
-abbrev pub line_feed : List ℕ
-line_feed = 10 ∷ []
 
 abbrev pub mode_word : Mode → List ℕ
 mode_word Field = codes "field"
@@ -35,7 +32,7 @@ target_line mode t =
     codes "target " ++ signed_decimal t.x ++ codes " " ++ signed_decimal t.y
     ++ first_word mode ++ decimal_text t.counts.first.lo ++ codes " " ++ decimal_text t.counts.first.hi
     ++ second_word mode ++ decimal_text t.counts.second.lo ++ codes " " ++ decimal_text t.counts.second.hi
-    ++ line_feed
+    ++ line_feed ∷ []
 
 -- the line of these numbers
 abbrev pub line_of : Mode → ℤ → ℤ → ℤ → ℤ → ℤ → ℤ → List ℕ
@@ -46,15 +43,15 @@ line_of mode x y first_lo first_hi second_lo second_hi = target_line mode (recor
 })
 
 -- `fmm report 1 MODE order P cap CAP`
-abbrev pub head_line : Mode → ℕ → ℕ → List ℕ
-head_line mode order cap = codes "fmm report 1 " ++ mode_word mode ++ codes " order " ++ decimal order ++ codes " cap " ++ decimal cap ++ line_feed
+abbrev pub report_head : Mode → ℕ → ℕ → List ℕ
+report_head mode order cap = codes "fmm report 1 " ++ mode_word mode ++ codes " order " ++ decimal order ++ codes " cap " ++ decimal cap ++ line_feed ∷ []
 
 -- `work translations A pairs B`
 abbrev pub work_line : ℕ → ℕ → List ℕ
-work_line translations pairs = codes "work translations " ++ decimal translations ++ codes " pairs " ++ decimal pairs ++ line_feed
+work_line translations pairs = codes "work translations " ++ decimal translations ++ codes " pairs " ++ decimal pairs ++ line_feed ∷ []
 
 abbrev pub end_line : List ℕ
-end_line = codes "end" ++ line_feed
+end_line = codes "end" ++ line_feed ∷ []
 
 -- the last two lines
 abbrev pub last_lines : ℕ → ℕ → List ℕ
@@ -63,4 +60,4 @@ last_lines translations pairs = work_line translations pairs ++ end_line
 -- the report: its head, a line for each target in the order of the list, the counts of work, and `end`
 abbrev pub report_text : Mode → ℕ → ℕ → List TargetLine → ℕ → ℕ → List ℕ
 report_text mode order cap lines translations pairs =
-    head_line mode order cap ++ flat_map (target_line mode) lines ++ work_line translations pairs ++ end_line
+    report_head mode order cap ++ flat_map (target_line mode) lines ++ work_line translations pairs ++ end_line

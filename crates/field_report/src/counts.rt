@@ -4,7 +4,6 @@ ghost use Rattle.exact_math.specs.Contains.{Contains};
 ghost use Rattle.exact_math.specs.Ratio.{Ratio, neg_ratio};
 ghost use Rattle.exact_math.specs.Rounding.{floor_div};
 ghost use Rattle.exact_math.specs.Within.{Within};
-ghost use Rattle.exact_math.specs.Ends.{Ends, BoxEnds};
 ghost use Rattle.exact_math.specs.Units.{unit};
 ghost use Rattle.fixed_interval.specs.Interval.{IntervalWithin, ends_of};
 ghost use Rattle.field_report.specs.Counts.{second_ends, count_below, count_above, KeepsBound};

@@ -1,8 +1,7 @@
 //! The first line of a report, and its last two.
-ghost use Rattle.std.specs.Prelude.{◌≡◌, ◌+◌, ◌≤◌, OnOk, OnErr, length};
-ghost use Rattle.std.specs.Io.KnownBytes.{Appends};
-ghost use Rattle.field_report.specs.Report.{head_line, last_lines, mode_word};
-ghost use Rattle.io_ports.specs.Bytes.{AppendsPrefix};
+ghost use Rattle.std.specs.Prelude.{◌≡◌, ◌≤◌, length};
+ghost use Rattle.field_report.specs.Report.{report_head, last_lines, mode_word};
+ghost use Rattle.io_ports.specs.Bytes.{Writes};
 ghost use Rattle.io_ports.specs.Faults.{HasCause};
 
 use io_ports::{Sink, WriteFault, put};
@@ -18,8 +17,7 @@ const LINE: usize = 128;
 ///
 /// `WriteFault` where a write failed. What was appended then is a prefix of the line.
 pub fn write_head<S: Sink>(mode: Mode, order: u32, cap: u32, sink: &mut S) -> Result<(), WriteFault>
-    ensures done { OnOk result (Appends (S.held sink.old) (S.held sink.new) (head_line mode order cap)) }
-    ensures part { OnErr result (AppendsPrefix (S.held sink.old) (S.held sink.new) (head_line mode order cap)) }
+    ensures bytes { Writes result (S.held sink.old) (S.held sink.new) (report_head mode order cap) }
     ensures cause { HasCause (S.faults sink.old) (S.faults sink.new) result }
 {
     let line = head_text(mode, order, cap);
@@ -32,8 +30,7 @@ pub fn write_head<S: Sink>(mode: Mode, order: u32, cap: u32, sink: &mut S) -> Re
 ///
 /// `WriteFault` where a write failed. What was appended then is a prefix of the lines.
 pub fn write_end<S: Sink>(translations: u64, pairs: u64, sink: &mut S) -> Result<(), WriteFault>
-    ensures done { OnOk result (Appends (S.held sink.old) (S.held sink.new) (last_lines translations pairs)) }
-    ensures part { OnErr result (AppendsPrefix (S.held sink.old) (S.held sink.new) (last_lines translations pairs)) }
+    ensures bytes { Writes result (S.held sink.old) (S.held sink.new) (last_lines translations pairs) }
     ensures cause { HasCause (S.faults sink.old) (S.faults sink.new) result }
 {
     let lines = end_text(translations, pairs);
@@ -53,7 +50,7 @@ fn mode_label(mode: Mode) -> &'static [u8]
 
 // The first line.
 fn head_text(mode: Mode, order: u32, cap: u32) -> FrontText<LINE>
-    ensures { result ≡ head_line mode order cap }
+    ensures { result ≡ report_head mode order cap }
 {
     let mut line = FrontText::new();
     line.prepend(b'\n');

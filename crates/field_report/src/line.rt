@@ -1,13 +1,12 @@
 //! The lines of targets.
-ghost use Rattle.std.specs.Prelude.{◌≡◌, ◌+◌, ◌^◌, ◌≤◌, ◌++◌, OnOk, OnErr, codes, length};
-ghost use Rattle.std.specs.Io.KnownBytes.{Appends};
+ghost use Rattle.std.specs.Prelude.{◌≡◌, ◌+◌, ◌^◌, ◌≤◌, ◌++◌, codes, length};
 ghost use Rattle.complex_box.specs.Box.{BoxWithin, box_ends, BoxContains};
 ghost use Rattle.exact_math.specs.Ratio.{ComplexRatio};
 ghost use Rattle.exact_math.specs.Units.{unit};
 ghost use Rattle.field_report.specs.Counts.{CountsContain, target_counts};
 ghost use Rattle.line_text.specs.Decimals.{decimal_text};
 ghost use Rattle.field_report.specs.Report.{first_word, second_word, line_of, target_line};
-ghost use Rattle.io_ports.specs.Bytes.{AppendsPrefix};
+ghost use Rattle.io_ports.specs.Bytes.{Writes};
 ghost use Rattle.io_ports.specs.Faults.{HasCause};
 
 use crate::counts::{CountEnds, second_counts};
@@ -35,8 +34,7 @@ pub fn write_target<S: Sink>(
     sink: &mut S,
 ) -> Result<(), WriteFault>
     requires { BoxWithin (2 ^ 84) v }
-    ensures done { OnOk result (Appends (S.held sink.old) (S.held sink.new) (target_line mode (record { x = x; y = y; counts = target_counts mode (box_ends v) }))) }
-    ensures part { OnErr result (AppendsPrefix (S.held sink.old) (S.held sink.new) (target_line mode (record { x = x; y = y; counts = target_counts mode (box_ends v) }))) }
+    ensures bytes { Writes result (S.held sink.old) (S.held sink.new) (target_line mode (record { x = x; y = y; counts = target_counts mode (box_ends v) })) }
     ensures contains { (z : ComplexRatio) → BoxContains unit v z → CountsContain mode (target_counts mode (box_ends v)) z }
     ensures cause { HasCause (S.faults sink.old) (S.faults sink.new) result }
 {
@@ -54,8 +52,7 @@ fn put_line<S: Sink>(
     second: CountEnds,
     sink: &mut S,
 ) -> Result<(), WriteFault>
-    ensures done { OnOk result (Appends (S.held sink.old) (S.held sink.new) (line_of mode x y first.lo first.hi second.lo second.hi)) }
-    ensures part { OnErr result (AppendsPrefix (S.held sink.old) (S.held sink.new) (line_of mode x y first.lo first.hi second.lo second.hi)) }
+    ensures bytes { Writes result (S.held sink.old) (S.held sink.new) (line_of mode x y first.lo first.hi second.lo second.hi) }
     ensures cause { HasCause (S.faults sink.old) (S.faults sink.new) result }
 {
     let line = line_text(mode, x, y, first, second);

@@ -1,8 +1,7 @@
 //! The report of a field.
-ghost use Rattle.std.specs.Prelude.{◌≡◌, All, OnOk, OnErr, not};
-ghost use Rattle.std.specs.Io.KnownBytes.{Appends};
+ghost use Rattle.std.specs.Prelude.{All};
 ghost use Rattle.field_report.specs.FieldText.{field_text, target_text};
-ghost use Rattle.io_ports.specs.Bytes.{AppendsPrefix};
+ghost use Rattle.io_ports.specs.Bytes.{Writes};
 ghost use Rattle.io_ports.specs.Faults.{HasCause};
 ghost use Rattle.points.specs.Limits.{InRange, WithinLimits};
 ghost use Rattle.solve_phase.specs.Field.{IsSolved, kept};
@@ -23,10 +22,8 @@ fn write_targets<const P: usize, S: Sink>(
 ) -> Result<(), WriteFault>
     requires range { All InRange points.now }
     requires field { IsSolved points.now (kept field.now).cap P (kept field.now) }
-    ensures done { (lists : TreeLists) → AreTreeLists 16 points.now (kept field.now).cap lists
-        → OnOk result (Appends (S.held sink.old) (S.held sink.new) (target_text mode points.now (kept field.now).cap P lists points.now)) }
-    ensures part { (lists : TreeLists) → AreTreeLists 16 points.now (kept field.now).cap lists
-        → OnErr result (AppendsPrefix (S.held sink.old) (S.held sink.new) (target_text mode points.now (kept field.now).cap P lists points.now)) }
+    ensures bytes { (lists : TreeLists) → AreTreeLists 16 points.now (kept field.now).cap lists
+        → Writes result (S.held sink.old) (S.held sink.new) (target_text mode points.now (kept field.now).cap P lists points.now) }
     ensures cause { HasCause (S.faults sink.old) (S.faults sink.new) result }
 {
     let mut k = 0;
@@ -54,10 +51,8 @@ pub fn write_report<const P: usize, S: Sink>(
 ) -> Result<(), WriteFault>
     requires list { WithinLimits points.now.mode points.now.list }
     requires field { IsSolved points.now.list cap P (kept field.now) }
-    ensures done { (lists : TreeLists) → AreTreeLists 16 points.now.list cap lists
-        → OnOk result (Appends (S.held sink.old) (S.held sink.new) (field_text points.now.mode points.now.list P cap lists)) }
-    ensures part { (lists : TreeLists) → AreTreeLists 16 points.now.list cap lists
-        → OnErr result (AppendsPrefix (S.held sink.old) (S.held sink.new) (field_text points.now.mode points.now.list P cap lists)) }
+    ensures bytes { (lists : TreeLists) → AreTreeLists 16 points.now.list cap lists
+        → Writes result (S.held sink.old) (S.held sink.new) (field_text points.now.mode points.now.list P cap lists) }
     ensures cause { HasCause (S.faults sink.old) (S.faults sink.new) result }
 {
     write_head(points.mode, P as u32, cap, sink)?;

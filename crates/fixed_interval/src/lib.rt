@@ -1,8 +1,8 @@
 //! Intervals of whole ends with directed rounding.
 //!
 //! An interval counts units of its caller's choice. One rule holds for every call but `take`, which undoes `add`:
-//! whatever fractions the arguments contain, the result contains the exact result. Sums and products are exact; a
-//! quotient rounds its lower end down and its upper end up.
+//! whatever fractions the arguments contain, the result contains the exact result in the same unit, and a product in
+//! the product of the units. Sums and products are exact; a quotient rounds its lower end down and its upper end up.
 #![tactic(auto)]
 
 ghost use Rattle.std.specs.Prelude.{ℕ, ◌^◌, ℤ, ◌≤ℤ◌};
@@ -26,7 +26,7 @@ pub struct Interval {
 }
 
 impl Interval {
-    ghost use Rattle.std.specs.Prelude.{◌≡◌, ◌<◌, pos, neg_ℤ, IsTrue, ◌↔◌};
+    ghost use Rattle.std.specs.Prelude.{◌≡◌, ◌<◌, pos, neg_ℤ, ◌*ℤ◌, IsTrue, ◌↔◌};
     ghost use Rattle.exact_math.specs.Contains.{Contains};
     ghost use Rattle.exact_math.specs.Ends.{EndsWithin, EndsInside, add_ends, take_ends, neg_ends, sub_ends, scale_ends, times_ends, quot_ends, widen_ends};
     ghost use Rattle.exact_math.specs.Ratio.{Ratio, whole_ratio, add_ratio, neg_ratio, sub_ratio, mul_ratio, over_ratio};
@@ -50,7 +50,7 @@ impl Interval {
         requires high_end { Within (2 ^ 126) hi }
         ensures lo { result.lo ≡ lo }
         ensures hi { result.hi ≡ hi }
-        ensures contains { (x : Ratio) → Contains (pos 1) lo hi x → IntervalContains (pos 1) result x }
+        ensures contains { (u : ℤ) (x : Ratio) → Contains u lo hi x → IntervalContains u result x }
     {
         Interval { lo, hi }
     }
@@ -60,7 +60,7 @@ impl Interval {
     pub fn add(self, o: Interval) -> Interval
         requires { EndsWithin (2 ^ 126) (add_ends (ends_of self) (ends_of o)) }
         ensures ends { ends_of result ≡ add_ends (ends_of self) (ends_of o) }
-        ensures contains { (x y : Ratio) → IntervalContains (pos 1) self x → IntervalContains (pos 1) o y → IntervalContains (pos 1) result (add_ratio x y) }
+        ensures contains { (u : ℤ) (x y : Ratio) → IntervalContains u self x → IntervalContains u o y → IntervalContains u result (add_ratio x y) }
     {
         Interval {
             lo: self.lo + o.lo,
@@ -87,7 +87,7 @@ impl Interval {
     pub fn sub(self, o: Interval) -> Interval
         requires { EndsWithin (2 ^ 126) (sub_ends (ends_of self) (ends_of o)) }
         ensures ends { ends_of result ≡ sub_ends (ends_of self) (ends_of o) }
-        ensures contains { (x y : Ratio) → IntervalContains (pos 1) self x → IntervalContains (pos 1) o y → IntervalContains (pos 1) result (sub_ratio x y) }
+        ensures contains { (u : ℤ) (x y : Ratio) → IntervalContains u self x → IntervalContains u o y → IntervalContains u result (sub_ratio x y) }
     {
         Interval {
             lo: self.lo - o.hi,
@@ -99,7 +99,7 @@ impl Interval {
     #[inline]
     pub fn neg(self) -> Interval
         ensures ends { ends_of result ≡ neg_ends (ends_of self) }
-        ensures contains { (x : Ratio) → IntervalContains (pos 1) self x → IntervalContains (pos 1) result (neg_ratio x) }
+        ensures contains { (u : ℤ) (x : Ratio) → IntervalContains u self x → IntervalContains u result (neg_ratio x) }
     {
         Interval {
             lo: -self.hi,
@@ -112,7 +112,7 @@ impl Interval {
     pub fn scale(self, k: i128) -> Interval
         requires { EndsWithin (2 ^ 126) (scale_ends (ends_of self) k) }
         ensures ends { ends_of result ≡ scale_ends (ends_of self) k }
-        ensures contains { (x : Ratio) → IntervalContains (pos 1) self x → IntervalContains (pos 1) result (mul_ratio (whole_ratio k) x) }
+        ensures contains { (u : ℤ) (x : Ratio) → IntervalContains u self x → IntervalContains u result (mul_ratio (whole_ratio k) x) }
     {
         Interval {
             lo: low_product(self.lo, self.hi, k),
@@ -128,7 +128,7 @@ impl Interval {
     pub fn times(self, o: Interval) -> Interval
         requires { EndsWithin (2 ^ 126) (times_ends (ends_of self) (ends_of o)) }
         ensures ends { ends_of result ≡ times_ends (ends_of self) (ends_of o) }
-        ensures contains { (x y : Ratio) → IntervalContains (pos 1) self x → IntervalContains (pos 1) o y → IntervalContains (pos 1) result (mul_ratio x y) }
+        ensures contains { (u v : ℤ) (x y : Ratio) → IntervalContains u self x → IntervalContains v o y → IntervalContains (u *ℤ v) result (mul_ratio x y) }
     {
         if self.lo >= 0 {
             return Interval {
@@ -156,7 +156,7 @@ impl Interval {
     pub fn quot(self, n: i128) -> Interval
         requires { pos 1 ≤ℤ n }
         ensures ends { ends_of result ≡ quot_ends (ends_of self) n }
-        ensures contains { (x : Ratio) → IntervalContains (pos 1) self x → IntervalContains (pos 1) result (over_ratio x n) }
+        ensures contains { (u : ℤ) (x : Ratio) → IntervalContains u self x → IntervalContains u result (over_ratio x n) }
     {
         let lo = floor_quot(self.lo, n);
         let hi = ceil_near(self.hi, n, self.lo, lo);
@@ -168,7 +168,7 @@ impl Interval {
     pub fn quot_shift(self, k: u32) -> Interval
         requires { k < 127 }
         ensures ends { ends_of result ≡ quot_ends (ends_of self) (pos (2 ^ k)) }
-        ensures contains { (x : Ratio) → IntervalContains (pos 1) self x → IntervalContains (pos 1) result (over_ratio x (pos (2 ^ k))) }
+        ensures contains { (u : ℤ) (x : Ratio) → IntervalContains u self x → IntervalContains u result (over_ratio x (pos (2 ^ k))) }
     {
         let lo = floor_shift(self.lo, k);
         let hi = ceil_shift(self.hi, k);
@@ -182,7 +182,7 @@ impl Interval {
         requires radius { pos 0 ≤ℤ r }
         requires fits { EndsWithin (2 ^ 126) (widen_ends (ends_of self) r) }
         ensures ends { ends_of result ≡ widen_ends (ends_of self) r }
-        ensures contains { (x y : Ratio) → IntervalContains (pos 1) self x → Contains (pos 1) (neg_ℤ r) r (sub_ratio y x) → IntervalContains (pos 1) result y }
+        ensures contains { (u : ℤ) (x y : Ratio) → IntervalContains u self x → Contains u (neg_ℤ r) r (sub_ratio y x) → IntervalContains u result y }
     {
         Interval {
             lo: self.lo - r,
@@ -194,7 +194,7 @@ impl Interval {
     #[inline]
     pub fn inside(self, outer: Interval) -> bool
         ensures exactly { IsTrue result ↔ EndsInside (ends_of self) (ends_of outer) }
-        ensures contains { IsTrue result → (x : Ratio) → IntervalContains (pos 1) self x → IntervalContains (pos 1) outer x }
+        ensures contains { IsTrue result → (u : ℤ) (x : Ratio) → IntervalContains u self x → IntervalContains u outer x }
     {
         outer.lo <= self.lo && self.hi <= outer.hi
     }

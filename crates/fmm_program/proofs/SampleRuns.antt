@@ -71,18 +71,3 @@ module _ (seed n order cap : ℕ) where
       subst (λ ps. All InRange ps → NoneIsCrowded 16 ps → (HasMoreCells 16 ps cap most_cells → ⊥) → ((lists : TreeLists) → AreTreeLists 16 ps cap lists → AppendsPrefix before after (summary_over ps lists)) → SampleEnds seed n order cap WriteFault before after)
       (sym e)
       (λ range none few h. (Done, summary_over (sample_list seed n) (some range none few).0, summarized range none few, h (some range none few).0 (some range none few).1))
-
-  -- A sample with no crowded place and few cells is not refused.
-  module _ (before after : Option (List ℕ)) (depth : HasSampleDepth seed n cap) where
-    refused : SampleEnds seed n order cap Refused before after → ⊥
-    refused (out, inl crowded, held) = depth.none_crowded crowded.cell crowded.first.crowded
-    refused (out, inr cells, held) = depth.no_more cells.too_many.too_many
-
-    pub completes : (status : Status) → SampleEnds seed n order cap status before after → (status ≡ WriteFault → ⊥) → (status ≡ Done) ⊎ (status ≡ Memory)
-    completes Done ends w = inl refl
-    completes Memory ends w = inr refl
-    completes Refused ends w = absurd (refused ends)
-    completes WriteFault ends w = absurd (w refl)
-    completes ReadFault ends w = absurd ends.1
-    completes Usage ends w = absurd ends.1
-    completes Rejected ends w = absurd ends.1

@@ -1,5 +1,5 @@
 -- What a run answers, and what it writes.
-use Rattle.std.specs.Prelude.{ℕ, ◌+◌, ◌*◌, ◌<◌, ◌≤◌, ◌≡◌, ◌⊎◌, List, ◌++◌, length, codes, decimal, sum_by, Contains}
+use Rattle.std.specs.Prelude.{ℕ, ◌+◌, ◌*◌, ◌<◌, ◌≤◌, ◌≡◌, ◌⊎◌, List, [], ◌∷◌, ◌++◌, length, codes, decimal, sum_by, Contains}
 use Rattle.std.specs.List.{AllZip}
 use Rattle.std.specs.Io.KnownBytes.{Appends}
 use Rattle.std.specs.declared.option.Option.{Option}
@@ -10,6 +10,7 @@ use Rattle.cell_name.specs.Square.{Square}
 use Rattle.letters.specs.declared.Letter.TheVariants.{V}
 use Rattle.io_ports.specs.Bytes.{AppendsPrefix}
 use Rattle.near_field.specs.DirectSum.{direct_sum}
+use Rattle.number_text.specs.Parts.{line_feed}
 use Rattle.particle_text.specs.Faults.{FirstFault}
 use Rattle.points.specs.Points.{place}
 use Rattle.particle_text.specs.Text.{Spells}
@@ -25,7 +26,7 @@ use Rattle.tree_field.specs.Lists.{TreeLists, AreTreeLists}
 use Rattle.tree_field.specs.Work.{translations, pairs}
 use Rattle.field_report.specs.Counts.{CountsContain}
 use Rattle.field_report.specs.FieldText.{field_text}
-use Rattle.field_report.specs.Report.{TargetLine, line_feed, report_text}
+use Rattle.field_report.specs.Report.{TargetLine, report_text}
 use Rattle.fmm_program.specs.declared.status.Status.{Status}
 use Rattle.fmm_program.specs.declared.status.Status.TheVariants.{Done, Refused, Usage, Memory, ReadFault, WriteFault, Rejected}
 
@@ -35,10 +36,10 @@ most_input = 16777216
 
 -- ---- the lines in place of a report
 abbrev pub usage_line : List ℕ
-usage_line = codes "usage: fmm solve ORDER CAP FILE [WORKERS] | check FILE | session ORDER CAP | sample SEED N ORDER CAP [WORKERS]" ++ line_feed
+usage_line = codes "usage: fmm solve ORDER CAP FILE [WORKERS] | check FILE | session ORDER CAP | sample SEED N ORDER CAP [WORKERS]" ++ line_feed ∷ []
 
 abbrev pub long_line : List ℕ
-long_line = codes "refused long" ++ line_feed
+long_line = codes "refused long" ++ line_feed ∷ []
 
 abbrev pub kind_word : TextKind → List ℕ
 kind_word Syntax = codes "syntax"
@@ -48,15 +49,15 @@ kind_word Many = codes "many"
 kind_word Strength = codes "strength"
 
 abbrev pub fault_line : ℕ → TextKind → List ℕ
-fault_line line kind = codes "refused line " ++ decimal line ++ codes " " ++ kind_word kind ++ line_feed
+fault_line line kind = codes "refused line " ++ decimal line ++ codes " " ++ kind_word kind ++ line_feed ∷ []
 
 -- level, column and row of the place, and how many points stand there
 abbrev pub crowded_line : Square → ℕ → List ℕ
 crowded_line c count =
-    codes "refused depth crowded cell " ++ decimal c.level ++ codes " " ++ decimal c.i ++ codes " " ++ decimal c.j ++ codes " points " ++ decimal count ++ line_feed
+    codes "refused depth crowded cell " ++ decimal c.level ++ codes " " ++ decimal c.i ++ codes " " ++ decimal c.j ++ codes " points " ++ decimal count ++ line_feed ∷ []
 
 abbrev pub cells_line : List ℕ
-cells_line = codes "refused depth cells" ++ line_feed
+cells_line = codes "refused depth cells" ++ line_feed ∷ []
 
 -- ---- what each answer means for the bytes that came, and which bytes go out with it
 

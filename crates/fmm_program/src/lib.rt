@@ -2,6 +2,7 @@
 #![tactic(auto)]
 
 mod commands;
+mod orders;
 mod refusals;
 mod samples;
 mod solve;

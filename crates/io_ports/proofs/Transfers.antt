@@ -11,12 +11,6 @@ pub Appends-next : (before mid after : Option (List ℕ)) (d c : ℕ) (xs : List
     → Appends before mid (take d xs) → Appends mid after (take c (drop d xs)) → Appends before after (take (d + c) xs)
 Appends-next before mid after d c xs p q = rw (take-add d c xs) (Appends-trans before mid after _ _ p q)
 
--- what came is all, where nothing is left after it
-pub GivesAll-at_end : (before after : Option (List ℕ)) (bytes : List ℕ) → Consumes before after bytes → IsAtEnd after → GivesAll before after bytes
-GivesAll-at_end None after bytes p q = tt
-GivesAll-at_end (Some left) None bytes p q = absurd p
-GivesAll-at_end (Some left) (Some rest) bytes p q = (sym (p ∙ ap (λ l. bytes ++ l) q ∙ append-nil bytes), ap Some q)
-
 -- how many bytes came, where the last read gave n
 pub length-came : (bytes chunk : List ℕ) (size n : ℕ) → size ≡ length bytes → n ≤ length chunk → length (bytes ++ take n chunk) ≡ size + n
 length-came bytes chunk size n e h = simp (length-append, length-take) (omega arith)

@@ -117,8 +117,3 @@ some_step bytes rest mode live weight p more some begins joins = record {
   few = omega (arith, joins Many);
   light = omega (arith, joins Strength);
 }
-
-pub some_fault : (bytes rest : List ℕ) (mode : Mode) (live weight : ℕ) (kind : TextKind) → SomeSoFar bytes rest mode live weight → rest ≢ [] → IsFirstKind (LineFault mode live weight rest) kind → FirstFault bytes (live + 2) kind
-some_fault bytes rest mode live weight kind some more fault =
-    let first = at_fault bytes rest mode some.points weight kind some.far more (subst (λ n. IsFirstKind (LineFault mode n weight rest) kind) some.live_is fault) in
-    subst (λ n. FirstFault bytes (n + 2) kind) (sym some.live_is) first

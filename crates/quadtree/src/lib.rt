@@ -2,6 +2,8 @@
 #![tactic(auto)]
 
 mod build;
+mod children;
+mod divide;
 mod fault;
 mod nodes;
 mod split;

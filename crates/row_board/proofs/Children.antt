@@ -42,11 +42,6 @@ child_is tree n d h =
     let first = and_parts (nat_lt 0 d) ((node_of tree d).parent == n) last.0 in
     record { in_range = range_below (size tree) d kept.0; below = ltb-true 0 d first.0; parent_is = eqb-true (node_of tree d).parent n first.1; source = last.1 }
 
-pub child_listed : (tree : TreeModel) (n d : ℕ) → IsSourceChild tree n d → Contains (source_children tree n) d
-child_listed tree n d h =
-    Contains-into_filter (is_child tree n) (range_with_len 0 (size tree)) d (Contains-range (size tree) d h.in_range)
-    (and_from (nat_lt 0 d && ((node_of tree d).parent == n)) (node_of tree d).has_source (and_from (nat_lt 0 d) ((node_of tree d).parent == n) (lt-ltb 0 d h.below) (eq-eqb (node_of tree d).parent n h.parent_is)) h.source)
-
 -- the quarters before the number k were looked at
 pub record Seen (points : List Point) (tree : TreeModel) (marks : List Bool) (n k : ℕ) : Type 0 where
   pub front : List ℕ

@@ -16,7 +16,7 @@ use Rattle.complex_box.specs.Rows.{at, zero_cbox}
 use Rattle.complex_box.specs.declared.CBox.{CBox}
 use Rattle.complex_box.proofs.Sizes.{zero_within}
 use Rattle.downward_rows.proofs.SameRows.{within_same}
-use Rattle.downward_rows.proofs.Totals.{row_wider}
+use Rattle.field_sizes.proofs.RowTotals.{wider}
 use Rattle.downward_rows.proofs.Trees.{some_tree}
 use Rattle.field_sizes.proofs.Disjoint.{entries_share_no_source}
 use Rattle.field_sizes.proofs.LocalSizes.{row_sizes}
@@ -25,6 +25,7 @@ use Rattle.field_sizes.specs.Sizes.{IsLimited, RowsWithin}
 use Rattle.quadtree.proofs.Limits.{in_grid}
 use Rattle.quadtree.specs.Tree.{AreInGrid}
 use Rattle.quadtree.specs.TreeModel.{IsTree, size, square_of}
+use Rattle.tree_rows.proofs.FlatRows.{flat_within}
 use Rattle.row_recursions.specs.Sizes.{RowWithin}
 use Rattle.tree_field.proofs.EachList.{each_list_has_tree}
 use Rattle.tree_field.specs.Field.{local_radius}
@@ -37,16 +38,6 @@ use Rattle.row_board.specs.declared.name.Name.TheVariants.{Up, Local}
 
 zero_row_within : (P n : ℕ) (m : ℕ → BoxEnds) → AreSameRows P m (λ k. zero_box) → RowWithin P n m
 zero_row_within P n m h k lt = subst (BoxEndsWithin n) (sym (h k lt)) (zero_within n)
-
--- each box of the slice stands in the row of some cell
-boxes_within : (P count n : ℕ) (rows : List CBox) → 0 < P → length rows ≡ count * P → ((m : ℕ) → m < count → RowWithin P n (row_at P rows m)) → All (BoxWithin n) rows
-boxes_within P count n rows positive len each k d lt =
-    let m : ℕ = k / P in
-    let j : ℕ = k % P in
-    let place : m * P + j ≡ k = div-add-mod' k P in
-    let inside : m < count = (div-lt_iff_lt-mul positive).1 (omega (arith, lt, len)) in
-    let low : j < P = omega arith in
-    subst (BoxWithin n) (ap (at rows) place ∙ get_or_default rows k zero_cbox d lt) (each m inside j low)
 
 -- how large a radius is
 pub record IsRadiusWithin (r : ℤ) : Type 0 where
@@ -79,10 +70,10 @@ module _ (P : ℕ) (b : BoardParts) (is : IsBoard P b) where
   local_within n lt = ⊎_elim (λ t. within_same P (2 ^ 82) _ _ (is.filled (Local n) t some_field.0 some_field.1).row_is (rows_within n lt).local) (λ f. zero_row_within P (2 ^ 82) _ (is.empty (Local n) f).row_is) (cases_Bool (is_filled b (Local n)))
 
   pub all_up_within : All (BoxWithin (2 ^ 80)) b.up
-  all_up_within = boxes_within P (size b.tree) (2 ^ 80) b.up (omega (arith, order_bounds P is.order)) is.up_rows (λ m lt. row_wider P (2 ^ 74) (2 ^ 80) _ (omega arith) (up_within m lt))
+  all_up_within = flat_within P (size b.tree) (2 ^ 80) b.up (omega (arith, order_bounds P is.order)) is.up_rows (λ m lt. wider P (2 ^ 74) (2 ^ 80) _ (omega arith) (up_within m lt))
 
   pub all_local_within : All (BoxWithin (2 ^ 90)) b.local
-  all_local_within = boxes_within P (size b.tree) (2 ^ 90) b.local (omega (arith, order_bounds P is.order)) is.local_rows (λ m lt. row_wider P (2 ^ 82) (2 ^ 90) _ (omega arith) (local_within m lt))
+  all_local_within = flat_within P (size b.tree) (2 ^ 90) b.local (omega (arith, order_bounds P is.order)) is.local_rows (λ m lt. wider P (2 ^ 82) (2 ^ 90) _ (omega arith) (local_within m lt))
 
   pub radius_within : (n : ℕ) → n < size b.tree → IsRadiusWithin (get_or b.radii n (pos 0))
   radius_within n lt = ⊎_elim

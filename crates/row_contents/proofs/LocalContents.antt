@@ -1,6 +1,6 @@
 -- Each local row of a tree contains the field of the entries of its cell and of the cells above it.
-use Rattle.std.proofs.Common.{ℕ, zero, suc, ◌≡◌, ◌*◌, ◌<◌, ◌≤◌, List, [], ◌∷◌, refl, sym, ap, ap₂, ◌∙◌, subst, arith}
-use Rattle.std.specs.Prelude.{All, Contains}
+use Rattle.std.proofs.Common.{ℕ, zero, suc, ◌≡◌, ◌*◌, ◌<◌, ◌≤◌, List, [], refl, sym, ap, ap₂, ◌∙◌, subst, arith}
+use Rattle.std.specs.Prelude.{All}
 use Rattle.std.proofs.lemmas.Bool.{and_parts}
 use Rattle.std.proofs.lemmas.List.Elements.{All-contains}
 use Rattle.std.proofs.lemmas.List.Folds.{fold-map}
@@ -15,7 +15,7 @@ use Rattle.cell_name.proofs.HoldsTest.{Holds-from_test}
 use Rattle.cell_lists.specs.Entries.{IsEntry, IsVPair, IsWPair}
 use Rattle.letters.specs.declared.Letter.TheVariants.{V, X}
 use Rattle.kernel_table.specs.Kernel.{kernel_entry}
-use Rattle.points.specs.Points.{is_source, place, pole, dipole}
+use Rattle.points.specs.Points.{is_source, place, strength}
 use Rattle.points.specs.declared.Point.{Point}
 use Rattle.quadtree.specs.Tree.{AreInGrid, IsTreeCell}
 use Rattle.quadtree.proofs.Distinct.{Contains-filter}
@@ -23,22 +23,20 @@ use Rattle.quadtree.proofs.Parents.{IsTreeCell-parent}
 use Rattle.row_recursions.specs.Fields.{HoldsField}
 use Rattle.row_recursions.specs.Geometry.{doubled_centre, sides_between}
 use Rattle.row_recursions.specs.Moments.{HoldsMoments}
-use Rattle.row_recursions.specs.Rows.{converted, far_source, shifted_down}
+use Rattle.row_recursions.specs.Rows.{converted, shifted_down}
 use Rattle.row_recursions.specs.Sources.{source_of}
 use Rattle.row_recursions.proofs.ConvertLaws.{field_converted}
 use Rattle.row_recursions.proofs.DownLaws.{field_down}
-use Rattle.row_recursions.proofs.FarLaws.{field_of_source}
 use Rattle.row_recursions.proofs.FieldLaws.{no_field, sum_of_fields}
 use Rattle.row_recursions.proofs.Geometry.{far_places, pairs_of_cells}
-use Rattle.row_recursions.proofs.Points.{pole_of-source, dipole_of-source, place_of-source}
+use Rattle.row_recursions.proofs.Points.{strength_field}
 use Rattle.soundness.specs.Computed.{total_row, far_coefficients_in}
 use Rattle.soundness.specs.Squares.{offset, quadrant, IsQuarterOf, IsFarFrom}
 use Rattle.soundness.proofs.Places.{side_positive, side_of-quarter, centre_of-quarter, norm_beyond}
 use Rattle.truncation.specs.Entries.{local_cut}
-use Rattle.truncation.specs.Places.{doubled_offset}
 use Rattle.tree_field.specs.Field.{is_source_in, sources_in, multipole_row, converted_rows, far_rows, local_row}
 use Rattle.tree_field.specs.Lists.{TreeLists, AreTreeLists}
-use Rattle.tree_field.proofs.LocalRows.{local_row-root, local_row-below}
+use Rattle.tree_field.proofs.LocalRows.{empty_from, local_row-root, local_row-below}
 use Rattle.quadtree.proofs.Lists.{All-from_members}
 use Rattle.row_contents.specs.Contents.{LocalRowsHold}
 use Rattle.row_contents.specs.Fields.{sources_of, pair_terms, far_terms, entry_terms}
@@ -55,14 +53,7 @@ pub far_positive : (b : Square) → 1 ≤ 3 * side b
 far_positive b = let s = side_positive b in omega arith
 
 far_point : (P : ℕ) (b : Square) (p : Point) → IsFarFrom b (place p) → Held P b (λ t. local_cut P (doubled_centre b) t (source_of p)) (far_coefficients_in b p)
-far_point P b p far =
-    let is = place_of-source (place p) p.kind in
-    let h = field_of_source P (side b) (doubled_centre b) (source_of p) (side_positive b)
-    (norm_beyond (3 * side b) (doubled_offset (source_of p).place (doubled_centre b)) (far_positive b) (subst (IsFarFrom b) (sym is) far)) in
-    HoldsField-same P (side b) (doubled_centre b) _ _ _ (far_coefficients_in b p) (λ t. refl)
-    (λ l. ap₂ (λ u v. far_source (side b) u v (doubled_offset (source_of p).place (doubled_centre b)) l) (pole_of-source (place p) p.kind) (dipole_of-source (place p) p.kind)
-    ∙ ap (λ z. far_source (side b) (pole p.kind) (dipole p.kind) (offset b z) l) is)
-    h
+far_point P b p far = strength_field P (side b) (doubled_centre b) (place p) (strength p.kind) (side_positive b) (norm_beyond (3 * side b) (offset b (place p)) (far_positive b) far)
 
 module _ (grid : ℕ) (points : List Point) (cap P : ℕ) (positive : 0 < grid) (inside : AreInGrid grid points) where
   -- ---- one entry
@@ -102,10 +93,6 @@ module _ (grid : ℕ) (points : List Point) (cap P : ℕ) (positive : 0 < grid) 
         (λ k d lt. far_held b _ ((are.entries_are X b tb).entries k d lt).pair))
 
     -- the root has none
-    empty_from : (xs : List Square) → ((c : Square) → Contains xs c → ⊥) → xs ≡ []
-    empty_from [] h = refl
-    empty_from (x ∷ xs) h = absurd (h x (0, omega arith, refl))
-
     root_V : (b : Square) → IsTreeCell grid points cap b → b.level ≡ 0 → lists.entries V b ≡ []
     root_V b tb e = empty_from (lists.entries V b) (λ c h. let p = (All-contains (IsEntry grid points cap V b) (lists.entries V b) c (are.entries_are V b tb).entries h).pair in no c p)
       where

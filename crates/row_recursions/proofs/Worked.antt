@@ -6,7 +6,7 @@ use Rattle.exact_math.specs.Gaussian.{Gaussian, gaussian}
 use Rattle.kernel_table.specs.Kernel.{kernel_power, kernel_entry}
 use Rattle.row_recursions.specs.Rows.{pole_moment, dipole_moment, source_moment, up_round, shifted_up, converted, far_pole, far_dipole, far_source, down_round, shifted_down, local_round, local_value, multipole_round, multipole_value}
 
-abbrev box : ℤ → ℤ → ℤ → ℤ → BoxEnds
+abbrev pub box : ℤ → ℤ → ℤ → ℤ → BoxEnds
 box a b c d = record { re = record { lo = a; hi = b }; im = record { lo = c; hi = d } }
 
 abbrev none : Gaussian

@@ -22,6 +22,7 @@ use Rattle.tree_field.proofs.Leaves.{same_test}
 use Rattle.quadtree.proofs.Lists.{All-from_members, range_below}
 use Rattle.tree_field.proofs.Program.{lists_of_tree}
 use Rattle.tree_field.proofs.Sums.{sum_by-map, sum_by-same}
+use Rattle.tree_field.proofs.Work.{sum_by_numbers, sum_by_rows}
 use Rattle.sample_summary.specs.Summary.{is_leaf, entry_count}
 
 -- ---- the next of the first n numbers
@@ -35,16 +36,6 @@ counted_yes p n k was now lt e at_k more =
 pub counted_no : (p : ℕ → Bool) (n k was now : ℕ) → k < n → was ≡ count_by p (take k (range_with_len 0 n)) → p k ≡ false → now ≡ was → now ≡ count_by p (take (k + 1) (range_with_len 0 n))
 counted_no p n k was now lt e at_k same =
     same ∙ e ∙ sym (count_by_more_no p (range_with_len 0 n) k 0 (omega (arith, length-range_with_len 0 n)) (ap p (number_at n k lt) ∙ at_k))
-
--- ---- sums over all cells, and over the rows of lists
-by_numbers : (tree : TreeModel) (f : Square → ℕ) (g : ℕ → ℕ) → ((n : ℕ) → n < size tree → f (square_of tree n) ≡ g n) → sum_by f (squares tree) ≡ sum_by g (range_with_len 0 (size tree))
-by_numbers tree f g same =
-    ap (sum_by f) (fill_by_all (square_of tree) (squares tree) (size tree) (root 16) (length-map tree.cells square) (λ k lt. refl))
-    ∙ sum_by-map f (square_of tree) (range_with_len 0 (size tree))
-    ∙ sum_by-same (λ n. f (square_of tree n)) g (range_with_len 0 (size tree)) (All-from_members (λ n. f (square_of tree n) ≡ g n) (range_with_len 0 (size tree)) (λ n h. same n (range_below (size tree) n h)))
-
-by_rows : (rows : List (List ℕ)) (n : ℕ) (f : List ℕ → ℕ) → length rows ≡ n → sum_by f rows ≡ sum_by (λ k. f (row rows k)) (range_with_len 0 n)
-by_rows rows n f e = ap (sum_by f) (fill_by_all (row rows) rows n [] e (λ k lt. refl)) ∙ sum_by-map f (row rows) (range_with_len 0 n)
 
 -- ---- whether a cell is a leaf
 leaf_is : (points : List Point) (cap : ℕ) (c : Square) (b : Bool) → IsTreeCell 16 points cap c → IsTrue b ↔ IsLeaf 16 points cap c → b ≡ is_leaf points cap c
@@ -65,12 +56,12 @@ module _ (tree : TreeModel) (lists : EntryLists) (points : List Point) (cap : �
 
   pub leaves_are : count_by (λ n. (node_of tree n).is_leaf) (range_with_len 0 (size tree)) ≡ count_by (is_leaf points cap) these.cells
   leaves_are = sym (ap (count_by (is_leaf points cap)) (lists_of_tree tree lists points cap these inside h are a).cells
-      ∙ by_numbers tree (λ c. cond (is_leaf points cap c) 1 0) (λ n. cond (node_of tree n).is_leaf 1 0)
+      ∙ sum_by_numbers tree (λ c. cond (is_leaf points cap c) 1 0) (λ n. cond (node_of tree n).is_leaf 1 0)
       (λ n lt. ap (λ (b : Bool). cond {A = ℕ} b 1 0) (sym (leaf_is points cap (square_of tree n) (node_of tree n).is_leaf (tree_cell_at tree points cap n h lt) (h.nodes_are n lt).leaf))))
 
   pub entries_are : (letter : Letter) → sum_by (λ list. length list) (lists_of lists letter) ≡ entry_count these letter
   entries_are letter =
       let of = lists_of_tree tree lists points cap these inside h are a in
-      by_rows (lists_of lists letter) (size tree) (λ list. length list) (are.as_many letter)
+      sum_by_rows (lists_of lists letter) (size tree) (λ list. length list) (are.as_many letter)
       ∙ sym (ap (sum_by (λ b. length (these.entries letter b))) of.cells
-      ∙ by_numbers tree (λ b. length (these.entries letter b)) (λ n. length (row (lists_of lists letter) n)) (λ n lt. ap length (of.entries letter n lt) ∙ length-map (row (lists_of lists letter) n) (square_of tree)))
+      ∙ sum_by_numbers tree (λ b. length (these.entries letter b)) (λ n. length (row (lists_of lists letter) n)) (λ n lt. ap length (of.entries letter n lt) ∙ length-map (row (lists_of lists letter) n) (square_of tree)))

@@ -1,5 +1,5 @@
 //! The lines of a summary, each put before the text behind it.
-ghost use Rattle.std.specs.Prelude.{◌≡◌, ◌+◌, ◌≤◌, ◌++◌, length, decimal};
+ghost use Rattle.std.specs.Prelude.{◌≡◌, ◌+◌, ◌≤◌, ◌++◌, length};
 ghost use Rattle.field_report.specs.Report.{work_line};
 ghost use Rattle.sample_summary.specs.Text.{summary_text, sample_line, points_line, tree_line, lists_line, widest_line};
 

@@ -1,7 +1,6 @@
 //! Writing a summary.
-ghost use Rattle.std.specs.Prelude.{◌≡◌, OnOk, OnErr, length};
-ghost use Rattle.std.specs.Io.KnownBytes.{Appends};
-ghost use Rattle.io_ports.specs.Bytes.{AppendsPrefix};
+ghost use Rattle.std.specs.Prelude.{length};
+ghost use Rattle.io_ports.specs.Bytes.{Writes};
 ghost use Rattle.io_ports.specs.Faults.{HasCause};
 ghost use Rattle.sample_summary.specs.Summary.{summary_of};
 ghost use Rattle.sample_summary.specs.Text.{summary_text};
@@ -28,8 +27,8 @@ pub fn write_summary<const P: usize, S: Sink>(
     sink: &mut S,
 ) -> Result<(), WriteFault>
     requires { IsSolved points.now.list cap P (kept field.now) }
-    ensures done { (lists : TreeLists) → AreTreeLists 16 points.now.list cap lists → OnOk result (Appends (S.held sink.old) (S.held sink.new) (summary_text seed (length points.now.list) P cap (summary_of points.now.list cap P lists))) }
-    ensures part { (lists : TreeLists) → AreTreeLists 16 points.now.list cap lists → OnErr result (AppendsPrefix (S.held sink.old) (S.held sink.new) (summary_text seed (length points.now.list) P cap (summary_of points.now.list cap P lists))) }
+    ensures bytes { (lists : TreeLists) → AreTreeLists 16 points.now.list cap lists
+        → Writes result (S.held sink.old) (S.held sink.new) (summary_text seed (length points.now.list) P cap (summary_of points.now.list cap P lists)) }
     ensures cause { HasCause (S.faults sink.old) (S.faults sink.new) result }
 {
     let summary = Summary::of(points.list.points(), field);

@@ -15,22 +15,8 @@ use Rattle.tree_field.specs.Lists.{TreeLists}
 use Rattle.tree_rows.specs.FieldRows.{AreFieldRows, IsFieldOf}
 use Rattle.tree_rows.specs.FlatRows.{row_at}
 use Rattle.tree_rows.specs.Trees.{IsTreeOfPoints}
+use Rattle.tree_rows.proofs.FlatRows.{flat_within}
 use Rattle.downward_rows.proofs.FieldSizes.{some_field, multipole_small, local_small}
-
--- the k-th box is one of the row k / P
-record Place (P count k : ℕ) : Type 0 where
-  row : k / P < count
-  box : k % P < P
-  here : (k / P) * P + k % P ≡ k
-
-place : (P count k : ℕ) → 0 < P → k < count * P → Place P count k
-place P count k p lt = record { row = grind arith; box = grind arith; here = grind arith }
-
-pub flat_within : (P count n : ℕ) (rows : List CBox) → 0 < P → length rows ≡ count * P → ((m : ℕ) → m < count → RowWithin P n (row_at P rows m)) → All (BoxWithin n) rows
-flat_within P count n rows p e h k d lt =
-    let at = place P count k p (omega arith) in
-    let one : BoxEndsWithin n (box_ends (get_or rows ((k / P) * P + k % P) zero_cbox)) = h (k / P) at.row (k % P) at.box in
-    subst (λ b. BoxEndsWithin n (box_ends b)) (ap (λ i. get_or rows i zero_cbox) at.here ∙ get_or_default rows k zero_cbox d lt) one
 
 module _ (P : ℕ) (order : IsOrder P) (points : List Point) (tree : TreeModel) (has : IsTreeOfPoints points tree) (up local : List CBox) (radii : List ℤ)
     (rows : (cap : ℕ) (field : TreeLists) → IsFieldOf points cap tree field → AreFieldRows points cap P tree field up local radii) where

@@ -10,6 +10,7 @@ use Rattle.cell_name.specs.Square.{Square}
 use Rattle.letters.specs.declared.Entry.{Entry}
 use Rattle.letters.specs.declared.Letter.TheVariants.{U}
 use Rattle.points.specs.declared.Kind.TheVariants.{Charge}
+use Rattle.row_recursions.proofs.Worked.{box}
 use Rattle.row_recursions.specs.Rows.{source_moment, pole_moment, dipole_moment, local_value, local_round}
 use Rattle.soundness.specs.Accounts.{LeafSource, LeafTarget, Accounting, under, is_leaf, accounts}
 use Rattle.soundness.specs.Computed.{leaf_row, local_row, local_radius, target_box}
@@ -17,9 +18,6 @@ use Rattle.soundness.specs.Rules.{RowInside, SourceStands, TargetStands, Apart, 
 use Rattle.soundness.specs.Soundness.{BoxesContain}
 use Rattle.soundness.proofs.Inside.{BoxEndsInside-same}
 use Rattle.soundness.proofs.Targets.{boxes_contain}
-
-abbrev box : ℤ → ℤ → ℤ → ℤ → BoxEnds
-box a b c d = record { re = record { lo = a; hi = b }; im = record { lo = c; hi = d } }
 
 abbrev whole_grid : Square
 whole_grid = record { grid = 16; level = 0; i = 0; j = 0 }
@@ -52,7 +50,7 @@ presented = record {
 }
 
 -- a fact of the only member
-only : {X : Type 0} (P : X → Type 0) (x : X) → P x → All P (x ∷ [])
+pub only : {X : Type 0} (P : X → Type 0) (x : X) → P x → All P (x ∷ [])
 only P x h zero d l = h
 only P x h (suc k) d l = absurd (omega arith)
 

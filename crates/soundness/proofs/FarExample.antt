@@ -20,6 +20,7 @@ use Rattle.soundness.specs.Accounts.{LeafSource, LeafTarget, Accounting, under, 
 use Rattle.soundness.specs.Computed.{total_row, moments_in, leaf_row, shifted_rows, local_row, local_radius, target_box}
 use Rattle.soundness.specs.Rules.{RowInside, SourceStands, TargetStands, Apart, Rules}
 use Rattle.soundness.specs.Soundness.{BoxesContain}
+use Rattle.soundness.proofs.Example.{only}
 use Rattle.soundness.proofs.Inside.{BoxEndsInside-same, RowInside-same}
 use Rattle.soundness.proofs.Targets.{boxes_contain}
 
@@ -167,10 +168,6 @@ four P a b c d p q r s (suc zero) z l = q
 four P a b c d p q r s (suc (suc zero)) z l = r
 four P a b c d p q r s (suc (suc (suc zero))) z l = s
 four P a b c d p q r s (suc (suc (suc (suc k)))) z l = absurd (omega arith)
-
-only : {X : Type 0} (P : X → Type 0) (x : X) → P x → All P (x ∷ [])
-only P x h zero d l = h
-only P x h (suc k) d l = absurd (omega arith)
 
 -- the path from the leaf 3
 on_path : (P : ℕ → Type 0) → P 3 → P 1 → P 0 → (n : ℕ) → under above 3 n ≡ true → P n

@@ -17,13 +17,12 @@ use Rattle.letters.specs.declared.Letter.{Letter}
 use Rattle.complex_box.specs.Box.{box_ends, BoxWithin}
 use Rattle.complex_box.specs.Rows.{zero_cbox}
 use Rattle.complex_box.specs.declared.CBox.{CBox}
-use Rattle.points.specs.Limits.{InRange, most_points}
+use Rattle.points.specs.Limits.{most_points}
 use Rattle.points.specs.declared.Point.{Point}
 use Rattle.quadtree.specs.Members.{members_of, holds_position}
 use Rattle.quadtree.specs.Tree.{AreInGrid}
 use Rattle.quadtree.specs.TreeModel.{TreeModel, IsTreeOf, size, square_of, node_of}
 use Rattle.quadtree.proofs.Distinct.{Contains-filter}
-use Rattle.row_recursions.proofs.Points.{grid_of}
 use Rattle.row_recursions.specs.Rows.{row_of}
 use Rattle.row_recursions.specs.Sizes.{RowWithin}
 use Rattle.quadtree.proofs.Lists.{All-from_members, range_below}
@@ -45,9 +44,6 @@ few_below n (x ∷ xs) below up =
         let next : get_or (x ∷ xs) (k + 1) 0 ≡ get_or (x ∷ xs) (suc k) 0 = ap (λ j. get_or (x ∷ xs) j 0) e in
         let f = up k (omega arith) in
         omega (arith, next, f, h)
-
-pub in_grid : (points : List Point) → All InRange points → AreInGrid 16 points
-in_grid points range k d lt = grid_of _ _ (range k d lt).grid
 
 -- ---- a list of entries, as it is read
 module _ (tree : TreeModel) (lists : EntryLists) (points : List Point) (cap : ℕ) (inside : AreInGrid 16 points) (h : IsTreeOf 16 tree points cap) (are : AreLists tree lists) (letter : Letter) (b : ℕ) (lt : b < size tree)

@@ -24,7 +24,7 @@ use Rattle.target_values.specs.Points.{point_at}
 use Rattle.target_values.specs.Targets.{target_positions}
 use Rattle.target_values.specs.Values.{value_at}
 use Rattle.target_values.proofs.FieldBox.{box_is, boxes_contain}
-use Rattle.target_values.proofs.Numbers.{in_grid}
+use Rattle.quadtree.proofs.Limits.{in_grid}
 use Rattle.target_values.proofs.Sums.{map-same}
 use Rattle.target_values.proofs.Positions.{targets_at, positions_are, rows_of_leaf}
 

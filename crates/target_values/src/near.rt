@@ -1,13 +1,12 @@
 //! The pairs of a target with the sources of its leaf's U entries.
-ghost use Rattle.std.specs.Prelude.{◌≡◌, ℕ, ◌+◌, ◌^◌, ◌<◌, ◌≤◌, length, [], ◌∷◌, fold, All, sum_by};
+ghost use Rattle.std.specs.Prelude.{◌≡◌, ℕ, ◌+◌, ◌^◌, ◌<◌, ◌≤◌, length, [], ◌∷◌, fold, All};
 ghost use Rattle.exact_math.specs.Ends.{add_box};
 ghost use Rattle.complex_box.specs.Box.{box_ends, BoxWithin};
 ghost use Rattle.cell_lists.specs.Lists.{AreLists};
-ghost use Rattle.cell_lists.specs.Row.{row};
 ghost use Rattle.points.specs.Points.{place};
 ghost use Rattle.near_field.specs.Pair.{pair_box};
 ghost use Rattle.points.specs.Limits.{InGrid, InRange};
-ghost use Rattle.quadtree.specs.TreeModel.{size, node_of};
+ghost use Rattle.quadtree.specs.TreeModel.{size};
 ghost use Rattle.soundness.specs.Computed.{total_box};
 ghost use Rattle.tree_rows.specs.Trees.{IsTreeOfPoints};
 ghost use Rattle.target_values.specs.Points.{sources, sources_at, count_apart};

@@ -59,7 +59,7 @@ pub local_radius-below : (points : List Point) (cap P : ℕ) (lists : TreeLists)
     → local_radius points cap P lists b ≡ local_radius points cap P lists (parent b) + (sum_by (pair_radius_in points P (side b)) (lists.entries V b) + sum_by (single_radius_in points P (side b)) (lists.entries X b))
 local_radius-below points cap P lists b lo = below_radius points cap P lists b.level b refl lo
 
-empty_from : (xs : List Square) → ((c : Square) → Contains xs c → ⊥) → xs ≡ []
+pub empty_from : (xs : List Square) → ((c : Square) → Contains xs c → ⊥) → xs ≡ []
 empty_from [] h = refl
 empty_from (x ∷ xs) h = absurd (h x (0, omega arith, refl))
 

@@ -25,7 +25,7 @@ use Rattle.tree_field.proofs.Program.{lists_of_tree, nodes_of_tree}
 use Rattle.tree_field.proofs.Sums.{sum_by-map, sum_by-same}
 
 -- a sum over all cells, by their numbers
-sum_by_numbers : (tree : TreeModel) (f : Square → ℕ) (g : ℕ → ℕ) → ((n : ℕ) → n < size tree → f (square_of tree n) ≡ g n) → sum_by f (squares tree) ≡ sum_by g (range_with_len 0 (size tree))
+pub sum_by_numbers : (tree : TreeModel) (f : Square → ℕ) (g : ℕ → ℕ) → ((n : ℕ) → n < size tree → f (square_of tree n) ≡ g n) → sum_by f (squares tree) ≡ sum_by g (range_with_len 0 (size tree))
 sum_by_numbers tree f g same =
     ap (sum_by f) (fill_by_all (square_of tree) (squares tree) (size tree) (root 16) (length-map tree.cells square) (λ k lt. refl))
     ∙ sum_by-map f (square_of tree) (range_with_len 0 (size tree))
@@ -35,7 +35,7 @@ zero_is : (n : ℕ) → n ≤ 0 → n ≡ 0
 zero_is n le = omega arith
 
 -- a sum over the rows of lists
-sum_by_rows : (rows : List (List ℕ)) (n : ℕ) (f : List ℕ → ℕ) → length rows ≡ n → sum_by f rows ≡ sum_by (λ k. f (row rows k)) (range_with_len 0 n)
+pub sum_by_rows : (rows : List (List ℕ)) (n : ℕ) (f : List ℕ → ℕ) → length rows ≡ n → sum_by f rows ≡ sum_by (λ k. f (row rows k)) (range_with_len 0 n)
 sum_by_rows rows n f e = ap (sum_by f) (fill_by_all (row rows) rows n [] e (λ k lt. refl)) ∙ sum_by-map f (row rows) (range_with_len 0 n)
 
 module _ (tree : TreeModel) (points : List Point) (cap : ℕ) (inside : AreInGrid 16 points) (h : IsTreeOf 16 tree points cap) where

@@ -1,7 +1,6 @@
 -- The field, computed, against boxes that are known from elsewhere.
 use Rattle.std.specs.Prelude.{ℕ, ℤ, pos, neg_ℤ, ◌≡◌, ◌==◌, Bool, ◌&&◌, cond, List, [], ◌∷◌}
 use mathlib.Core.Path.{refl}
-use Rattle.exact_math.specs.Ends.{BoxEnds}
 use Rattle.exact_math.specs.Gaussian.{gaussian}
 use Rattle.cell_name.specs.Square.{Square}
 use Rattle.letters.specs.declared.Letter.{Letter}
@@ -9,6 +8,7 @@ use Rattle.letters.specs.declared.Letter.TheVariants.{U, V, W, X}
 use Rattle.kernel_table.specs.Kernel.{kernel_power, kernel_entry}
 use Rattle.points.specs.declared.Kind.TheVariants.{Charge, Target}
 use Rattle.points.specs.declared.Point.{Point}
+use Rattle.row_recursions.proofs.Worked.{box}
 use Rattle.row_recursions.specs.Rows.{pole_moment, dipole_moment, source_moment, up_round, shifted_up, converted, far_pole, far_dipole, far_source, down_round, shifted_down, local_round, local_value, multipole_round, multipole_value}
 use Rattle.truncation.specs.Tails.{pair_tail, single_tail}
 use Rattle.quadtree.specs.Splitting.{cells_to_level}
@@ -16,9 +16,6 @@ use Rattle.tree_field.specs.Lists.{TreeLists}
 use Rattle.tree_field.proofs.Sorting.{sorted_cells}
 use Rattle.tree_field.specs.Field.{multipole_above, leaf_below, local_at_level, radius_at_level, target_box}
 use Rattle.tree_field.specs.Work.{translations, pairs}
-
-abbrev box : ℤ → ℤ → ℤ → ℤ → BoxEnds
-box a b c d = record { re = record { lo = a; hi = b }; im = record { lo = c; hi = d } }
 
 abbrev charge : ℤ → Point
 charge x = record { x = x; y = pos 0; kind = Charge (pos 1) }

@@ -105,7 +105,7 @@ module _ {A : Type 0} (exact cut : A → ComplexRatio) (weight : A → ℕ) (T n
   Truncated-sum xs each = Truncated-fold xs zero_complex zero_complex 0 (subst (λ m. Truncated zero_complex zero_complex m n) {x = 0} {y = 0 * T} (omega arith) (Truncated-zero n)) each
 
 -- ---- the radius
-neg_floor : (m n : ℕ) → floor_div (neg_ℤ (pos m)) (pos n) ≡ neg_ℤ (ceil_div (pos m) (pos n))
+pub neg_floor : (m n : ℕ) → floor_div (neg_ℤ (pos m)) (pos n) ≡ neg_ℤ (ceil_div (pos m) (pos n))
 neg_floor m n = twice_negated (floor_div (neg_ℤ (pos m)) (pos n))
   where
     twice_negated : (z : ℤ) → z ≡ neg_ℤ (neg_ℤ z)

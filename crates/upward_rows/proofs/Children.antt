@@ -15,11 +15,7 @@ use Rattle.quadtree.proofs.Distinct.{Contains-filter, Contains-into_filter}
 use Rattle.tree_field.specs.Program.{source_children}
 use Rattle.quadtree.proofs.Lists.{Contains-range, range_below}
 use Rattle.tree_rows.specs.Trees.{IsTreeOfPoints}
-use Rattle.upward_rows.proofs.Counts.{in_grid}
 use Rattle.upward_rows.proofs.Trees.{quarter_behind}
-
-pub tree_is : (points : List Point) (tree : TreeModel) → IsTreeOfPoints points tree → IsTree tree
-tree_is points tree h = record { points = points; cap = h.cap; in_grid = in_grid points h.range; few_points = h.few; is_tree = h.is_tree }
 
 -- a cell with a greater number
 pub record IsBehind (tree : TreeModel) (n m : ℕ) : Type 0 where

@@ -1,32 +1,27 @@
 -- How many rows are shifted up in all: one for each cell below the root that has a source.
 use Rattle.std.proofs.Common.{ℕ, ◌≡◌, ◌≢◌, ◌+◌, ◌-◌, ◌<◌, ◌≤◌, suc, inl, inr, List, [], ◌∷◌, length, filter, Bool, true, false, cond, refl, sym, ap, ap₂, ◌∙◌, subst, arith, length-append}
-use Rattle.std.specs.Prelude.{All, AllPairs, Contains, nat_lt, sum_by, count_by}
+use Rattle.std.specs.Prelude.{AllPairs, Contains, nat_lt, sum_by, count_by}
 use Rattle.std.specs.List.{flat_map, range_with_len}
 use Rattle.std.proofs.lemmas.Bool.{and_parts, and_from, lt-ltb, ltb-true}
 use Rattle.std.proofs.lemmas.List.{length-map}
-use Rattle.std.proofs.lemmas.List.Elements.{All-weaker, All-contains}
+use Rattle.std.proofs.lemmas.List.Elements.{All-contains}
 use Rattle.std.proofs.lemmas.List.Kept.{AllPairs-filter}
-use Rattle.std.proofs.lemmas.List.Sums.{sum_by-cons, length-filter, count_by-le-length}
+use Rattle.std.proofs.lemmas.List.Sums.{sum_by-cons, length-filter}
 use Rattle.cell_name.specs.Cell.{square}
-use Rattle.cell_name.specs.Square.{Square, parent, IsInGrid}
+use Rattle.cell_name.specs.Square.{Square, parent}
 use Rattle.points.specs.declared.Point.{Point}
-use Rattle.points.specs.Limits.{InRange}
 use Rattle.cell_name.specs.Quarters.{quarters}
 use Rattle.quadtree.specs.Tree.{AreInGrid, IsTreeCell, IsSplit, IsLeaf}
 use Rattle.quadtree.specs.TreeModel.{TreeModel, size, squares, square_of, node_of, IsTreeOf}
 use Rattle.quadtree.proofs.Distinct.{Contains-filter, Contains-into_filter, Contains-flat_map, comes_from, different-flat_map, length-le_from_different}
 use Rattle.quadtree.proofs.Parents.{IsTreeCell-parent, IsTreeCell-below}
 use Rattle.cell_name.proofs.Quarters.{IsQuarter, quarters_are, quarters_contain, quarters_differ}
-use Rattle.row_recursions.proofs.Points.{grid_of}
 use Rattle.tree_field.specs.Field.{has_source}
 use Rattle.quadtree.proofs.Ascending.{ascending_differ}
 use Rattle.quadtree.proofs.Lists.{AllPairs-range, Contains-range, range_below}
 use Rattle.tree_field.proofs.Numbers.{number, number_below, cell_of_number, number_of_cell}
 use Rattle.upward_rows.specs.Upward.{shifts_into, is_shifted}
 use Rattle.upward_rows.proofs.Trees.{inner_is, quarter_listed}
-
-pub in_grid : (points : List Point) → All InRange points → AreInGrid 16 points
-in_grid points h = All-weaker InRange (λ p. IsInGrid 16 p.x p.y) (λ p r. grid_of p.x p.y r.grid) points h
 
 -- the quarters whose rows are shifted into that of the cell n
 abbrev shifted_quarters : List Point → TreeModel → ℕ → List Square
@@ -35,13 +30,6 @@ shifted_quarters points tree n = cond (node_of tree n).is_leaf [] (filter (has_s
 as_many : (b : Bool) (p : Square → Bool) (xs : List Square) → cond {A = ℕ} b 0 (count_by p xs) ≡ length (cond b [] (filter p xs))
 as_many true p xs = refl
 as_many false p xs = sym (length-filter p xs)
-
-at_most : (b : Bool) (p : Square → Bool) (xs : List Square) → cond {A = ℕ} b 0 (count_by p xs) ≤ length xs
-at_most true p xs = omega arith
-at_most false p xs = count_by-le-length p xs
-
-pub shifts_few : (points : List Point) (tree : TreeModel) (n : ℕ) → shifts_into points tree n ≤ 4
-shifts_few points tree n = at_most (node_of tree n).is_leaf (has_source points) (quarters (square_of tree n))
 
 shifts_are : (points : List Point) (tree : TreeModel) (xs : List ℕ) → sum_by (shifts_into points tree) xs ≡ length (flat_map (shifted_quarters points tree) xs)
 shifts_are points tree [] = refl

@@ -24,8 +24,9 @@ use Rattle.tree_field.proofs.Sums.{total_box-map, total_box-same}
 use Rattle.tree_rows.specs.FlatRows.{AreSameRows}
 use Rattle.tree_rows.specs.Trees.{IsTreeOfPoints}
 use Rattle.upward_rows.specs.Upward.{row_from}
-use Rattle.upward_rows.proofs.Children.{tree_is, child_behind}
-use Rattle.upward_rows.proofs.Counts.{in_grid}
+use Rattle.tree_rows.proofs.Trees.{some_tree}
+use Rattle.upward_rows.proofs.Children.{child_behind}
+use Rattle.quadtree.proofs.Limits.{in_grid}
 use Rattle.upward_rows.proofs.Totals.{shifted_same}
 use Rattle.upward_rows.proofs.Trees.{cell_is, inner_is, row_of_leaf}
 
@@ -51,7 +52,7 @@ module _ (tree : TreeModel) (points : List Point) (of_points : IsTreeOfPoints po
         ∙ ap (λ b. cond b (leaf_row points (square_of tree n)) (total_row (λ m. shifted_up (rows m) (quadrant (square_of tree m))) (source_children tree n)) k) (sym inner)
       where
         one : (m : ℕ) → Contains (source_children tree n) m → quarter_row tree rows (square_of tree m) k ≡ shifted_up (rows m) (quadrant (square_of tree m)) k
-        one m listed = ap (λ j. shifted_up (rows j) (quadrant (square_of tree m)) k) (number_of m (child_behind tree (tree_is points tree of_points) n m listed).inside)
+        one m listed = ap (λ j. shifted_up (rows j) (quadrant (square_of tree m)) k) (number_of m (child_behind tree (some_tree points tree of_points) n m listed).inside)
 
     module _ (P : ℕ) (rows : ℕ → ℕ → BoxEnds) (cap : ℕ) (is : IsTreeOf 16 tree points cap) (same : (m : ℕ) → Contains (source_children tree n) m → AreSameRows P (rows m) (multipole_row points cap (square_of tree m))) where
       pub is_multipole_row : AreSameRows P (row_from tree points rows n) (multipole_row points cap (square_of tree n))

@@ -1,26 +1,23 @@
 -- What a tree says of a cell by its number, in the words of the field.
 use Rattle.std.proofs.Common.{ℕ, ◌≡◌, ◌+◌, ◌*◌, ◌/◌, ◌%◌, ◌<◌, ◌≤◌, zero, suc, inl, inr, ◌⊎◌, List, [], ◌∷◌, ◌++◌, length, get_or, take, filter, Bool, true, false, cond, refl, sym, ap, ap₂, ◌∙◌, subst, arith, append-nil}
 use Rattle.std.specs.Prelude.{Contains, ◌==◌}
-use Rattle.std.proofs.lemmas.Bool.{false≢true, cases_Bool, cases_lt, and_parts, and_from}
+use Rattle.std.proofs.lemmas.Bool.{false≢true, cases_Bool, cases_lt}
 use Rattle.std.proofs.lemmas.List.{take_more, length-map, get_or_read}
 use Rattle.std.proofs.lemmas.List.Elements.{filter-append, All-get_or}
 use Rattle.cell_name.specs.Cell.{square, half_number}
 use Rattle.cell_name.specs.Order.{IsBefore}
-use Rattle.cell_name.specs.Square.{Square, root, child, holds_test}
+use Rattle.cell_name.specs.Square.{Square, root, child}
 use Rattle.cell_name.specs.declared.cell.Quadrant.{Quadrant}
-use Rattle.cell_name.proofs.HoldsTest.{Holds-from_test, test-from_Holds}
-use Rattle.points.specs.Points.{is_source, IsSource}
 use Rattle.points.specs.declared.Point.{Point}
 use Rattle.cell_name.specs.Quarters.{quarter, quarters}
-use Rattle.quadtree.specs.Tree.{count_in, IsTreeCell, IsSplit, HasSource}
+use Rattle.quadtree.specs.Tree.{count_in, IsTreeCell, IsSplit}
 use Rattle.quadtree.specs.TreeModel.{TreeModel, size, squares, square_of, node_of, IsTreeOf}
-use Rattle.quadtree.proofs.Counts.{count_by-listed}
 use Rattle.quadtree.proofs.Parents.{leaf_or_split, IsTreeCell-from_below}
 use Rattle.cell_name.proofs.Quarters.{IsQuarter, quarters_are}
 use Rattle.row_recursions.specs.Cells.{sign, quadrant_of}
 use Rattle.exact_math.specs.Gaussian.{gaussian}
 use Rattle.soundness.specs.Squares.{quadrant}
-use Rattle.tree_field.specs.Field.{is_source_in, has_source, leaf_row, multipole_row}
+use Rattle.tree_field.specs.Field.{has_source, leaf_row, multipole_row}
 use Rattle.tree_field.proofs.Occupants.{HasSource-from_test, test-from_HasSource, occupied_from_source}
 use Rattle.tree_field.proofs.MultipoleRows.{multipole_row-leaf}
 

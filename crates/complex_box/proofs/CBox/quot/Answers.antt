@@ -9,4 +9,4 @@ returns-clause-ends c =
     parts-same (simp to_z-of_z at c.quot.ensures.ends) (simp to_z-of_z at c.quot-2.ensures.ends)
 
 pub returns-clause-contains : goal.returns-clause-contains
-returns-clause-contains c z p = contains_by (returns-clause-ends c) (BoxEndsContain-quot p c.args.n c.requires)
+returns-clause-contains c u z p = contains_by (returns-clause-ends c) (BoxEndsContain-quot p c.args.n c.requires)

@@ -8,7 +8,7 @@ use Rattle.row_recursions.proofs.Points.{weight_bounded}
 use Rattle.row_recursions.specs.Rows.{row_of}
 use Rattle.downward_rows.specs.Entries.{weight64_of, far_weight_at}
 use Rattle.downward_rows.proofs.FarPoints.{blank, is_there, far_read}
-use Rattle.downward_rows.proofs.Totals.{row_wider}
+use Rattle.field_sizes.proofs.RowTotals.{wider}
 use Rattle.downward_rows.proofs.far.add_position.Goals as goal
 
 pub add_far_source-requires-clause-range : goal.add_far_source-requires-clause-range
@@ -33,4 +33,4 @@ pub returns-clause-size : goal.returns-clause-size
 returns-clause-size g c = λ n h.
     let here = is_there c.args.points.now c.args.k c.requires.far.inside in
     let e = light c.args.points.now c.args.k (get_or c.args.points.now c.args.k blank) here in
-    row_wider g.row.P (n + 2 ^ 40 * weight64 (get_or c.args.points.now c.args.k blank)) (n + 2 ^ 40 * far_weight_at c.args.points.now c.args.k) (row_of c.add_far_source.new.into) (omega arith) (c.add_far_source.ensures.size n h)
+    wider g.row.P (n + 2 ^ 40 * weight64 (get_or c.args.points.now c.args.k blank)) (n + 2 ^ 40 * far_weight_at c.args.points.now c.args.k) (row_of c.add_far_source.new.into) (omega arith) (c.add_far_source.ensures.size n h)

@@ -13,7 +13,7 @@ use Rattle.soundness.specs.Computed.{total_row}
 use Rattle.soundness.specs.Squares.{quadrant}
 use Rattle.downward_rows.specs.Entries.{IsPairAt, pair_row, far_row_of, far_weight}
 use Rattle.downward_rows.proofs.FilledRows.{zero_row_within, three_added, quadrant_read, within_listed}
-use Rattle.downward_rows.proofs.Totals.{row_wider}
+use Rattle.field_sizes.proofs.RowTotals.{wider}
 use Rattle.downward_rows.proofs.rows.fill_below.Goals as goal
 
 pub add_pairs-requires : goal.add_pairs-requires
@@ -37,7 +37,7 @@ add_pairs-requires g c =
                   (
                     c.shift_down.ensures.len,
                     (
-                      row_wider g.row.P (2 ^ 90 + 0) (2 ^ 90) (row_of c.shift_down.new.into) (omega arith)
+                      wider g.row.P (2 ^ 90 + 0) (2 ^ 90) (row_of c.shift_down.new.into) (omega arith)
                           (c.shift_down.ensures.size (2 ^ 90) 0 c.requires.parent (zero_row_within g.row.P c.clear.new.cells (c.clear.auto.cells ∙ c.requires.len) c.clear.ensures)),
                       omega arith,
                     ),
@@ -65,11 +65,11 @@ returns-clause-row g c = λ k h.
 
 pub add_far_cells-requires-clause-sum : goal.add_far_cells-requires-clause-sum
 add_far_cells-requires-clause-sum g c =
-    row_wider g.row.P (2 ^ 90 + 0 + 81 * 2 ^ 79) (2 ^ 91) (row_of c.add_pairs.new.into) (omega arith)
+    wider g.row.P (2 ^ 90 + 0 + 81 * 2 ^ 79) (2 ^ 91) (row_of c.add_pairs.new.into) (omega arith)
     (c.add_pairs.ensures.size (2 ^ 79) (2 ^ 90 + 0) (within_listed g.row.P (2 ^ 80) c.args.up.now c.v_list.result.now (row c.args.lists.now.v c.args.n) c.v_list.ensures c.requires.multipoles) (c.shift_down.ensures.size (2 ^ 90) 0 c.requires.parent (zero_row_within g.row.P c.clear.new.cells (c.clear.auto.cells ∙ c.requires.len) c.clear.ensures)))
 
 pub returns-clause-size : goal.returns-clause-size
 returns-clause-size g c = λ p q h r.
     let e : sum_by (far_weight c.args.tree.now c.args.points.now) c.x_list.result.now ≡ sum_by (far_weight c.args.tree.now c.args.points.now) (row c.args.lists.now.x c.args.n) = ap (sum_by (far_weight c.args.tree.now c.args.points.now)) c.x_list.ensures in
-    row_wider g.row.P (p + 0 + 81 * q + 2 ^ 40 * sum_by (far_weight c.args.tree.now c.args.points.now) c.x_list.result.now) (p + 81 * q + 2 ^ 40 * sum_by (far_weight c.args.tree.now c.args.points.now) (row c.args.lists.now.x c.args.n)) (row_of c.add_far_cells.new.into) (omega (arith, e))
+    wider g.row.P (p + 0 + 81 * q + 2 ^ 40 * sum_by (far_weight c.args.tree.now c.args.points.now) c.x_list.result.now) (p + 81 * q + 2 ^ 40 * sum_by (far_weight c.args.tree.now c.args.points.now) (row c.args.lists.now.x c.args.n)) (row_of c.add_far_cells.new.into) (omega (arith, e))
     (c.add_far_cells.ensures.size (p + 0 + 81 * q) (c.add_pairs.ensures.size q (p + 0) (within_listed g.row.P (2 * q) c.args.up.now c.v_list.result.now (row c.args.lists.now.v c.args.n) c.v_list.ensures r) (c.shift_down.ensures.size p 0 h (zero_row_within g.row.P c.clear.new.cells (c.clear.auto.cells ∙ c.requires.len) c.clear.ensures))))

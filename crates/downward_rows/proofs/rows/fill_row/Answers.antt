@@ -9,7 +9,7 @@ use Rattle.downward_rows.specs.Entries.{far_weight}
 use Rattle.downward_rows.proofs.FilledRows.{first_is, above_stays, row_above, others_stay, own_placed, row_placed, within_each}
 use Rattle.downward_rows.proofs.FlatPlaces.{room}
 use Rattle.downward_rows.proofs.SameRows.{within_same}
-use Rattle.downward_rows.proofs.Trees.{some_tree}
+use Rattle.tree_rows.proofs.Trees.{some_tree}
 use Rattle.downward_rows.proofs.rows.fill_row.Goals as goal
 
 pub local_row-requires : goal.local_row-requires

@@ -14,8 +14,8 @@ use Rattle.tree_rows.specs.FlatRows.{row_at}
 use Rattle.downward_rows.proofs.EntryPlaces.{far_entries}
 use Rattle.downward_rows.proofs.FilledRows.{zero_row_within, row_filled}
 use Rattle.downward_rows.proofs.SameRows.{within_same, shifted_down_same}
-use Rattle.downward_rows.proofs.Totals.{row_wider}
-use Rattle.downward_rows.proofs.Trees.{some_tree}
+use Rattle.field_sizes.proofs.RowTotals.{wider}
+use Rattle.tree_rows.proofs.Trees.{some_tree}
 use Rattle.downward_rows.proofs.rows.local_row.Goals.{else-n-gt0-via-then-n-gt0+else-has_target, else-n-gt0-via-else-n-gt0}
 use Rattle.downward_rows.proofs.rows.local_row.Goals as goal
 use Rattle.local_shift.proofs.Sums.{nothing_at}
@@ -95,5 +95,5 @@ returns-else-n-gt0-clause-local g c =
 
 pub returns-else-n-gt0-clause-size : goal.returns-else-n-gt0-clause-size
 returns-else-n-gt0-clause-size g c = λ p q h r.
-    row_wider g.row.P 0 (p + 81 * q + 2 ^ 40 * sum_by (far_weight c.args.tree.now c.args.points.now) (row c.args.lists.now.x c.args.n)) (row_of c.clear.new.cells) (omega arith)
+    wider g.row.P 0 (p + 81 * q + 2 ^ 40 * sum_by (far_weight c.args.tree.now c.args.points.now) (row c.args.lists.now.x c.args.n)) (row_of c.clear.new.cells) (omega arith)
     (zero_row_within g.row.P c.clear.new.cells (c.clear.auto.cells ∙ c.requires.len) c.clear.ensures)

@@ -1,7 +1,5 @@
 use Rattle.std.proofs.Common.{◌≡◌, ◌∙◌, ℕ, List, ap, subst, length}
-use Rattle.std.specs.Prelude.{OnOk, OnErr}
-use Rattle.std.specs.Io.KnownBytes.{Appends}
-use Rattle.io_ports.specs.Bytes.{AppendsPrefix}
+use Rattle.io_ports.specs.Bytes.{Writes}
 use Rattle.points.specs.declared.Point.{Point}
 use Rattle.sample_summary.specs.Summary.{summary_of}
 use Rattle.sample_summary.specs.Text.{summary_text}
@@ -17,12 +15,7 @@ bytes_are seed P cap kept_cap points given lists s text bytes same all a are t b
     let numbers : s ≡ summary_of points cap P lists = subst (λ n. ((these : TreeLists) → AreTreeLists 16 points n these → s ≡ summary_of points n P these)) same (subst (λ ps. ((these : TreeLists) → AreTreeLists 16 ps kept_cap these → s ≡ summary_of ps kept_cap P these)) all are) lists a in
     b ∙ t ∙ ap (λ (s : Summary). summary_text seed s.points P cap s) numbers
 
-pub returns-clause-done : goal.returns-clause-done
-returns-clause-done g c lists a =
+pub returns-clause-bytes : goal.returns-clause-bytes
+returns-clause-bytes g c lists a =
     let e = bytes_are c.args.seed g.row.P c.args.cap c.args.field.now.cap c.args.points.now.list c.points.result.now lists c.of-summary.result c.summary_text-text.result c.as_bytes.result.now c.requires.cap_is c.points.ensures a c.of-summary.ensures c.summary_text-text.ensures c.as_bytes.ensures in
-    subst (λ bytes. OnOk c.put.result (Appends (g.S.Sink.held c.args.sink.now) (g.S.Sink.held c.put.new.sink) bytes)) e c.put.ensures.done
-
-pub returns-clause-part : goal.returns-clause-part
-returns-clause-part g c lists a =
-    let e = bytes_are c.args.seed g.row.P c.args.cap c.args.field.now.cap c.args.points.now.list c.points.result.now lists c.of-summary.result c.summary_text-text.result c.as_bytes.result.now c.requires.cap_is c.points.ensures a c.of-summary.ensures c.summary_text-text.ensures c.as_bytes.ensures in
-    subst (λ bytes. OnErr c.put.result (AppendsPrefix (g.S.Sink.held c.args.sink.now) (g.S.Sink.held c.put.new.sink) bytes)) e c.put.ensures.part
+    subst (Writes c.put.result (g.S.Sink.held c.args.sink.now) (g.S.Sink.held c.put.new.sink)) e c.put.ensures.bytes

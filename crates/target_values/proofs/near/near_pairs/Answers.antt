@@ -16,7 +16,8 @@ use Rattle.target_values.specs.Points.{sources_at, count_apart}
 use Rattle.target_values.specs.Values.{sources_of}
 use Rattle.target_values.proofs.NearBounds.{near_count-le}
 use Rattle.target_values.proofs.NearSums.{total-step}
-use Rattle.target_values.proofs.Numbers.{in_grid, number_below, few_items, members_below, few_members}
+use Rattle.quadtree.proofs.Limits.{in_grid}
+use Rattle.target_values.proofs.Numbers.{number_below, few_items, members_below, few_members}
 use Rattle.target_values.proofs.near.near_pairs.Goals as goal
 
 pub u_list-c-items-requires : goal.u_list-c-items-requires

@@ -10,7 +10,7 @@ use Rattle.points.specs.declared.Point.{Point}
 use Rattle.quadtree.specs.TreeModel.{leaf_of}
 use Rattle.target_values.specs.Points.{point_at}
 use Rattle.target_values.specs.Values.{value_at}
-use Rattle.target_values.proofs.Numbers.{in_grid}
+use Rattle.quadtree.proofs.Limits.{in_grid}
 use Rattle.target_values.proofs.Pairs.{count_at, pairs_are}
 use Rattle.target_values.proofs.PassBoxes.{boxes_more, value_of, boxes_are, each_contains, each_small}
 use Rattle.target_values.proofs.Positions.{position_at, leaf_in_tree, few_positions}

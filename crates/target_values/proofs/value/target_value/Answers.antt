@@ -12,7 +12,7 @@ use Rattle.target_values.specs.Points.{no_point, point_at}
 use Rattle.target_values.specs.Values.{value_at, near_count}
 use Rattle.target_values.proofs.FieldBox.{leaf_at_position, box_is, boxes_contain}
 use Rattle.target_values.proofs.NearSums.{first_point}
-use Rattle.target_values.proofs.Numbers.{in_grid}
+use Rattle.quadtree.proofs.Limits.{in_grid}
 use Rattle.target_values.proofs.value.target_value.Goals as goal
 
 pub value_in-requires-clause-number : goal.value_in-requires-clause-number

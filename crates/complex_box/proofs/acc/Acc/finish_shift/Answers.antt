@@ -9,4 +9,4 @@ pub returns-clause-ends : goal.returns-clause-ends
 returns-clause-ends c = c.quot_shift.ensures.ends ∙ ap (λ (b : BoxEnds). quot_box b (pos (2 ^ c.args.k))) c.self.view_is
 
 pub returns-clause-contains : goal.returns-clause-contains
-returns-clause-contains c z p = contains_by (returns-clause-ends c) (BoxEndsContain-quot p (pos (2 ^ c.args.k)) (power_positive c.args.k))
+returns-clause-contains c u z p = contains_by (returns-clause-ends c) (BoxEndsContain-quot p (pos (2 ^ c.args.k)) (power_positive c.args.k))

@@ -8,7 +8,7 @@ use Rattle.std.specs.Prelude.{List}
 use Rattle.std.specs.Vec.{with_items}
 use Rattle.complex_box.specs.declared.CBox.{CBox}
 use Rattle.cell_lists.specs.Row.{row}
-use Rattle.downward_rows.proofs.Totals.{row_wider}
+use Rattle.field_sizes.proofs.RowTotals.{wider}
 use Rattle.points.specs.declared.Point.{Point}
 use Rattle.quadtree.specs.TreeModel.{node_of}
 use Rattle.row_recursions.specs.Sizes.{RowWithin}
@@ -53,11 +53,11 @@ fill_row-requires g c =
             (
               ap length c.deref-3.ensures.value ∙ is.up_rows,
               (
-                λ m lt. subst (λ (rows : List CBox). RowWithin P (2 ^ 80) (row_at P rows m)) (sym c.deref-3.ensures.value) (row_wider P (2 ^ 74) (2 ^ 80) _ (omega arith) (up_within P b is m lt)),
+                λ m lt. subst (λ (rows : List CBox). RowWithin P (2 ^ 80) (row_at P rows m)) (sym c.deref-3.ensures.value) (wider P (2 ^ 74) (2 ^ 80) _ (omega arith) (up_within P b is m lt)),
                 (
                   ap length c.deref_mut.ensures.value ∙ is.local_rows,
                   (
-                    λ lo. subst (λ (rows : List CBox). RowWithin P (2 ^ 90) (row_at P rows (node_of b.tree c.args.n).parent)) (sym c.deref_mut.ensures.value) (row_wider P (2 ^ 82) (2 ^ 90) _ (omega arith) (local_within P b is (node_of b.tree c.args.n).parent above)),
+                    λ lo. subst (λ (rows : List CBox). RowWithin P (2 ^ 90) (row_at P rows (node_of b.tree c.args.n).parent)) (sym c.deref_mut.ensures.value) (wider P (2 ^ 82) (2 ^ 90) _ (omega arith) (local_within P b is (node_of b.tree c.args.n).parent above)),
                     omega (arith, c.requires.room),
                   ),
                 ),
