@@ -1,6 +1,6 @@
 -- Each local row of a tree contains the field of the entries of its cell and of the cells above it.
-use Rattle.std.proofs.Common.{ℕ, zero, suc, ◌≡◌, ◌*◌, ◌<◌, ◌≤◌, List, [], ◌∷◌, refl, sym, ap, ap₂, ◌∙◌, subst, arith}
-use Rattle.std.specs.Prelude.{All, Contains}
+use Rattle.std.proofs.Common.{ℕ, zero, suc, ◌≡◌, ◌*◌, ◌<◌, ◌≤◌, List, [], refl, sym, ap, ap₂, ◌∙◌, subst, arith}
+use Rattle.std.specs.Prelude.{All}
 use Rattle.std.proofs.lemmas.Bool.{and_parts}
 use Rattle.std.proofs.lemmas.List.Elements.{All-contains}
 use Rattle.std.proofs.lemmas.List.Folds.{fold-map}
@@ -23,11 +23,10 @@ use Rattle.quadtree.proofs.Parents.{IsTreeCell-parent}
 use Rattle.row_recursions.specs.Fields.{HoldsField}
 use Rattle.row_recursions.specs.Geometry.{doubled_centre, sides_between}
 use Rattle.row_recursions.specs.Moments.{HoldsMoments}
-use Rattle.row_recursions.specs.Rows.{converted, far_source, shifted_down}
+use Rattle.row_recursions.specs.Rows.{converted, shifted_down}
 use Rattle.row_recursions.specs.Sources.{source_of}
 use Rattle.row_recursions.proofs.ConvertLaws.{field_converted}
 use Rattle.row_recursions.proofs.DownLaws.{field_down}
-use Rattle.row_recursions.proofs.FarLaws.{field_of_source}
 use Rattle.row_recursions.proofs.FieldLaws.{no_field, sum_of_fields}
 use Rattle.row_recursions.proofs.Geometry.{far_places, pairs_of_cells}
 use Rattle.row_recursions.proofs.Points.{strength_field}
@@ -35,7 +34,6 @@ use Rattle.soundness.specs.Computed.{total_row, far_coefficients_in}
 use Rattle.soundness.specs.Squares.{offset, quadrant, IsQuarterOf, IsFarFrom}
 use Rattle.soundness.proofs.Places.{side_positive, side_of-quarter, centre_of-quarter, norm_beyond}
 use Rattle.truncation.specs.Entries.{local_cut}
-use Rattle.truncation.specs.Places.{doubled_offset}
 use Rattle.tree_field.specs.Field.{is_source_in, sources_in, multipole_row, converted_rows, far_rows, local_row}
 use Rattle.tree_field.specs.Lists.{TreeLists, AreTreeLists}
 use Rattle.tree_field.proofs.LocalRows.{empty_from, local_row-root, local_row-below}

@@ -1,5 +1,5 @@
 -- The value of a target from the rows of the field is the field's box.
-use Rattle.std.proofs.Common.{◌≡◌, ◌∙◌, ◌^◌, ◌<◌, sym, ap, ap₂, ℕ, ℤ, pos, ◌+ℤ◌, unsigned_abs, List, length, map, get_or, lit<}
+use Rattle.std.proofs.Common.{◌≡◌, ◌∙◌, ◌*◌, ◌^◌, ◌<◌, sym, ap, ap₂, ℕ, ℤ, pos, ◌+ℤ◌, unsigned_abs, List, length, map, get_or, lit<}
 use Rattle.std.specs.Prelude.{All, sum_by}
 use Rattle.std.proofs.lemmas.List.Elements.{Contains-get_or}
 use Rattle.std.proofs.lemmas.Option.{slice_get-get_or}

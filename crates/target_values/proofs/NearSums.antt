@@ -1,5 +1,5 @@
 -- Sums of boxes and counts over sources, one position after another.
-use Rattle.std.proofs.Common.{◌≡◌, ◌∙◌, ◌+◌, ◌*◌, ◌^◌, ◌<◌, ◌≤◌, sym, ap, refl, arith, unsigned_abs, neg_ℤ, Bool, true, false, cond, not, if◌then◌else◌, ℕ, List, [], ◌∷◌, ◌++◌, length, take, get_or, fold, map, to_z-of_z, to_z, of_z, SFits, w64, ℤ, pos}
+use Rattle.std.proofs.Common.{◌≡◌, ◌∙◌, ◌+◌, ◌*◌, ◌^◌, ◌<◌, ◌≤◌, sym, ap, refl, arith, Bool, true, false, cond, not, if◌then◌else◌, ℕ, List, [], ◌∷◌, ◌++◌, length, take, get_or, fold, map, to_z-of_z, to_z, of_z, SFits, w64, ℤ, pos}
 use Rattle.std.proofs.lemmas.Int.{ints}
 use Rattle.std.proofs.lemmas.List.{map_more}
 use Rattle.std.proofs.lemmas.List.Elements.{filter-append}

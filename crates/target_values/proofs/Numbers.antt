@@ -17,13 +17,12 @@ use Rattle.letters.specs.declared.Letter.{Letter}
 use Rattle.complex_box.specs.Box.{box_ends, BoxWithin}
 use Rattle.complex_box.specs.Rows.{zero_cbox}
 use Rattle.complex_box.specs.declared.CBox.{CBox}
-use Rattle.points.specs.Limits.{InRange, most_points}
+use Rattle.points.specs.Limits.{most_points}
 use Rattle.points.specs.declared.Point.{Point}
 use Rattle.quadtree.specs.Members.{members_of, holds_position}
 use Rattle.quadtree.specs.Tree.{AreInGrid}
 use Rattle.quadtree.specs.TreeModel.{TreeModel, IsTreeOf, size, square_of, node_of}
 use Rattle.quadtree.proofs.Distinct.{Contains-filter}
-use Rattle.row_recursions.proofs.Points.{grid_of}
 use Rattle.row_recursions.specs.Rows.{row_of}
 use Rattle.row_recursions.specs.Sizes.{RowWithin}
 use Rattle.quadtree.proofs.Lists.{All-from_members, range_below}

@@ -62,3 +62,6 @@ module _ (points : List Point) (tree : TreeModel) (h : IsTreeOfPoints points tre
       ∙ ap length ((nodes_of_tree tree points h.cap (in_grid points h.range) h.is_tree n lt).children e)
       ∙ length-filter (has_source points) (quarters (square_of tree n))
       ∙ ap (λ b. cond {A = ℕ} b 0 (count_by (has_source points) (quarters (square_of tree n)))) (sym e)
+
+  pub shifts_few : (node_of tree n).is_leaf ≡ false → shifts_into points tree n ≤ 4
+  shifts_few e = subst (λ b. cond {A = ℕ} b 0 (count_by (has_source points) (quarters (square_of tree n))) ≤ 4) (sym e) (count_by-le-length (has_source points) (quarters (square_of tree n)))

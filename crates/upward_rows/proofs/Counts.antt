@@ -1,23 +1,21 @@
 -- How many rows are shifted up in all: one for each cell below the root that has a source.
 use Rattle.std.proofs.Common.{ℕ, ◌≡◌, ◌≢◌, ◌+◌, ◌-◌, ◌<◌, ◌≤◌, suc, inl, inr, List, [], ◌∷◌, length, filter, Bool, true, false, cond, refl, sym, ap, ap₂, ◌∙◌, subst, arith, length-append}
-use Rattle.std.specs.Prelude.{All, AllPairs, Contains, nat_lt, sum_by, count_by}
+use Rattle.std.specs.Prelude.{AllPairs, Contains, nat_lt, sum_by, count_by}
 use Rattle.std.specs.List.{flat_map, range_with_len}
 use Rattle.std.proofs.lemmas.Bool.{and_parts, and_from, lt-ltb, ltb-true}
 use Rattle.std.proofs.lemmas.List.{length-map}
-use Rattle.std.proofs.lemmas.List.Elements.{All-weaker, All-contains}
+use Rattle.std.proofs.lemmas.List.Elements.{All-contains}
 use Rattle.std.proofs.lemmas.List.Kept.{AllPairs-filter}
-use Rattle.std.proofs.lemmas.List.Sums.{sum_by-cons, length-filter, count_by-le-length}
+use Rattle.std.proofs.lemmas.List.Sums.{sum_by-cons, length-filter}
 use Rattle.cell_name.specs.Cell.{square}
-use Rattle.cell_name.specs.Square.{Square, parent, IsInGrid}
+use Rattle.cell_name.specs.Square.{Square, parent}
 use Rattle.points.specs.declared.Point.{Point}
-use Rattle.points.specs.Limits.{InRange}
 use Rattle.cell_name.specs.Quarters.{quarters}
 use Rattle.quadtree.specs.Tree.{AreInGrid, IsTreeCell, IsSplit, IsLeaf}
 use Rattle.quadtree.specs.TreeModel.{TreeModel, size, squares, square_of, node_of, IsTreeOf}
 use Rattle.quadtree.proofs.Distinct.{Contains-filter, Contains-into_filter, Contains-flat_map, comes_from, different-flat_map, length-le_from_different}
 use Rattle.quadtree.proofs.Parents.{IsTreeCell-parent, IsTreeCell-below}
 use Rattle.cell_name.proofs.Quarters.{IsQuarter, quarters_are, quarters_contain, quarters_differ}
-use Rattle.row_recursions.proofs.Points.{grid_of}
 use Rattle.tree_field.specs.Field.{has_source}
 use Rattle.quadtree.proofs.Ascending.{ascending_differ}
 use Rattle.quadtree.proofs.Lists.{AllPairs-range, Contains-range, range_below}

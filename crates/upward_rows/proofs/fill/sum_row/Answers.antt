@@ -20,8 +20,7 @@ use Rattle.tree_field.specs.Field.{leaf_row}
 use Rattle.tree_field.specs.Program.{with_source, source_children}
 use Rattle.tree_field.proofs.SourceChildren.{source_children_are}
 use Rattle.tree_rows.specs.FlatRows.{row_at}
-use Rattle.upward_rows.proofs.Children.{child_at, child_with_source, children_few, shifts_of_cell}
-use Rattle.upward_rows.proofs.Counts.{shifts_few}
+use Rattle.upward_rows.proofs.Children.{child_at, child_with_source, children_few, shifts_of_cell, shifts_few}
 use Rattle.upward_rows.proofs.RowFrom.{shifted_row, is_multipole_row, row_small}
 use Rattle.upward_rows.proofs.Slices.{row_fits, row_behind}
 use Rattle.upward_rows.proofs.Totals.{total_row-more, shifted_same}
@@ -183,7 +182,9 @@ returns-after-loop-child-clause-translations g c =
     omega (arith, c.loop-child.invariant.translations, whole, kept, shifts)
 
 pub returns-after-loop-child-clause-few : goal.returns-after-loop-child-clause-few
-returns-after-loop-child-clause-few g c = let t = returns-after-loop-child-clause-translations g c in omega (arith, t, shifts_few c.args.points.now c.args.tree.now c.args.n)
+returns-after-loop-child-clause-few g c =
+    let few = shifts_few c.args.points.now c.args.tree.now c.requires.tree c.args.n (omega (arith, c.requires.cell, c.requires.first)) (sym c.is_leaf.ensures ∙ c.if-is_leaf.false) in
+    omega (arith, returns-after-loop-child-clause-translations g c, few)
 
 pub returns-after-loop-child-clause-row : goal.returns-after-loop-child-clause-row
 returns-after-loop-child-clause-row g c = λ cap is same k h.
