@@ -25,6 +25,7 @@ use Rattle.quadtree.proofs.Lists.{All-from_members}
 use Rattle.tree_field.specs.Field.{multipole_row, target_box}
 use Rattle.tree_field.specs.Lists.{TreeLists, AreTreeLists}
 use Rattle.tree_field.specs.Program.{source_children}
+use Rattle.tree_field.proofs.SourceChildren.{source_child}
 use Rattle.tree_rows.specs.FieldRows.{IsFieldOf, IsLocalRow, AreMultipoleRowsOf, AreWeights}
 use Rattle.tree_rows.specs.FlatRows.{row_at, AreSameRows}
 use Rattle.row_recursions.specs.Sizes.{RowWithin}
@@ -33,7 +34,6 @@ use Rattle.row_board.specs.Board.{IsBoard}
 use Rattle.row_board.specs.Names.{IsName, is_filled, needs, target_leaf, AreFilled}
 use Rattle.row_board.specs.Parts.{BoardParts}
 use Rattle.row_board.specs.declared.name.Name.TheVariants.{Up, Local, Value}
-use Rattle.row_board.proofs.Children.{child_is}
 use Rattle.row_board.proofs.Fills.{Fills, with_rows, up_fills, local_fills, value_fills}
 use Rattle.row_board.proofs.Missing.{needs_below, rows_of_filled, target_read, leaf_below}
 use Rattle.row_board.proofs.Sizes.{IsRadiusWithin, inside, radius_within, tree_some, up_within}
@@ -89,7 +89,7 @@ pub record IsRadiusAt (radii : List ℤ) (n : ℕ) (r : ℤ) : Type 0 where
 module _ (P : ℕ) (b : BoardParts) (is : IsBoard P b) where
   -- ---- a multipole row
   pub up_small : (n : ℕ) → All (λ m. RowWithin P (2 ^ 74) (row_at P b.up m)) (source_children b.tree n)
-  up_small n = All-from_members (λ m. RowWithin P (2 ^ 74) (row_at P b.up m)) (source_children b.tree n) (λ m h. up_within P b is m (child_is b.tree n m h).in_range)
+  up_small n = All-from_members (λ m. RowWithin P (2 ^ 74) (row_at P b.up m)) (source_children b.tree n) (λ m h. up_within P b is m (source_child b.tree n m h).in_range)
 
   pub up_made : (n : ℕ) (up : List CBox) → IsName b (Up n) → AreFilled b (needs b (Up n)) → length up ≡ length b.up
       → (AreMultipoleRowsOf b.points b.cap P b.tree b.up (source_children b.tree n) → AreSameRows P (row_at P up n) (multipole_row b.points b.cap (square_of b.tree n))) → OtherRowsStay P n b.up up

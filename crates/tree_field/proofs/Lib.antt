@@ -11,6 +11,7 @@ pub mod Occupants
 pub mod OneTree
 pub mod Program
 pub mod Sorting
+pub mod SourceChildren
 pub mod Sums
 pub mod Whole
 pub mod Work

@@ -1,5 +1,5 @@
 -- The field over a tree of the program and its lists, by the numbers of its cells.
-use Rattle.std.specs.Prelude.{ℕ, ◌≡◌, ◌+◌, ◌<◌, ◌==◌, false, ◌&&◌, nat_lt, List, length, map, filter, sum_by, Some, slice_get, slice_index_or}
+use Rattle.std.specs.Prelude.{ℕ, ◌≡◌, ◌+◌, ◌<◌, false, ◌&&◌, nat_lt, List, length, map, filter, sum_by, Some, slice_get, slice_index_or}
 use Rattle.std.specs.List.{range_with_len, count_by}
 use Rattle.cell_lists.specs.Lists.{lists_of, AreLists}
 use Rattle.cell_lists.specs.Row.{row}
@@ -9,7 +9,7 @@ use Rattle.points.specs.Points.{is_source, place}
 use Rattle.points.specs.declared.Point.{Point}
 use Rattle.cell_name.specs.Quarters.{quarters}
 use Rattle.quadtree.specs.Tree.{AreInGrid}
-use Rattle.quadtree.specs.TreeModel.{TreeModel, squares, size, square_of, node_of, leaf_of, IsTreeOf}
+use Rattle.quadtree.specs.TreeModel.{TreeModel, squares, size, square_of, node_of, leaf_of, children_of, IsTreeOf}
 use Rattle.tree_field.specs.Field.{sources_in, has_source, leaf_at}
 use Rattle.tree_field.specs.Lists.{TreeLists, AreTreeLists}
 use Rattle.tree_field.specs.Work.{has_target, pairs_between, translations, pairs}
@@ -23,9 +23,13 @@ abbrev pub ListsOfTree : Type 0
 ListsOfTree = (tree : TreeModel) (lists : EntryLists) (points : List Point) (cap : ℕ) (these : TreeLists) → AreInGrid 16 points → IsTreeOf 16 tree points cap → AreLists tree lists → AreTreeLists 16 points cap these
     → AreListsOf tree lists these
 
+-- of some cells those that have a source
+abbrev pub with_source : TreeModel → List ℕ → List ℕ
+with_source tree cells = filter (λ m. (node_of tree m).has_source) cells
+
 -- the numbers of the quarters of a cell that have a source
 abbrev pub source_children : TreeModel → ℕ → List ℕ
-source_children tree n = filter (λ d. nat_lt 0 d && ((node_of tree d).parent == n) && (node_of tree d).has_source) (range_with_len 0 (size tree))
+source_children tree n = with_source tree (children_of tree n)
 
 -- what the program keeps of a cell and of a point, in the words of the field
 pub record IsNodeOfField (tree : TreeModel) (points : List Point) (n : ℕ) : Type 0 where

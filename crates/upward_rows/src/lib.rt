@@ -6,9 +6,7 @@
 
 mod fill;
 mod pass;
-mod quarters;
 mod sources;
 
 pub use fill::{fill_row, sum_row};
 pub use pass::upward_pass;
-pub use quarters::{quadrant, quarter_with_source};
