@@ -9,9 +9,9 @@ use Rattle.std.proofs.lemmas.List.Sums.{count_by_more_yes, count_by_more_no}
 use mathlib.Core.Logic.{⊎_elim}
 use Rattle.cell_name.specs.Cell.{square}
 use Rattle.cell_name.specs.Square.{Square, root}
-use Rattle.cell_lists.specs.Lists.{lists_of, AreLists}
-use Rattle.cell_lists.specs.Row.{row}
-use Rattle.cell_lists.specs.declared.entry_lists.EntryLists.{EntryLists}
+use Rattle.cell_lists.specs.EntryLists.{lists_of, EntryListsModel}
+use Rattle.cell_lists.specs.Lists.{AreLists}
+use Rattle.cell_lists.specs.ListAt.{list_at}
 use Rattle.cell_lists.proofs.TreeNumbers.{tree_cell_at}
 use Rattle.letters.specs.declared.Letter.{Letter}
 use Rattle.points.specs.declared.Point.{Point}
@@ -43,8 +43,8 @@ by_numbers tree f g same =
     ∙ sum_by-map f (square_of tree) (range_with_len 0 (size tree))
     ∙ sum_by-same (λ n. f (square_of tree n)) g (range_with_len 0 (size tree)) (All-from_members (λ n. f (square_of tree n) ≡ g n) (range_with_len 0 (size tree)) (λ n h. same n (range_below (size tree) n h)))
 
-by_rows : (rows : List (List ℕ)) (n : ℕ) (f : List ℕ → ℕ) → length rows ≡ n → sum_by f rows ≡ sum_by (λ k. f (row rows k)) (range_with_len 0 n)
-by_rows rows n f e = ap (sum_by f) (fill_by_all (row rows) rows n [] e (λ k lt. refl)) ∙ sum_by-map f (row rows) (range_with_len 0 n)
+by_rows : (rows : List (List ℕ)) (n : ℕ) (f : List ℕ → ℕ) → length rows ≡ n → sum_by f rows ≡ sum_by (λ k. f (list_at rows k)) (range_with_len 0 n)
+by_rows rows n f e = ap (sum_by f) (fill_by_all (list_at rows) rows n [] e (λ k lt. refl)) ∙ sum_by-map f (list_at rows) (range_with_len 0 n)
 
 -- ---- whether a cell is a leaf
 leaf_is : (points : List Point) (cap : ℕ) (c : Square) (b : Bool) → IsTreeCell 16 points cap c → IsTrue b ↔ IsLeaf 16 points cap c → b ≡ is_leaf points cap c
@@ -59,7 +59,7 @@ leaf_is points cap c b here h = same_test b (is_leaf points cap c) (λ e. passes
     end : is_leaf points cap c ≡ true → (count_in points c ≤ cap) ⊎ (c.level ≡ 16)
     end e = ⊎_elim (λ few. inl (ltb-false cap (count_in points c) (not-true over few))) (λ last. inr (eqb-true c.level 16 last)) (or_cases (not over) (c.level == 16) e)
 
-module _ (tree : TreeModel) (lists : EntryLists) (points : List Point) (cap : ℕ) (these : TreeLists) (inside : AreInGrid 16 points) (h : IsTreeOf 16 tree points cap) (are : AreLists tree lists) (a : AreTreeLists 16 points cap these) where
+module _ (tree : TreeModel) (lists : EntryListsModel) (points : List Point) (cap : ℕ) (these : TreeLists) (inside : AreInGrid 16 points) (h : IsTreeOf 16 tree points cap) (are : AreLists tree lists) (a : AreTreeLists 16 points cap these) where
   pub cells_are : size tree ≡ length these.cells
   cells_are = sym (ap length (lists_of_tree tree lists points cap these inside h are a).cells ∙ length-map tree.cells square)
 
@@ -73,4 +73,4 @@ module _ (tree : TreeModel) (lists : EntryLists) (points : List Point) (cap : �
       let of = lists_of_tree tree lists points cap these inside h are a in
       by_rows (lists_of lists letter) (size tree) (λ list. length list) (are.as_many letter)
       ∙ sym (ap (sum_by (λ b. length (these.entries letter b))) of.cells
-      ∙ by_numbers tree (λ b. length (these.entries letter b)) (λ n. length (row (lists_of lists letter) n)) (λ n lt. ap length (of.entries letter n lt) ∙ length-map (row (lists_of lists letter) n) (square_of tree)))
+      ∙ by_numbers tree (λ b. length (these.entries letter b)) (λ n. length (list_at (lists_of lists letter) n)) (λ n lt. ap length (of.entries letter n lt) ∙ length-map (list_at (lists_of lists letter) n) (square_of tree)))
