@@ -13,6 +13,7 @@ use Rattle.cell_lists.specs.ListAt.{list_at}
 use Rattle.cell_lists.specs.EntryLists.{EntryListsModel}
 use Rattle.letters.specs.declared.Letter.TheVariants.{W}
 use Rattle.complex_box.specs.declared.CBox.{CBox}
+use Rattle.points.proofs.Slices.{first_point}
 use Rattle.points.specs.Points.{is_source}
 use Rattle.points.specs.declared.Point.{Point}
 use Rattle.quadtree.specs.Tree.{AreInGrid, HasTarget}
@@ -26,7 +27,6 @@ use Rattle.target_values.specs.Field.{AreRowsOfLeaf}
 use Rattle.target_values.specs.Points.{no_point, point_at}
 use Rattle.target_values.specs.Targets.{target_positions}
 use Rattle.target_values.proofs.FieldBox.{leaf_at_position}
-use Rattle.target_values.proofs.NearSums.{first_point}
 
 pub points_at : (points : List Point) → points ≡ map (point_at points) (range_with_len 0 (length points))
 points_at points = fill_by_all (point_at points) points (length points) no_point refl (λ k lt. refl)

@@ -8,7 +8,6 @@ use Rattle.std.specs.Prelude.{List}
 use Rattle.std.specs.Vec.{with_items}
 use Rattle.complex_box.specs.declared.CBox.{CBox}
 use Rattle.cell_lists.specs.ListAt.{list_at}
-use Rattle.downward_rows.proofs.Totals.{row_wider}
 use Rattle.field_sizes.proofs.RowTotals.{wider}
 use Rattle.points.specs.declared.Point.{Point}
 use Rattle.quadtree.specs.TreeModel.{node_of}

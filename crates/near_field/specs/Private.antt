@@ -1,4 +1,4 @@
--- A term as the fraction that it stands for.
+-- Words that only the contracts of private functions cite: a term as the fraction that it stands for.
 use Rattle.exact_math.specs.Ratio.{ComplexRatio}
 use Rattle.near_field.specs.declared.term.Term.{Term}
 
