@@ -1,4 +1,5 @@
--- The kernel that turns a multipole row into a local row: C(k + l, k)/e^(k + l + 1) with the sign of (-1)^l, for two cells of one side whose centres are e sides apart.
+-- The kernel that turns a multipole row into a local row: C(k + l, k)/e^(k + l + 1) with the sign of (-1)^l, for two cells of one side whose
+-- centres are e sides apart.
 use Rattle.std.specs.Prelude.{ℕ, zero, suc, ◌≡◌, ◌+◌, ◌^◌, ◌≤◌, ◌<◌, pos, List, length, slice_index_or}
 use Rattle.complex_box.specs.Box.{box_ends}
 use Rattle.complex_box.specs.declared.CBox.{CBox}

@@ -24,4 +24,5 @@ AreWays P ways = (i : ℕ) (other : ℤ) → i < length ways → slice_index_or 
 
 -- at each distance in turn, for each l in turn, the entries over k: the entry (k, l) of the distance n has the index (n P + l) P + k
 abbrev pub IsKernelTable : ℕ → List CBox → Type 0
-IsKernelTable P table = (i : ℕ) (other : CBox) → i < length table → box_ends (slice_index_or table i other) ≡ kernel_entry (distance_at (i / P / P)) (i % P) (i / P % P)
+IsKernelTable P table = (i : ℕ) (other : CBox) → i < length table
+    → box_ends (slice_index_or table i other) ≡ kernel_entry (distance_at (i / P / P)) (i % P) (i / P % P)
