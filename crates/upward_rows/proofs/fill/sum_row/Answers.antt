@@ -1,5 +1,5 @@
 -- One child more.
-use Rattle.std.proofs.Common.{◌≡◌, ℕ, ◌+◌, ◌-◌, ◌*◌, ◌^◌, ◌<◌, ◌≤◌, List, [], ◌∷◌, length, get_or, take, true, false, cond, ap, ap₂, lit<, sym, subst, ◌∙◌, arith, length-append}
+use Rattle.std.proofs.Common.{◌≡◌, ℕ, ◌+◌, ◌-◌, ◌*◌, ◌^◌, ◌<◌, ◌≤◌, List, [], ◌∷◌, length, get_or, take, true, cond, ap, ap₂, lit<, sym, subst, ◌∙◌, arith, length-append}
 use Rattle.std.proofs.lemmas.List.{take_all}
 use Rattle.std.proofs.lemmas.List.Elements.{All-contains}
 use Rattle.exact_math.specs.Ends.{BoxEnds, BoxEndsWithin, add_box}
@@ -8,8 +8,7 @@ use Rattle.complex_box.specs.Counts.{Counts}
 use Rattle.complex_box.proofs.Sizes.{box_wider}
 use Rattle.cell_lists.proofs.TreeNumbers.{read_at}
 use Rattle.cell_name.specs.Cell.{square}
-use Rattle.cell_name.specs.Quarters.{quarter}
-use Rattle.cell_name.specs.Square.{Square, parent}
+use Rattle.cell_name.specs.Square.{Square}
 use Rattle.quadtree.specs.TreeModel.{size, square_of, node_of}
 use Rattle.row_recursions.specs.Cells.{quadrant_of}
 use Rattle.row_recursions.specs.Rows.{row_of, shifted_up}
