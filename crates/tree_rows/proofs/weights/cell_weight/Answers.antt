@@ -27,7 +27,7 @@ weight-total-requires-clause-range c = c.requires.tree.range _ first_point (boun
 -- the next member's weight
 next : (c : goal.After-weight-total) → c.weight-total.result ≡ pos (weighs_at c.args.order c.args.points.now (get_or (node_of c.args.tree.now c.args.n).members c.loop-k.k-index 0))
 next c =
-    let p = get_or c.args.points.now (get_or c.members-k-items.result.now c.loop-k.k-index 0) no_point in
+    let p = get_or c.args.points.now (get_or c.members-k-items.result.now c.loop-k.k-index 0) first_point in
     c.weight-total.ensures ∙ ap pos (sym (weight-source_of c.args.order p))
     ∙ ap (λ (l : List ℕ). pos (weighs_at c.args.order c.args.points.now (get_or l c.loop-k.k-index 0))) c.members-k-items.ensures
 
