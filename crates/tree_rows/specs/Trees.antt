@@ -1,5 +1,6 @@
 -- A tree of points that are within the limits of their text, and its lists.
 use Rattle.std.specs.Prelude.{ℕ, ◌≤◌, List, length, All}
+use Rattle.exact_math.specs.Orders.{IsCapacity}
 use Rattle.cell_lists.specs.Lists.{AreLists, VListsAreShort}
 use Rattle.cell_lists.specs.EntryLists.{EntryListsModel}
 use Rattle.points.specs.Limits.{InRange, most_points, most_weight, total_weight}
@@ -12,6 +13,7 @@ pub record IsTreeOfPoints (points : List Point) (tree : TreeModel) : Type 0 wher
   pub few : length points ≤ most_points
   pub light : total_weight points ≤ most_weight
   pub cap : ℕ
+  pub capacity : IsCapacity cap
   pub is_tree : IsTreeOf 16 tree points cap
 
 -- and the lists are those of the tree
