@@ -25,7 +25,7 @@ weight-total-requires-clause-range c = c.requires.tree.range _ no_point (bounds-
 
 -- the next member's weight
 next : (c : goal.After-weight-total) → c.weight-total.result ≡ pos (weighs_at c.args.order c.args.points.now (get_or (node_of c.args.tree.now c.args.n).members c.loop-k.k-index 0))
-next c = c.weight-total.ensures ∙ ap pos (sym (weight-source_of c.args.order _)) ∙ ap (λ (l : List ℕ). pos (weighs_at c.args.order c.args.points.now (get_or l c.loop-k.k-index 0))) c.members-k-items.ensures
+next c = c.weight-total.ensures ∙ ap pos (sym (weight-source_of c.args.order (get_or c.args.points.now (get_or c.members-k-items.result.now c.loop-k.k-index 0) no_point))) ∙ ap (λ (l : List ℕ). pos (weighs_at c.args.order c.args.points.now (get_or l c.loop-k.k-index 0))) c.members-k-items.ensures
 
 pub overflow_add-total : goal.overflow_add-total
 overflow_add-total c = light_fits _ _ _ _ c.loop-k.invariant (next c) (members_light c.args.points.now c.args.tree.now c.requires.tree c.args.n c.requires.cell c.args.order c.loop-k.k-index c.requires.most (inside c))
