@@ -14,8 +14,7 @@ use Rattle.cell_name.specs.Square.{Square, holds_test}
 use Rattle.cell_lists.specs.Entries.{IsEntry}
 use Rattle.cell_lists.specs.EntryLists.{lists_of}
 use Rattle.cell_lists.specs.ListAt.{list_at}
-use Rattle.cell_lists.proofs.CellNumbers.{number_listed, number_before, same_number}
-
+use Rattle.cell_lists.proofs.CellNumbers.{number_listed, number_before}
 use Rattle.cell_lists.proofs.OneEntry.{in_tree_of}
 use Rattle.cell_lists.proofs.TreeNumbers.{tree_cell_at}
 use Rattle.points.specs.Points.{is_source}

@@ -3,11 +3,12 @@ use Rattle.std.specs.Prelude.{ℕ, ◌≤◌, List, length, All}
 use Rattle.exact_math.specs.Orders.{IsCapacity}
 use Rattle.cell_lists.specs.Lists.{AreLists, VListsAreShort}
 use Rattle.cell_lists.specs.EntryLists.{EntryListsModel}
+use Rattle.exact_math.specs.Orders.{IsCapacity}
 use Rattle.points.specs.Limits.{InRange, most_points, most_weight, total_weight}
 use Rattle.points.specs.declared.Point.{Point}
 use Rattle.quadtree.specs.TreeModel.{TreeModel, IsTreeOf}
 
--- the tree is that of these points with some capacity of the leaves
+-- the tree is that of these points with some capacity that the program offers
 pub record IsTreeOfPoints (points : List Point) (tree : TreeModel) : Type 0 where
   pub range : All InRange points
   pub few : length points ≤ most_points
