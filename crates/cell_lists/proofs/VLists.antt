@@ -12,10 +12,10 @@ use Rattle.cell_name.specs.Square.{Square, side, half, parent, Touches}
 use Rattle.cell_name.proofs.Distances.{same_side}
 use Rattle.letters.specs.declared.Letter.TheVariants.{V}
 use Rattle.quadtree.specs.TreeModel.{TreeModel, size, square_of, IsTreeOf, IsTree}
-use Rattle.cell_lists.specs.Entries.{ComeApart}
+use Rattle.cell_lists.specs.Entries.{ComeApartOnOneLevel}
 use Rattle.cell_lists.specs.Lists.{IsListOf, AreLists, VListsAreShort}
-use Rattle.cell_lists.specs.Row.{row}
-use Rattle.cell_lists.specs.declared.entry_lists.EntryLists.{EntryLists}
+use Rattle.cell_lists.specs.ListAt.{list_at}
+use Rattle.cell_lists.specs.EntryLists.{EntryListsModel}
 use Rattle.std.proofs.lemmas.List.{get_or_default}
 use Rattle.cell_lists.proofs.CellNumbers.{number_before}
 
@@ -164,7 +164,7 @@ record HasPlace (b c : Square) : Type 0 where
   pub place : ℕ
   pub is_place : IsPlace (b.i % 2) (b.j % 2) (column_of b c) (row_of b c) place
 
-has_place : (b c : Square) → b.grid ≡ c.grid → ComeApart b c → HasPlace b c
+has_place : (b c : Square) → b.grid ≡ c.grid → ComeApartOnOneLevel b c → HasPlace b c
 has_place b c grid h =
     let level : b.level - 1 ≡ c.level - 1 = ap (λ n. n - 1) h.same_level in
     let n : AreNeighbours (parent b) (parent c) = neighbours-from_touch (parent b) (parent c) grid level h.parents_touch in
@@ -216,8 +216,8 @@ v_list_is_short tree points cap b cells is lb l =
           absurd (omega (arith, at_least tree points cap b cells is lb l 27 many h, place_below _ _ _ _ h.place h.inside h.is_place))
     ]
 
-pub v_lists_are_short : (tree : TreeModel) (lists : EntryLists) → IsTree tree → AreLists tree lists → VListsAreShort lists
+pub v_lists_are_short : (tree : TreeModel) (lists : EntryListsModel) → IsTree tree → AreLists tree lists → VListsAreShort lists
 v_lists_are_short tree lists is are n d lt =
     let lb : n < size tree = omega (arith, are.as_many V) in
-    let short = v_list_is_short tree is.points is.cap n (row lists.v n) is.is_tree lb (are.each is.points is.cap is.in_grid is.is_tree V n lb) in
+    let short = v_list_is_short tree is.points is.cap n (list_at lists.v n) is.is_tree lb (are.each is.points is.cap is.in_grid is.is_tree V n lb) in
     omega (arith, short, ap length (get_or_default lists.v n d [] lt))

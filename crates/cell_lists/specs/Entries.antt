@@ -14,7 +14,7 @@ pub record IsUPair (grid : ℕ) (points : List Point) (cap : ℕ) (b c : Square)
   pub touch : Touches b c
 
 -- they have one level of at least 1, their parents touch, and they don't touch
-pub record ComeApart (b c : Square) : Type 0 where
+pub record ComeApartOnOneLevel (b c : Square) : Type 0 where
   pub same_level : b.level ≡ c.level
   pub below_root : 1 ≤ b.level
   pub parents_touch : Touches (parent b) (parent c)
@@ -23,7 +23,7 @@ pub record ComeApart (b c : Square) : Type 0 where
 pub record IsVPair (grid : ℕ) (points : List Point) (cap : ℕ) (b c : Square) : Type 0 where
   pub first_in_tree : IsTreeCell grid points cap b
   pub second_in_tree : IsTreeCell grid points cap c
-  pub come_apart : ComeApart b c
+  pub come_apart : ComeApartOnOneLevel b c
 
 -- `c` has a greater level than `b`, its parent touches `b`, and `c` doesn't
 pub record ComesApartBelow (b c : Square) : Type 0 where

@@ -2,10 +2,11 @@
 #![tactic(auto)]
 
 mod entry_lists;
+mod flat;
 mod gather;
 pub mod law;
 mod pairs;
-mod rows;
+mod picked;
 mod search;
 mod walk;
 

@@ -1,6 +1,6 @@
 -- What entries can lose by truncation, from the weights of all cells, and the radius of a cell.
 use Rattle.std.specs.Prelude.{ℕ, ◌*◌, ◌≡◌, ℤ, pos, List}
-use Rattle.cell_lists.specs.declared.entry_lists.EntryLists.{EntryLists}
+use Rattle.cell_lists.specs.EntryLists.{EntryListsModel}
 use Rattle.points.specs.declared.Point.{Point}
 use Rattle.quadtree.specs.Tree.{HasTarget}
 use Rattle.quadtree.specs.TreeModel.{TreeModel, square_of}
@@ -24,7 +24,7 @@ pub record IsRadiusOf (points : List Point) (cap P : ℕ) (tree : TreeModel) (fi
   pub empty : (HasTarget points (square_of tree n) → ⊥) → radius ≡ pos 0
 
 -- the tree and its lists are those of some points within their limits, and the weights those of its cells
-pub record AreWeightsOfTree (P : ℕ) (tree : TreeModel) (lists : EntryLists) (weights : List ℤ) : Type 0 where
+pub record AreWeightsOfTree (P : ℕ) (tree : TreeModel) (lists : EntryListsModel) (weights : List ℤ) : Type 0 where
   pub points : List Point
   pub tree_is : IsTreeWithLists points tree lists
   pub weights_are : AreWeights points P tree weights

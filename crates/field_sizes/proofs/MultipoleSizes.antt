@@ -20,7 +20,8 @@ use Rattle.row_recursions.proofs.Turns.{unit_quadrant}
 use Rattle.soundness.specs.Computed.{total_row, moments_in}
 use Rattle.soundness.specs.Squares.{offset, quadrant}
 use Rattle.exact_math.specs.Within.{GaussianWithin}
-use Rattle.tree_field.specs.Field.{sources_in, has_source, leaf_row, is_over, multipole_above, multipole_row}
+use Rattle.quadtree.specs.Tree.{is_over}
+use Rattle.tree_field.specs.Field.{sources_in, has_source, leaf_row, multipole_above, multipole_row}
 use Rattle.field_sizes.proofs.CellSources.{IsHeld, sources_held, sum_by-filter}
 use Rattle.field_sizes.proofs.CellWeights.{weight64_in, weight64_in-light, quarters_weight}
 use Rattle.field_sizes.proofs.RowTotals.{total_row-within, wider, sum_by-times}

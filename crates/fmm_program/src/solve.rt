@@ -1,8 +1,8 @@
 //! The command `solve`.
 ghost use Rattle.std.specs.Prelude.{◌≡◌, ℕ, ◌+◌, ◌≤◌, ◌⊎◌, List, [], IfSome, Some, length};
-ghost use Rattle.std.specs.Io.KnownBytes.{Appends, Consumes};
+ghost use Rattle.std.specs.Io.KnownBytes.{Consumes};
 ghost use Rattle.exact_math.specs.Orders.{IsCapacity, IsOrder};
-ghost use Rattle.io_ports.specs.Bytes.{AppendsPrefix};
+ghost use Rattle.io_ports.specs.Bytes.{read_size};
 ghost use Rattle.io_ports.specs.Faults.{Rose};
 ghost use Rattle.points.specs.Limits.{WithinLimits};
 ghost use Rattle.particle_text.specs.Text.{Spells};
@@ -85,7 +85,7 @@ pub(crate) fn solve<A: Source, O: Sink>(
 
     // What was read: all of it where the command was carried out, never more than 4096 bytes past the limit, and nothing past it before a read fault.
     ensures whole { result ≡ Status.Done → IfSome (A.left points.old) (λ _. A.left points.new ≡ Some []) }
-    ensures taken { (bytes : List ℕ) × Consumes (A.left points.old) (A.left points.new) bytes × (length bytes ≤ most_input + 4096)
+    ensures taken { (bytes : List ℕ) × Consumes (A.left points.old) (A.left points.new) bytes × (length bytes ≤ most_input + read_size)
         × (result ≡ Status.ReadFault → length bytes ≤ most_input) }
 {
     match read_all(alloc, points, MOST_INPUT) {

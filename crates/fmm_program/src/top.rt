@@ -1,6 +1,7 @@
 //! The top call.
 ghost use Rattle.std.specs.Prelude.{◌≡◌, ℕ, ◌+◌, ◌≤◌, ◌⊎◌, List, IfSome, Some, [], length};
 ghost use Rattle.std.specs.Io.KnownBytes.{Appends, Consumes};
+ghost use Rattle.io_ports.specs.Bytes.{read_size};
 ghost use Rattle.io_ports.specs.Faults.{Rose};
 ghost use Rattle.fmm_program.specs.Answers.{HasDepth, IsCertified, SolveEnds, UsageEnds, most_input};
 ghost use Rattle.fmm_program.specs.Forms.{IsSolve, IsUsage};
@@ -58,7 +59,7 @@ pub fn run<A: Source, B: Source, O: Sink, C: Sink>(
     ensures write { result ≡ Status.WriteFault → Rose (O.faults out.old) (O.faults out.new) }
 
     // What was read, and what stays.
-    ensures taken { (bytes : List ℕ) × Consumes (A.left points.old) (A.left points.new) bytes × (length bytes ≤ most_input + 4096)
+    ensures taken { (bytes : List ℕ) × Consumes (A.left points.old) (A.left points.new) bytes × (length bytes ≤ most_input + read_size)
         × (result ≡ Status.ReadFault → length bytes ≤ most_input) }
     ensures cert_in { cert_in.new ≡ cert_in.old }
     ensures cert_out { cert_out.new ≡ cert_out.old }

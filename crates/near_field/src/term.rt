@@ -7,7 +7,7 @@ ghost use Rattle.points.specs.Points.{strength};
 ghost use Rattle.exact_math.specs.Terms.{pole_term, dipole_term};
 ghost use Rattle.complex_box.specs.Box.{box_ends};
 ghost use Rattle.near_field.specs.Pair.{outward, strength_term};
-ghost use Rattle.near_field.specs.Term.{ratio_of};
+ghost use Rattle.near_field.specs.Private.{ratio_of};
 
 use complex_box::{CBox, UNIT};
 use points::{Point, Strength};

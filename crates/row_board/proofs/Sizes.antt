@@ -17,7 +17,7 @@ use Rattle.complex_box.specs.declared.CBox.{CBox}
 use Rattle.complex_box.proofs.Sizes.{zero_within}
 use Rattle.downward_rows.proofs.SameRows.{within_same}
 use Rattle.field_sizes.proofs.RowTotals.{wider}
-use Rattle.downward_rows.proofs.Trees.{some_tree}
+use Rattle.tree_rows.proofs.Trees.{some_tree}
 use Rattle.field_sizes.proofs.Disjoint.{entries_share_no_source}
 use Rattle.field_sizes.proofs.LocalSizes.{row_sizes}
 use Rattle.field_sizes.proofs.Radii.{radius_sizes}

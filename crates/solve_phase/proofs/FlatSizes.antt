@@ -1,19 +1,14 @@
 -- How large the boxes of rows in one slice are.
-use Rattle.std.proofs.Common.{ℕ, ◌≡◌, ◌+◌, ◌*◌, ◌^◌, ◌/◌, ◌%◌, ◌<◌, ℤ, List, length, get_or, ap, subst, ◌∙◌, arith}
+use Rattle.std.proofs.Common.{ℕ, ◌≡◌, ◌*◌, ◌^◌, ℤ, List, length, arith}
 use Rattle.std.specs.Prelude.{All}
-use Rattle.std.proofs.lemmas.List.{get_or_default}
-use Rattle.exact_math.specs.Ends.{BoxEndsWithin}
 use Rattle.exact_math.specs.Orders.{IsOrder}
 use Rattle.exact_math.proofs.Orders.{order_bounds}
-use Rattle.complex_box.specs.Box.{box_ends, BoxWithin}
-use Rattle.complex_box.specs.Rows.{zero_cbox}
+use Rattle.complex_box.specs.Box.{BoxWithin}
 use Rattle.complex_box.specs.declared.CBox.{CBox}
 use Rattle.points.specs.declared.Point.{Point}
 use Rattle.quadtree.specs.TreeModel.{TreeModel, size}
-use Rattle.row_recursions.specs.Sizes.{RowWithin}
 use Rattle.tree_field.specs.Lists.{TreeLists}
 use Rattle.tree_rows.specs.FieldRows.{AreFieldRows, IsFieldOf}
-use Rattle.tree_rows.specs.FlatRows.{row_at}
 use Rattle.tree_rows.specs.Trees.{IsTreeOfPoints}
 use Rattle.tree_rows.proofs.FlatRows.{flat_within}
 use Rattle.downward_rows.proofs.FieldSizes.{some_field, multipole_small, local_small}

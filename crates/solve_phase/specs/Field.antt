@@ -5,7 +5,7 @@ use Rattle.exact_math.specs.Units.{unit}
 use Rattle.complex_box.specs.Box.{box_ends, BoxContains}
 use Rattle.complex_box.specs.declared.CBox.{CBox}
 use Rattle.cell_lists.specs.Lists.{AreLists}
-use Rattle.cell_lists.specs.declared.entry_lists.EntryLists.{EntryLists}
+use Rattle.cell_lists.specs.EntryLists.{EntryListsModel}
 use Rattle.letters.specs.declared.Letter.TheVariants.{V}
 use Rattle.near_field.specs.DirectSum.{direct_sum}
 use Rattle.points.specs.Points.{place}
@@ -21,7 +21,7 @@ use Rattle.solve_phase.specs.declared.field.Field.{Field}
 pub record FieldParts : Type 0 where
   pub cap : ℕ
   pub tree : TreeModel
-  pub lists : EntryLists
+  pub lists : EntryListsModel
   pub up : List CBox
   pub local : List CBox
   pub radii : List ℤ

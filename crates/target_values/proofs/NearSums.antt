@@ -9,7 +9,6 @@ use Rattle.exact_math.specs.Gaussian.{Gaussian, gaussian}
 use Rattle.points.specs.Points.{is_source}
 use Rattle.near_field.specs.Pair.{is_at, pair_box}
 use Rattle.points.specs.Limits.{InGrid, InRange, weight64}
-use Rattle.points.specs.declared.Kind.TheVariants.{Charge}
 use Rattle.points.specs.declared.Point.{Point}
 use Rattle.row_recursions.proofs.Points.{weight_bounded}
 use Rattle.soundness.specs.Computed.{total_box}
@@ -44,10 +43,6 @@ pairs_of_one t p m n source h = h ∙ ap (λ k. n + k) (one (is_at t p) ∙ ap (
 -- a point in range brings little
 pub weight-most : (p : Point) → InRange p → 2 ^ 40 * weight64 p ≤ 2 ^ 67
 weight-most p range = let light = weight_bounded p range in omega arith
-
--- what a slice reads past its end
-abbrev pub first_point : Point
-first_point = record { x = pos 0; y = pos 0; kind = Charge (pos 0) }
 
 -- ---- one position more
 pub sources_at-more : (points : List Point) (ms : List ℕ) (i : ℕ) (p : Point) → i < length ms → p ≡ point_at points (get_or ms i 0) → sources_at points (take (i + 1) ms) ≡ sources_at points (take i ms) ++ sources (p ∷ [])

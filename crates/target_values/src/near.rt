@@ -3,6 +3,7 @@ ghost use Rattle.std.specs.Prelude.{◌≡◌, ℕ, ◌+◌, ◌^◌, ◌<◌, �
 ghost use Rattle.exact_math.specs.Ends.{add_box};
 ghost use Rattle.complex_box.specs.Box.{box_ends, BoxWithin};
 ghost use Rattle.cell_lists.specs.Lists.{AreLists};
+ghost use Rattle.cell_lists.specs.ListAt.{list_at};
 ghost use Rattle.points.specs.Points.{place};
 ghost use Rattle.near_field.specs.Pair.{pair_box};
 ghost use Rattle.points.specs.Limits.{InGrid, InRange};

@@ -10,11 +10,11 @@ use Rattle.cell_name.specs.Square.{Square, parent, IsInGrid, Holds, holds_test}
 use Rattle.cell_name.proofs.Cells.{Holds-square_at, Holds-parent, parent-square_at}
 use Rattle.cell_name.proofs.HoldsTest.{Holds-from_test, test-from_Holds}
 use Rattle.cell_lists.proofs.OneEntry.{cell_is}
-use Rattle.quadtree.specs.Tree.{count_in, AreInGrid, IsTreeCell, IsLeaf, AreTreeCells}
+use Rattle.quadtree.specs.Tree.{count_in, AreInGrid, IsTreeCell, IsLeaf, AreTreeCells, is_over}
 use Rattle.quadtree.proofs.LeafLevel.{cell_of, IsListed, IsLeafLevel, leaf_level_exists, tree_at_next}
 use Rattle.soundness.specs.Accounts.{under}
 use Rattle.soundness.proofs.Nodes.{strong, under-root, under-parent, under-self, under-le}
-use Rattle.tree_field.specs.Field.{is_over, leaf_below, leaf_at}
+use Rattle.tree_field.specs.Field.{leaf_below, leaf_at}
 use Rattle.tree_field.proofs.Numbers.{number, cell_at, above, tree_cell, number_below, cell_of_number, number_of_cell, level_positive, above_root, above_first, cell_above, above_number}
 
 -- tests that say the same

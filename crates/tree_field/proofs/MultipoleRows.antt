@@ -16,7 +16,7 @@ use Rattle.cell_name.proofs.HoldsTest.{Holds-from_test, test-from_Holds}
 use Rattle.points.specs.Points.{is_source}
 use Rattle.points.specs.declared.Point.{Point}
 use Rattle.cell_name.specs.Quarters.{quarters}
-use Rattle.quadtree.specs.Tree.{count_in, AreInGrid, IsTreeCell, IsSplit, IsLeaf}
+use Rattle.quadtree.specs.Tree.{count_in, AreInGrid, IsTreeCell, IsSplit, IsLeaf, is_over}
 use Rattle.quadtree.proofs.Distinct.{Contains-filter, Contains-into_filter}
 use Rattle.quadtree.proofs.LeafLevel.{cell_of, tree_at_next}
 use Rattle.quadtree.proofs.Parents.{cell_of_point, leaf_or_split, IsTreeCell-below, IsTreeCell-from_below}
@@ -27,7 +27,7 @@ use Rattle.soundness.specs.Accounts.{Accounting, is_child, is_leaf, children}
 use Rattle.soundness.specs.Computed.{total_box, total_row, moments_in, shifted_rows, leaf_row as given_leaf_row}
 use Rattle.soundness.specs.Squares.{quadrant}
 use Rattle.tree_field.specs.Lists.{TreeLists, AreTreeLists}
-use Rattle.tree_field.specs.Field.{is_source_in, has_source, leaf_row, is_over, multipole_above, multipole_row}
+use Rattle.tree_field.specs.Field.{is_source_in, has_source, leaf_row, multipole_above, multipole_row}
 use Rattle.tree_field.proofs.Accounts.{accounting, over_sources}
 use Rattle.quadtree.proofs.Ascending.{same_list, quarters_ascend}
 use Rattle.quadtree.proofs.Lists.{image_of, Contains-into_map, AllPairs-map, AllPairs-range, Contains-range, range_below, filter_none}

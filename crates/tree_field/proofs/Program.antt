@@ -12,8 +12,8 @@ use Rattle.cell_name.specs.Cell.{square}
 use Rattle.cell_name.specs.Order.{IsBefore}
 use Rattle.cell_name.specs.Square.{Square, holds_test}
 use Rattle.cell_lists.specs.Entries.{IsEntry}
-use Rattle.cell_lists.specs.Lists.{lists_of}
-use Rattle.cell_lists.specs.Row.{row}
+use Rattle.cell_lists.specs.EntryLists.{lists_of}
+use Rattle.cell_lists.specs.ListAt.{list_at}
 use Rattle.cell_lists.proofs.CellNumbers.{number_listed, number_before}
 use Rattle.cell_lists.proofs.OneEntry.{in_tree_of}
 use Rattle.cell_lists.proofs.TreeNumbers.{tree_cell_at}
@@ -44,7 +44,7 @@ lists_of_tree tree lists points cap these inside h are a = record {
       (λ c m. a.cells_are.whole c (All-contains (IsTreeCell 16 points cap) (squares tree) c h.cells_are.in_tree m));
   entries = λ letter n lt.
       let b : Square = square_of tree n in
-      let rows : List ℕ = row (lists_of lists letter) n in
+      let rows : List ℕ = list_at (lists_of lists letter) n in
       let es = a.entries_are letter b (tree_cell_at tree points cap n h lt) in
       let is = are.each points cap inside h letter n lt in
       same_list (these.entries letter b) (map (square_of tree) rows) es.ascending

@@ -1,5 +1,5 @@
 -- The field of the method: rows and radii of the cells of the tree, and the box of each target. Rows and boxes count units of 2^-40; a row is a function of its index.
-use Rattle.std.specs.Prelude.{ℕ, zero, suc, ◌+◌, ◌-◌, ◌*◌, pos, Bool, ◌&&◌, not, cond, nat_lt, List, map, filter, sum_by}
+use Rattle.std.specs.Prelude.{ℕ, zero, suc, ◌+◌, ◌-◌, ◌*◌, pos, Bool, ◌&&◌, not, cond, List, map, filter, sum_by}
 use Rattle.std.specs.List.{list_any}
 use Rattle.exact_math.specs.Ends.{BoxEnds, zero_box, add_box, widen_box}
 use Rattle.exact_math.specs.Gaussian.{Gaussian}
@@ -10,7 +10,7 @@ use Rattle.points.specs.Points.{is_source, place}
 use Rattle.near_field.specs.Pair.{pair_box}
 use Rattle.points.specs.declared.Point.{Point}
 use Rattle.cell_name.specs.Quarters.{quarters}
-use Rattle.quadtree.specs.Tree.{count_in}
+use Rattle.quadtree.specs.Tree.{is_over}
 use Rattle.row_recursions.specs.Rows.{shifted_up, converted, shifted_down, local_value, multipole_value}
 use Rattle.row_recursions.specs.Sources.{source_of}
 use Rattle.soundness.specs.Computed.{total_box, total_row, moments_in, far_coefficients_in}
@@ -55,15 +55,11 @@ module _ (points : List Point) where
     single_radius_in s c = single_radius P (weight_in c) s
 
   module _ (cap : ℕ) where
-    -- whether the cell has more points than a leaf may have
-    abbrev pub is_over : Square → Bool
-    is_over c = nat_lt cap (count_in points c)
-
     -- of a cell with that many levels below its own: the sum of the rows of its quarters with a source, shifted up, and of a leaf that of its sources
     unfoldable pub multipole_above : ℕ → Square → ℕ → BoxEnds
     multipole_above zero c = leaf_row c
     multipole_above (suc levels) c =
-        cond (is_over c)
+        cond (is_over points cap c)
         (total_row (λ q. shifted_up (multipole_above levels q) (quadrant q)) (filter has_source (quarters c)))
         (leaf_row c)
 
@@ -75,7 +71,7 @@ module _ (points : List Point) where
     leaf_below zero grid z = square_at grid grid z.re z.im
     leaf_below (suc levels) grid z =
         let c = square_at grid (grid - suc levels) z.re z.im in
-        cond (is_over c) (leaf_below levels grid z) c
+        cond (is_over points cap c) (leaf_below levels grid z) c
 
     abbrev pub leaf_at : ℕ → Gaussian → Square
     leaf_at grid z = leaf_below grid grid z

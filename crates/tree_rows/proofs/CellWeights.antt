@@ -8,9 +8,9 @@ use Rattle.std.proofs.lemmas.List.Elements.{All-weaker, Contains-get_or}
 use Rattle.std.proofs.lemmas.List.Filters.{sum_by-filter_both}
 use Rattle.std.proofs.lemmas.List.Sums.{sum_by-cons, sum_by-le-sum_by, sum_by_more_le}
 use Rattle.cell_name.specs.Square.{Square}
+use Rattle.points.proofs.Slices.{first_point}
 use Rattle.points.specs.Points.{is_source}
 use Rattle.points.specs.Limits.{InRange, weight64, total_weight}
-use Rattle.points.specs.declared.Kind.TheVariants.{Charge}
 use Rattle.points.specs.declared.Point.{Point}
 use Rattle.quadtree.specs.Members.{holds_position, members_of}
 use Rattle.quadtree.specs.TreeModel.{TreeModel, size, square_of, node_of}
@@ -24,16 +24,12 @@ use Rattle.tree_field.proofs.Program.{nodes_of_tree}
 use Rattle.tree_field.proofs.Sums.{sum_by-map}
 use Rattle.tree_rows.specs.Trees.{IsTreeOfPoints}
 
--- what stands for the point past the last
-abbrev pub no_point : Point
-no_point = record { x = pos 0; y = pos 0; kind = Charge (pos 0) }
-
 abbrev weighs : ℕ → Point → ℕ
 weighs P p = weight P (source_of p)
 
 -- the weight of the point at a position
 abbrev pub weighs_at : ℕ → List Point → ℕ → ℕ
-weighs_at P points k = weighs P (get_or points k no_point)
+weighs_at P points k = weighs P (get_or points k first_point)
 
 pub cell_light : (points : List Point) (P : ℕ) (c : Square) → P ≤ 32 → weight_in points P c ≤ total_weight points
 cell_light points P c few =
@@ -73,9 +69,9 @@ module _ (points : List Point) (tree : TreeModel) (h : IsTreeOfPoints points tre
   pub members_weigh : (P : ℕ) → sum_by (weighs_at P points) (node_of tree n).members ≡ weight_in points P (square_of tree n)
   members_weigh P =
       let in_grid = All-weaker InRange _ (λ p r. grid_of p.x p.y r.grid) points h.range in
-      sym (sum_by-map (weighs P) (λ k. get_or points k no_point) (node_of tree n).members)
-      ∙ sym (sum_of_kept (weighs P) (λ p. is_source p.kind) (map (λ k. get_or points k no_point) (node_of tree n).members) (source_weight-nothing P))
-      ∙ ap (sum_by (weighs P)) ((nodes_of_tree tree points h.cap in_grid h.is_tree n lt).members no_point)
+      sym (sum_by-map (weighs P) (λ k. get_or points k first_point) (node_of tree n).members)
+      ∙ sym (sum_of_kept (weighs P) (λ p. is_source p.kind) (map (λ k. get_or points k first_point) (node_of tree n).members) (source_weight-nothing P))
+      ∙ ap (sum_by (weighs P)) ((nodes_of_tree tree points h.cap in_grid h.is_tree n lt).members first_point)
 
   -- the members so far and the next one weigh no more than a list may
   pub members_light : (P i : ℕ) → P ≤ 32 → i < length (node_of tree n).members → sum_by (weighs_at P points) (take i (node_of tree n).members) + weighs_at P points (get_or (node_of tree n).members i 0) ≤ 2 ^ 32

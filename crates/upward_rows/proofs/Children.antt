@@ -4,33 +4,21 @@ use Rattle.std.specs.Prelude.{nat_lt, Contains, count_by}
 use Rattle.std.proofs.lemmas.List.{length-map}
 use Rattle.std.proofs.lemmas.List.Elements.{Contains-get_or}
 use Rattle.std.proofs.lemmas.List.Sums.{length-filter, count_by-le-length}
-use Rattle.cell_lists.proofs.CellNumbers.{parent_before}
 use Rattle.cell_name.specs.Quarters.{quarters}
 use Rattle.points.specs.declared.Point.{Point}
 use Rattle.quadtree.specs.Tree.{count_in}
-use Rattle.quadtree.specs.TreeModel.{TreeModel, size, square_of, node_of, IsTree}
-use Rattle.quadtree.proofs.Distinct.{Contains-into_filter}
+use Rattle.quadtree.specs.TreeModel.{TreeModel, size, square_of, node_of, children_of}
+use Rattle.quadtree.proofs.Distinct.{Contains-filter, Contains-into_filter}
 use Rattle.quadtree.proofs.Levels.{below-split}
 use Rattle.quadtree.proofs.Limits.{in_grid}
 use Rattle.quadtree.proofs.TreeChildren.{IsChildOf, child_of, children_squares}
 use Rattle.tree_field.specs.Field.{has_source}
 use Rattle.tree_field.specs.Program.{source_children}
 use Rattle.tree_field.proofs.Program.{nodes_of_tree}
-use Rattle.tree_field.proofs.SourceChildren.{source_child, source_children_are}
+use Rattle.tree_field.proofs.SourceChildren.{source_children_are}
 use Rattle.tree_rows.specs.Trees.{IsTreeOfPoints}
 use Rattle.upward_rows.specs.Upward.{shifts_into}
 use Rattle.upward_rows.proofs.Trees.{inner_is}
-
--- a cell with a greater number
-pub record IsBehind (tree : TreeModel) (n m : ℕ) : Type 0 where
-  pub inside : m < size tree
-  pub behind : n < m
-
-pub child_behind : (tree : TreeModel) → IsTree tree → (n m : ℕ) → Contains (source_children tree n) m → IsBehind tree n m
-child_behind tree is n m listed =
-    let child = source_child tree n m listed in
-    let before = (parent_before tree is m child.positive child.in_range).before in
-    record { inside = child.in_range; behind = omega (arith, before, child.number_is) }
 
 module _ (points : List Point) (tree : TreeModel) (h : IsTreeOfPoints points tree) (n : ℕ) (lt : n < size tree) where
   -- ---- one of the children
@@ -45,6 +33,11 @@ module _ (points : List Point) (tree : TreeModel) (h : IsTreeOfPoints points tre
     child_with_source source =
         subst (λ l. Contains l (get_or children k 0)) (source_children_are tree points h.cap h.is_tree n lt)
         (Contains-into_filter (λ m. (node_of tree m).has_source) (node_of tree n).children (get_or children k 0) listed source)
+
+  pub source_child_is : (m : ℕ) → Contains (source_children tree n) m → IsChildOf tree n m
+  source_child_is m kept =
+      child_of tree points h.cap (in_grid points h.range) h.is_tree n m lt
+      (subst (λ l. Contains l m) (sym (h.is_tree.nodes_are n lt).children_are) (Contains-filter (λ c. (node_of tree c).has_source) (children_of tree n) m kept).0)
 
   -- ---- how many they are
   pub children_few : (node_of tree n).is_leaf ≡ false → length (node_of tree n).children ≤ 4

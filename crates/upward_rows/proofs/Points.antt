@@ -7,8 +7,8 @@ use Rattle.std.proofs.lemmas.List.Elements.{filter-append, All-filter, All-take,
 use Rattle.std.proofs.lemmas.List.Sums.{sum_by-append}
 use Rattle.std.proofs.lemmas.Option.{slice_get-get_or, slice_get_within, get_or_from_slice_get}
 use Rattle.cell_name.specs.Square.{Square, holds_test}
+use Rattle.points.proofs.Slices.{first_point}
 use Rattle.points.specs.Points.{is_source}
-use Rattle.points.specs.declared.Kind.TheVariants.{Charge}
 use Rattle.points.specs.declared.Point.{Point}
 use Rattle.points.specs.Limits.{weight64, total_weight}
 use Rattle.quadtree.specs.Members.{holds_point, holds_position, members_of}
@@ -17,12 +17,8 @@ use Rattle.tree_field.specs.Field.{is_source_in, sources_in}
 use Rattle.quadtree.proofs.Lists.{filter-filter, filter_same}
 use Rattle.field_sizes.proofs.CellSources.{IsHeld, sum_by-filter}
 
--- what stands for the point past the last
-abbrev pub no_point : Point
-no_point = record { x = pos 0; y = pos 0; kind = Charge (pos 0) }
-
 abbrev pub points_at : List Point → List ℕ → List Point
-points_at points order = map (λ k. get_or points k no_point) order
+points_at points order = map (λ k. get_or points k first_point) order
 
 abbrev pub source_test : Point → Bool
 source_test p = is_source p.kind
@@ -43,18 +39,18 @@ one_step : (f : ℕ → Point) (b v : Bool) (x : ℕ) (y : Point) (rest : List �
 one_step f true v x y rest others e h r = ap₂ (λ u l. u ∷ l) h r ∙ ap (λ t. cond t (y ∷ others) others) e
 one_step f false v x y rest others e h r = r ∙ ap (λ t. cond t (y ∷ others) others) e
 
-from_front : (c : Square) (front points : List Point) → map (λ k. get_or (front ++ points) k no_point) (filter (λ k. holds_position c (front ++ points) k) (range_with_len (length front) (length points))) ≡ points_in points c
+from_front : (c : Square) (front points : List Point) → map (λ k. get_or (front ++ points) k first_point) (filter (λ k. holds_position c (front ++ points) k) (range_with_len (length front) (length points))) ≡ points_in points c
 from_front c front [] = refl
 from_front c front (p ∷ ps) =
     let all : List Point = front ++ p ∷ ps in
     let shift : (front ++ p ∷ []) ++ ps ≡ all = append_assoc front (p ∷ []) ps in
     let long : length (front ++ p ∷ []) ≡ length front + 1 = omega (arith, length-append front (p ∷ [])) in
-    let P : List Point → Type 0 = λ xs. map (λ k. get_or xs k no_point) (filter (λ k. holds_position c xs k) (range_with_len (length (front ++ p ∷ [])) (length ps))) ≡ points_in ps c in
-    let Q : ℕ → Type 0 = λ n. map (λ k. get_or all k no_point) (filter (λ k. holds_position c all k) (range_with_len n (length ps))) ≡ points_in ps c in
+    let P : List Point → Type 0 = λ xs. map (λ k. get_or xs k first_point) (filter (λ k. holds_position c xs k) (range_with_len (length (front ++ p ∷ [])) (length ps))) ≡ points_in ps c in
+    let Q : ℕ → Type 0 = λ n. map (λ k. get_or all k first_point) (filter (λ k. holds_position c all k) (range_with_len n (length ps))) ≡ points_in ps c in
     let rest = subst Q long (subst P shift (from_front c (front ++ p ∷ []) ps)) in
     let inside : length front < length all = omega (arith, length-append front (p ∷ ps)) in
     let here : holds_position c all (length front) ≡ holds_test c p.x p.y = ap (holds_point c) (slice_get-get_or all (length front) p inside ∙ ap Some (at_front front p p ps)) in
-    one_step (λ k. get_or all k no_point) (holds_position c all (length front)) (holds_test c p.x p.y) (length front) p (filter (λ k. holds_position c all k) (range_with_len (length front + 1) (length ps))) (points_in ps c) here (at_front front p no_point ps) rest
+    one_step (λ k. get_or all k first_point) (holds_position c all (length front)) (holds_test c p.x p.y) (length front) p (filter (λ k. holds_position c all k) (range_with_len (length front + 1) (length ps))) (points_in ps c) here (at_front front p first_point ps) rest
 
 pub points_at-members : (points : List Point) (c : Square) → points_at points (members_of points c) ≡ points_in points c
 points_at-members points c = from_front c [] points
@@ -76,7 +72,7 @@ sources_at-members points c = ap (filter source_test) (points_at-members points 
 -- ---- weights
 pub sum_by-take : (f : Point → ℕ) (points : List Point) (order : List ℕ) (i : ℕ) → sum_by f (points_at points (take i order)) ≤ sum_by f (points_at points order)
 sum_by-take f points order i =
-    let at : ℕ → Point = λ k. get_or points k no_point in
+    let at : ℕ → Point = λ k. get_or points k first_point in
     let e : map at order ≡ map at (take i order) ++ map at (drop i order) = ap (map at) (sym (take-append-drop i order)) ∙ map-append at (take i order) (drop i order) in
     omega (arith, ap (sum_by f) e, sum_by-append f (map at (take i order)) (map at (drop i order)))
 
@@ -89,24 +85,24 @@ weight_so_far points c order i e =
     omega arith
 
 -- ---- one position more
-pub sources_more : (points : List Point) (order : List ℕ) (i : ℕ) (p : Point) → i < length order → p ≡ get_or points (get_or order i 0) no_point → sources_at points (take (i + 1) order) ≡ sources_at points (take i order) ++ cond (source_test p) (p ∷ []) []
+pub sources_more : (points : List Point) (order : List ℕ) (i : ℕ) (p : Point) → i < length order → p ≡ get_or points (get_or order i 0) first_point → sources_at points (take (i + 1) order) ≡ sources_at points (take i order) ++ cond (source_test p) (p ∷ []) []
 sources_more points order i p lt e =
-    let at : ℕ → Point = λ k. get_or points k no_point in
+    let at : ℕ → Point = λ k. get_or points k first_point in
     ap (sources_at points) (take_more order i 0 lt)
     ∙ ap (filter source_test) (map-append at (take i order) (get_or order i 0 ∷ []))
     ∙ filter-append source_test (map at (take i order)) (at (get_or order i 0) ∷ [])
     ∙ ap (λ q. sources_at points (take i order) ++ cond (source_test q) (q ∷ []) []) (sym e)
 
-pub more_yes : (points : List Point) (order : List ℕ) (i : ℕ) (p : Point) → i < length order → p ≡ get_or points (get_or order i 0) no_point → source_test p ≡ true → sources_at points (take (i + 1) order) ≡ sources_at points (take i order) ++ p ∷ []
+pub more_yes : (points : List Point) (order : List ℕ) (i : ℕ) (p : Point) → i < length order → p ≡ get_or points (get_or order i 0) first_point → source_test p ≡ true → sources_at points (take (i + 1) order) ≡ sources_at points (take i order) ++ p ∷ []
 more_yes points order i p lt e t = sources_more points order i p lt e ∙ ap (λ b. sources_at points (take i order) ++ cond b (p ∷ []) []) t
 
-pub more_no : (points : List Point) (order : List ℕ) (i : ℕ) (p : Point) → i < length order → p ≡ get_or points (get_or order i 0) no_point → source_test p ≡ false → sources_at points (take (i + 1) order) ≡ sources_at points (take i order)
+pub more_no : (points : List Point) (order : List ℕ) (i : ℕ) (p : Point) → i < length order → p ≡ get_or points (get_or order i 0) first_point → source_test p ≡ false → sources_at points (take (i + 1) order) ≡ sources_at points (take i order)
 more_no points order i p lt e t = sources_more points order i p lt e ∙ ap (λ b. sources_at points (take i order) ++ cond b (p ∷ []) []) t ∙ append-nil (sources_at points (take i order))
 
 -- ---- a member is the position of a point that the cell holds
 pub record IsMemberAt (points : List Point) (c : Square) (k : ℕ) : Type 0 where
   pub inside : k < length points
-  pub held : IsHeld c (get_or points k no_point)
+  pub held : IsHeld c (get_or points k first_point)
 
 pub member_at : (points : List Point) (c : Square) (order : List ℕ) (i : ℕ) → order ≡ members_of points c → i < length order → IsMemberAt points c (get_or order i 0)
 member_at points c order i e lt =
@@ -115,7 +111,7 @@ member_at points c order i e lt =
     let m = member_point points c k h in
     record {
       inside = slice_get_within points k m.0 m.1.point_is;
-      held = subst (IsHeld c) (sym (get_or_from_slice_get points k m.0 no_point m.1.point_is)) m.1.held;
+      held = subst (IsHeld c) (sym (get_or_from_slice_get points k m.0 first_point m.1.point_is)) m.1.held;
     }
 
 all_map : (f : ℕ → Point) (P : Point → Type 0) (xs : List ℕ) → ((i : ℕ) → i < length xs → P (f (get_or xs i 0))) → All P (map f xs)
@@ -124,9 +120,9 @@ all_map f P xs h i d lt = let l : i < length xs = omega (arith, length-map xs f)
 pub held_so_far : (points : List Point) (c : Square) (order : List ℕ) (i : ℕ) → order ≡ members_of points c → All (IsHeld c) (sources_at points (take i order))
 held_so_far points c order i e =
     All-filter source_test (IsHeld c) (points_at points (take i order))
-    (subst (All (IsHeld c)) (cut order i) (All-take (IsHeld c) i (points_at points order) (all_map (λ k. get_or points k no_point) (IsHeld c) order (λ j lt. (member_at points c order j e lt).held))))
+    (subst (All (IsHeld c)) (cut order i) (All-take (IsHeld c) i (points_at points order) (all_map (λ k. get_or points k first_point) (IsHeld c) order (λ j lt. (member_at points c order j e lt).held))))
   where
     cut : (order : List ℕ) (i : ℕ) → take i (points_at points order) ≡ points_at points (take i order)
     cut order zero = refl
     cut [] (suc i) = refl
-    cut (k ∷ order) (suc i) = ap (λ l. get_or points k no_point ∷ l) (cut order i)
+    cut (k ∷ order) (suc i) = ap (λ l. get_or points k first_point ∷ l) (cut order i)

@@ -3,11 +3,11 @@ use Rattle.fmm_program.proofs.solve.answer_points.Goals as goal
 
 pub returns-in-Ok-write_report-clause-ends : goal.returns-in-Ok-write_report-clause-ends
 returns-in-Ok-write_report-clause-ends g c input within spelled =
-    report_ends g.row.P c.args.cap input c.args.points.now.mode c.args.points.now.list within spelled c.in-Ok.ensures.none_crowded c.in-Ok.ensures.no_more _ _ c.in-Ok-write_report.ensures.done
+    report_ends g.row.P c.args.cap input c.args.points.now.mode c.args.points.now.list within spelled c.in-Ok.ensures.none_crowded c.in-Ok.ensures.no_more _ _ c.in-Ok-write_report.ensures.bytes
 
 pub returns-in-Ok-clause-ends : goal.returns-in-Ok-clause-ends
 returns-in-Ok-clause-ends g c input within spelled =
-    part_ends g.row.P c.args.cap input c.args.points.now.mode c.args.points.now.list within spelled c.in-Ok.ensures.none_crowded c.in-Ok.ensures.no_more _ _ c.in-Err-write_report.ensures.part
+    part_ends g.row.P c.args.cap input c.args.points.now.mode c.args.points.now.list within spelled c.in-Ok.ensures.none_crowded c.in-Ok.ensures.no_more _ _ c.in-Err-write_report.ensures.bytes
 
 pub returns-clause-ends : goal.returns-clause-ends
 returns-clause-ends g c input within spelled =

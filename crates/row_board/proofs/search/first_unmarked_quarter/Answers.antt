@@ -2,7 +2,7 @@
 use Rattle.std.proofs.Common.{sym, ◌∙◌, arith}
 use Rattle.row_board.proofs.Children.{all_marked, child_in_range, one_without, one_marked, first_here}
 use Rattle.row_board.proofs.search.first_unmarked_quarter.Goals as goal
-use Rattle.row_board.proofs.search.first_unmarked_quarter.Goals.{then-has_source+else-not-marks-m, else-has_source}
+use Rattle.row_board.proofs.search.first_unmarked_quarter.Goals.{else-has_source-via-then-has_source+else-not-marks-m, else-has_source-via-else-has_source}
 
 pub has_source-requires : goal.has_source-requires
 has_source-requires c = child_in_range c.args.tree.now c.args.marks.now c.args.n c.children-children.result.now c.requires.tree c.requires.cell c.children-children.ensures c.loop-child.child-index c.loop-child-test.true c.loop-child.invariant
@@ -15,9 +15,9 @@ returns-then-not-marks-m c = first_here c.args.tree.now c.args.marks.now c.args.
 
 pub loop-child-preserved : goal.loop-child-preserved
 loop-child-preserved c =
-    elim c.if-has_source.branch [
-      | then-has_source+else-not-marks-m w ↦ one_marked c.args.tree.now c.args.marks.now c.args.n c.children-children.result.now c.requires.tree c.requires.cell c.children-children.ensures c.loop-child.child-index c.loop-child-test.true c.loop-child.invariant (sym c.has_source.ensures ∙ w.if-has_source.true) w.if-not-marks-m.false
-      | else-has_source w ↦ one_without c.args.tree.now c.args.marks.now c.args.n c.children-children.result.now c.requires.tree c.requires.cell c.children-children.ensures c.loop-child.child-index c.loop-child-test.true c.loop-child.invariant (sym c.has_source.ensures ∙ w.if-has_source.false)
+    elim c.else-has_source.branch [
+      | else-has_source-via-then-has_source+else-not-marks-m w ↦ one_marked c.args.tree.now c.args.marks.now c.args.n c.children-children.result.now c.requires.tree c.requires.cell c.children-children.ensures c.loop-child.child-index c.loop-child-test.true c.loop-child.invariant (sym c.has_source.ensures ∙ w.if-has_source.true) w.if-not-marks-m.false
+      | else-has_source-via-else-has_source w ↦ one_without c.args.tree.now c.args.marks.now c.args.n c.children-children.result.now c.requires.tree c.requires.cell c.children-children.ensures c.loop-child.child-index c.loop-child-test.true c.loop-child.invariant (sym c.has_source.ensures ∙ w.if-has_source.false)
     ]
 
 pub returns : goal.returns

@@ -4,7 +4,7 @@ use Rattle.std.specs.Prelude.{sum_by}
 use Rattle.std.proofs.lemmas.Int.{ints}
 use Rattle.std.proofs.lemmas.List.{take_all}
 use Rattle.std.proofs.lemmas.List.Sums.{sum_by_more}
-use Rattle.cell_lists.specs.Row.{row}
+use Rattle.cell_lists.specs.ListAt.{list_at}
 use Rattle.cell_lists.proofs.TreeNumbers.{read_at}
 use Rattle.cell_name.specs.Cell.{square}
 use Rattle.cell_name.specs.Square.{side}
@@ -47,7 +47,7 @@ loop-c-preserved g c =
     let tree = c.args.tree.now in
     let weights = c.args.weights.now in
     let i = c.loop-c.c-index in
-    let xs : List ℕ = row c.args.lists.now.w c.args.b in
+    let xs : List ℕ = list_at c.args.lists.now.w c.args.b in
     let items : List ℕ = c.w_list-c-items.result.now in
     let n : ℕ = get_or items i 0 in
     let h = far_below tree c.args.lists.now c.requires.tree c.requires.lists c.args.b c.requires.number items c.w_list-c-items.ensures i (omega arith) in
@@ -69,7 +69,7 @@ loop-c-preserved g c =
 
 pub returns-clause-size : goal.returns-clause-size
 returns-clause-size g c =
-    let xs : List ℕ = row c.args.lists.now.w c.args.b in
+    let xs : List ℕ = list_at c.args.lists.now.w c.args.b in
     let n = few_far c.args.tree.now c.args.lists.now c.requires.tree c.requires.lists c.args.b c.requires.number c.w_list-c-items.result.now c.w_list-c-items.ensures in
     let long : length c.w_list-c-items.result.now ≡ length xs = ap length c.w_list-c-items.ensures in
     let f : ℕ → ℕ = λ n. single_radius g.row.P (stored_weight c.args.weights.now n) (side (square_of c.args.tree.now n)) in

@@ -1,7 +1,8 @@
 use Rattle.std.proofs.Common.{◌∙◌, ◌≡◌, arith, get_or}
 use Rattle.complex_box.proofs.Sizes.{box_wider}
+use Rattle.points.proofs.Slices.{first_point}
 use Rattle.points.specs.Points.{place}
-use Rattle.target_values.proofs.NearSums.{first_point, ends-step, pairs-step, one_at_most}
+use Rattle.target_values.proofs.NearSums.{ends-step, pairs-step, one_at_most}
 use Rattle.std.proofs.lemmas.List.{get_or_default}
 use Rattle.points.specs.declared.Point.{Point}
 use Rattle.target_values.specs.Points.{no_point, point_at}

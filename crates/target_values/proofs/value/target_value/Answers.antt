@@ -4,6 +4,7 @@ use Rattle.std.proofs.lemmas.List.Elements.{All-contains}
 use Rattle.exact_math.specs.Ends.{BoxEndsContain}
 use Rattle.cell_name.specs.Square.{Holds}
 use Rattle.near_field.specs.DirectSum.{direct_sum}
+use Rattle.points.proofs.Slices.{first_point}
 use Rattle.points.specs.Points.{place}
 use Rattle.points.specs.declared.Point.{Point}
 use Rattle.quadtree.specs.TreeModel.{square_of}
@@ -11,7 +12,6 @@ use Rattle.tree_field.specs.Field.{target_box, targets}
 use Rattle.target_values.specs.Points.{no_point, point_at}
 use Rattle.target_values.specs.Values.{value_at, near_count}
 use Rattle.target_values.proofs.FieldBox.{leaf_at_position, box_is, boxes_contain}
-use Rattle.target_values.proofs.NearSums.{first_point}
 use Rattle.quadtree.proofs.Limits.{in_grid}
 use Rattle.target_values.proofs.value.target_value.Goals as goal
 

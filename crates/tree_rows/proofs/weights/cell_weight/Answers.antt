@@ -4,9 +4,10 @@ use Rattle.std.proofs.lemmas.Int.{ints}
 use Rattle.std.proofs.lemmas.List.{take_all}
 use Rattle.std.proofs.lemmas.List.Sums.{sum_by_more}
 use Rattle.std.specs.Prelude.{sum_by}
+use Rattle.points.proofs.Slices.{first_point}
 use Rattle.quadtree.specs.TreeModel.{square_of, node_of}
 use Rattle.row_recursions.proofs.Points.{weight-source_of}
-use Rattle.tree_rows.proofs.CellWeights.{no_point, weighs_at, position_inside, members_weigh, members_light, cell_light, light_fits, light_sum}
+use Rattle.tree_rows.proofs.CellWeights.{weighs_at, position_inside, members_weigh, members_light, cell_light, light_fits, light_sum}
 use Rattle.tree_rows.proofs.weights.cell_weight.Goals as goal
 
 inside : (c : goal.After-weight-total) → c.loop-k.k-index < length (node_of c.args.tree.now c.args.n).members
@@ -21,12 +22,12 @@ bounds-points-k c =
     omega (arith, ap (λ (l : List ℕ). get_or l i 0) e, h)
 
 pub weight-total-requires-clause-range : goal.weight-total-requires-clause-range
-weight-total-requires-clause-range c = c.requires.tree.range _ no_point (bounds-points-k c)
+weight-total-requires-clause-range c = c.requires.tree.range _ first_point (bounds-points-k c)
 
 -- the next member's weight
 next : (c : goal.After-weight-total) → c.weight-total.result ≡ pos (weighs_at c.args.order c.args.points.now (get_or (node_of c.args.tree.now c.args.n).members c.loop-k.k-index 0))
 next c =
-    let p = get_or c.args.points.now (get_or c.members-k-items.result.now c.loop-k.k-index 0) no_point in
+    let p = get_or c.args.points.now (get_or c.members-k-items.result.now c.loop-k.k-index 0) first_point in
     c.weight-total.ensures ∙ ap pos (sym (weight-source_of c.args.order p))
     ∙ ap (λ (l : List ℕ). pos (weighs_at c.args.order c.args.points.now (get_or l c.loop-k.k-index 0))) c.members-k-items.ensures
 

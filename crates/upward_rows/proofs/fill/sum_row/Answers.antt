@@ -1,5 +1,5 @@
 -- One child more.
-use Rattle.std.proofs.Common.{◌≡◌, ℕ, ◌+◌, ◌-◌, ◌*◌, ◌^◌, ◌<◌, ◌≤◌, List, [], ◌∷◌, length, get_or, take, true, false, cond, ap, ap₂, lit<, sym, subst, ◌∙◌, arith, length-append}
+use Rattle.std.proofs.Common.{◌≡◌, ℕ, ◌+◌, ◌-◌, ◌*◌, ◌^◌, ◌<◌, ◌≤◌, List, [], ◌∷◌, length, get_or, take, true, cond, ap, ap₂, lit<, sym, subst, ◌∙◌, arith, length-append}
 use Rattle.std.proofs.lemmas.List.{take_all}
 use Rattle.std.proofs.lemmas.List.Elements.{All-contains}
 use Rattle.exact_math.specs.Ends.{BoxEnds, BoxEndsWithin, add_box}
@@ -8,8 +8,7 @@ use Rattle.complex_box.specs.Counts.{Counts}
 use Rattle.complex_box.proofs.Sizes.{box_wider}
 use Rattle.cell_lists.proofs.TreeNumbers.{read_at}
 use Rattle.cell_name.specs.Cell.{square}
-use Rattle.cell_name.specs.Quarters.{quarter}
-use Rattle.cell_name.specs.Square.{Square, parent}
+use Rattle.cell_name.specs.Square.{Square}
 use Rattle.quadtree.specs.TreeModel.{size, square_of, node_of}
 use Rattle.row_recursions.specs.Cells.{quadrant_of}
 use Rattle.row_recursions.specs.Rows.{row_of, shifted_up}
@@ -50,7 +49,8 @@ overflow_sub-start g c =
 pub slice_bounds-new-end : goal.slice_bounds-new-end
 slice_bounds-new-end g c =
     let child = child_at c.args.points.now c.args.tree.now c.requires.tree c.args.n (omega (arith, c.requires.cell, c.requires.first)) c.children-children.result.now c.loop-child.child-index c.children-children.ensures c.loop-child-test.true in
-    let behind = overflow_sub-start g c in
+    let listed = child_with_source c.args.points.now c.args.tree.now c.requires.tree c.args.n (omega (arith, c.requires.cell, c.requires.first)) c.children-children.result.now c.loop-child.child-index c.children-children.ensures c.loop-child-test.true (sym c.has_source.ensures ∙ c.if-has_source.true) in
+    let behind = All-contains (λ m. c.args.first ≤ m) (source_children c.args.tree.now c.args.n) (get_or c.children-children.result.now c.loop-child.child-index 0) c.requires.children listed in
     let f = row_fits (get_or c.children-children.result.now c.loop-child.child-index 0 - c.args.first) (size c.args.tree.now - c.args.first) g.row.P (omega (arith, behind, child.in_range)) in
     omega (arith, f, c.requires.whole)
 

@@ -13,8 +13,7 @@ use Rattle.tree_field.specs.Program.{source_children}
 use Rattle.quadtree.proofs.Lists.{All-from_members}
 use Rattle.tree_rows.specs.FlatRows.{row_at}
 use Rattle.upward_rows.specs.Upward.{shifts_into}
-use Rattle.tree_rows.proofs.Trees.{some_tree}
-use Rattle.upward_rows.proofs.Children.{child_behind}
+use Rattle.upward_rows.proofs.Children.{source_child_is}
 use Rattle.quadtree.proofs.Limits.{in_grid}
 use Rattle.upward_rows.proofs.Counts.{shifts_more, shifts_of_all}
 use Rattle.field_sizes.proofs.MultipoleSizes.{multipole_row-light}
@@ -31,11 +30,12 @@ fill_row-requires-clause-small g c =
     let capacity = c.requires.tree.cap in
     let is = c.requires.tree.is_tree in
     let n = c.loop-n.n - 1 in
+    let lt : n < size tree = omega (arith, c.loop-n-test.true, c.loop-n.auto.n, ap length c.cells-n.ensures.all) in
     let few = order_bounds P c.requires.order in
     All-from_members (λ m. RowWithin P (2 ^ 74) (row_at P c.loop-n.rows m)) (source_children tree n) (λ m listed k h.
-    let child = child_behind tree (some_tree points tree c.requires.tree) n m listed in
-    let cell = cell_is tree points capacity is m child.inside in
-    subst (BoxEndsWithin (2 ^ 74)) (sym (c.loop-n.invariant.rows capacity m is (omega (arith, child.behind)) child.inside k h))
+    let child = source_child_is points tree c.requires.tree n lt m listed in
+    let cell = cell_is tree points capacity is m child.in_range in
+    subst (BoxEndsWithin (2 ^ 74)) (sym (c.loop-n.invariant.rows capacity m is (omega (arith, child.behind)) child.in_range k h))
     (wider P (2 ^ 72) (2 ^ 74) (multipole_row points capacity (square_of tree m)) (omega arith) (multipole_row-light P points capacity (square_of tree m) (omega (arith, few)) (omega (arith, cell.of_grid, cell.level_in_grid)) c.requires.tree.light) k h))
 
 pub loop-n-preserved : goal.loop-n-preserved
@@ -58,8 +58,8 @@ loop-n-preserved g c =
                 ap (λ j. row_at P c.fill_row.new.rows j k) e
                 ∙ c.fill_row.ensures.row cap is
                 (record {
-                  each = λ j listed. let child = child_behind tree (some_tree points tree c.requires.tree) n j listed in
-                      c.loop-n.invariant.rows cap j is (omega (arith, child.behind, next)) child.inside;
+                  each = λ j listed. let child = source_child_is points tree c.requires.tree n lt j listed in
+                      c.loop-n.invariant.rows cap j is (omega (arith, child.behind, next)) child.in_range;
                 })
                 k h
                 ∙ ap (λ j. multipole_row points cap (square_of tree j) k) (sym e)

@@ -6,11 +6,12 @@ use Rattle.exact_math.specs.Ends.{BoxEndsWithin, add_box}
 use Rattle.exact_math.proofs.Orders.{order_bounds}
 use Rattle.complex_box.proofs.Sizes.{box_wider}
 use Rattle.cell_name.specs.Cell.{square}
+use Rattle.points.proofs.Slices.{first_point}
 use Rattle.points.specs.declared.Point.{Point}
 use Rattle.points.specs.Limits.{weight64}
 use Rattle.row_recursions.specs.Rows.{row_of}
 use Rattle.soundness.specs.Computed.{total_row, moments_in}
-use Rattle.upward_rows.proofs.Points.{no_point, sources_at, sources_at-members, weight_so_far, more_yes, more_no, member_at, held_so_far}
+use Rattle.upward_rows.proofs.Points.{sources_at, sources_at-members, weight_so_far, more_yes, more_no, member_at, held_so_far}
 use Rattle.field_sizes.proofs.MultipoleSizes.{sources_within}
 use Rattle.upward_rows.proofs.Totals.{total_row-more}
 use Rattle.upward_rows.proofs.sources.sum_sources.Goals as goal
@@ -39,7 +40,7 @@ loop-k-preserved g c = λ k h.
     let points = c.args.points.now in
     let members = c.args.members.now in
     let i = c.loop-k.k-index in
-    let p : Point = get_or points (get_or members i 0) no_point in
+    let p : Point = get_or points (get_or members i 0) first_point in
     let f = moments_in (square c.args.cell) in
     elim c.if-is_source.branch [
       | then-is_source w ↦
