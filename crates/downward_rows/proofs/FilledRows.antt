@@ -12,7 +12,6 @@ use Rattle.cell_name.specs.declared.cell.Quadrant.{Quadrant}
 use Rattle.cell_lists.proofs.CellNumbers.{first_level, level_positive, parent_before, IsParentOf}
 use Rattle.cell_lists.specs.ListAt.{list_at}
 use Rattle.cell_lists.specs.EntryLists.{EntryListsModel}
-use Rattle.complex_box.specs.Rows.{AllZero}
 use Rattle.complex_box.specs.declared.CBox.{CBox}
 use Rattle.local_shift.proofs.Sums.{nothing_at}
 use Rattle.points.specs.declared.Point.{Point}
