@@ -3,7 +3,6 @@ use Rattle.std.specs.Prelude.{ℕ, ◌≤◌, List, length, All}
 use Rattle.exact_math.specs.Orders.{IsCapacity}
 use Rattle.cell_lists.specs.Lists.{AreLists, VListsAreShort}
 use Rattle.cell_lists.specs.EntryLists.{EntryListsModel}
-use Rattle.exact_math.specs.Orders.{IsCapacity}
 use Rattle.points.specs.Limits.{InRange, most_points, most_weight, total_weight}
 use Rattle.points.specs.declared.Point.{Point}
 use Rattle.quadtree.specs.TreeModel.{TreeModel, IsTreeOf}
