@@ -38,7 +38,14 @@ fn lists_are(
 }
 
 /// The entry of two leaves has this letter and these cells.
-fn entry_is(rt: &impl Abort, tree: &Tree, b: usize, c: usize, letter: Letter, cells: (usize, usize)) {
+fn entry_is(
+    rt: &impl Abort,
+    tree: &Tree,
+    b: usize,
+    c: usize,
+    letter: Letter,
+    cells: (usize, usize),
+) {
     let count = tree.cells().len();
     assert!(rt; b < count && c < count);
     assert!(rt; tree.is_leaf(b) && tree.is_leaf(c));
