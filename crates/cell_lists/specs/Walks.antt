@@ -43,6 +43,15 @@ pub record AreRoots (tree : TreeModel) (b c : ℕ) : Type 0 where
 abbrev pub IsMet : TreeModel → ℕ → ℕ → Type 0
 IsMet tree b c = AreRoots tree b c ⊎ IsAround tree b c
 
+-- the cells of the level of `b` that touch it are among those found
+abbrev pub HasTouching : TreeModel → ℕ → List ℕ → Type 0
+HasTouching tree b found =
+    (c : ℕ) → c < size tree → (square_of tree c).level ≡ (square_of tree b).level → Touches (square_of tree c) (square_of tree b) → Contains found c
+
+-- those of the found cells that touch `b` are kept
+abbrev pub KeepsTouching : TreeModel → ℕ → List ℕ → List ℕ → Type 0
+KeepsTouching tree b found kept = (c : ℕ) → Contains found c → Touches (square_of tree c) (square_of tree b) → Contains kept c
+
 -- a list for each of the first cells, with its colleagues among it
 pub record AreColleagues (tree : TreeModel) (lists : List (List ℕ)) (count : ℕ) : Type 0 where
   pub as_many : length lists ≡ count

@@ -3,11 +3,9 @@
 ghost use Rattle.std.specs.Prelude.{◌≡◌, ◌<◌, ◌↔◌, IsTrue};
 ghost use Rattle.cell_name.specs.Cell.{square};
 ghost use Rattle.cell_name.specs.Square.{parent, Touches};
-ghost use Rattle.cell_lists.specs.Entries.{IsEntry};
-ghost use Rattle.cell_lists.specs.Numbers.{OfEachList};
-ghost use Rattle.cell_lists.specs.Pairs.{MeetsLetter};
+ghost use Rattle.cell_lists.specs.Pairs.{MeetsLetter, IsLetterOf};
 ghost use Rattle.letters.specs.declared.Letter.{Letter};
-ghost use Rattle.quadtree.specs.TreeModel.{size, square_of};
+ghost use Rattle.quadtree.specs.TreeModel.{size};
 
 use cell_name::Cell;
 use letters::Letter;
@@ -57,7 +55,7 @@ fn letter_of_pair(b: Cell, c: Cell, b_is_leaf: bool, c_is_leaf: bool) -> Option<
 pub(crate) fn letter_of(tree: &Tree, b: usize, c: usize) -> Option<Letter>
     requires first { b < size tree.now }
     requires second { c < size tree.now }
-    ensures { OfEachList tree.now (λ points cap. (letter : Letter) → (result ≡ Some letter) ↔ IsEntry 16 points cap letter (square_of tree.now b) (square_of tree.now c)) }
+    ensures { IsLetterOf tree.now b c result }
 {
     if !tree.has_target(b) || !tree.has_source(c) {
         return None;

@@ -2,9 +2,8 @@
 
 ghost use Rattle.std.specs.Prelude.{◌≡◌, ◌<◌, ℕ, IsTrue, length, OnOk, Contains};
 ghost use Rattle.std.specs.List.Sorted.{IsStrictlyIncreasing};
-ghost use Rattle.cell_name.specs.Square.{Touches};
-ghost use Rattle.cell_lists.specs.Walks.{AreNumbers, AreColleagues, IsMet, IsBelow, AddsChildren};
-ghost use Rattle.quadtree.specs.TreeModel.{size, square_of, node_of, IsTree};
+ghost use Rattle.cell_lists.specs.Walks.{AreNumbers, AreColleagues, IsMet, IsBelow, AddsChildren, HasTouching, KeepsTouching};
+ghost use Rattle.quadtree.specs.TreeModel.{size, node_of, IsTree};
 
 use crate::flat::NumberLists;
 use cell_name::GRID;
@@ -37,7 +36,7 @@ fn push_children(
 pub(crate) fn push_below(tree: &Tree, found: &mut Vec<u32>, b: usize) -> Result<(), AllocError>
     requires number { b < size tree.now }
     requires numbers { AreNumbers tree.now found.old.items }
-    requires found { (c : ℕ) → c < size tree.now → (square_of tree.now c).level ≡ (square_of tree.now b).level → Touches (square_of tree.now c) (square_of tree.now b) → Contains found.old.items c }
+    requires found { HasTouching tree.now b found.old.items }
     ensures numbers { OnOk result (AreNumbers tree.now found.new.items) }
     ensures kept { OnOk result ((c : ℕ) → Contains found.old.items c → Contains found.new.items c) }
     ensures whole { OnOk result (IsTrue (node_of tree.now b).is_leaf → (c : ℕ) → IsBelow tree.now b c → Contains found.new.items c) }
@@ -92,7 +91,7 @@ pub(crate) fn find_touching(
     requires number { b < size tree.now }
     requires numbers { AreNumbers tree.now found.now }
     ensures numbers { OnOk result (AreNumbers tree.now touching.new.items) }
-    ensures whole { OnOk result ((c : ℕ) → Contains found.now c → Touches (square_of tree.now c) (square_of tree.now b) → Contains touching.new.items c) }
+    ensures whole { OnOk result (KeepsTouching tree.now b found.now touching.new.items) }
 {
     touching.clear();
     let cells = tree.cells();

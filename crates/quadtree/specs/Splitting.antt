@@ -37,6 +37,14 @@ squares_of runs = map (λ (r : Run). square r.cell) runs
 abbrev pub parents_of : List Run → List ℕ
 parents_of runs = map (λ (r : Run). r.parent) runs
 
+-- cells were appended
+abbrev pub AddsCells : List Run → List Square → List Run → Type 0
+AddsCells was cells now = squares_of now ≡ squares_of was ++ cells
+
+-- the cells below those from a number on
+abbrev pub below_from : List Point → ℕ → ℕ → List Run → List Square
+below_from points cap start runs = flat_map (below points cap) (drop start (squares_of runs))
+
 -- the quarters of the cell of a number
 abbrev pub quarters_of : List Square → ℕ → List Square
 quarters_of cells n = quarters (slice_index_or cells n (root 16))

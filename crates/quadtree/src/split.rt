@@ -1,12 +1,12 @@
 //! Splitting cells into their quarters, level by level.
 
-ghost use Rattle.std.specs.Prelude.{◌≡◌, ◌≤◌, ◌<◌, ◌++◌, [], ◌∷◌, length, drop, All, OnOk, IfOk};
-ghost use Rattle.std.specs.List.{flat_map, range_with_len};
+ghost use Rattle.std.specs.Prelude.{◌≡◌, ◌≤◌, ◌<◌, ◌++◌, [], ◌∷◌, length, All, OnOk, IfOk};
+ghost use Rattle.std.specs.List.{range_with_len};
 ghost use Rattle.cell_name.specs.Cell.{square, half_number};
 ghost use Rattle.cell_name.specs.Square.{root, child};
 ghost use Rattle.points.specs.Limits.{most_points};
 ghost use Rattle.quadtree.specs.Divided.{HasRoom};
-ghost use Rattle.quadtree.specs.Splitting.{squares_of, occupied, below, quarters_of, added_run, AreRuns, AreBelow, HaveParents};
+ghost use Rattle.quadtree.specs.Splitting.{squares_of, occupied, below_from, quarters_of, added_run, AddsCells, AreRuns, AreBelow, HaveParents};
 ghost use Rattle.quadtree.specs.Tree.{AreInGrid, AreTreeCells};
 
 use crate::divide::Parts;
@@ -82,7 +82,7 @@ impl Splits {
         requires room { All (λ c. c.level ≤ 15) (squares_of above.now) }
         requires parts { HasRoom parts.old (length points.now) }
         requires below { AreBelow points.now above.now self.old.positions.items self.old.runs.items }
-        ensures cells { OnOk result (squares_of self.new.runs.items ≡ squares_of self.old.runs.items ++ occupied points.now (quarters_of (squares_of above.now) number)) }
+        ensures cells { OnOk result (AddsCells self.old.runs.items (occupied points.now (quarters_of (squares_of above.now) number)) self.new.runs.items) }
         ensures below { OnOk result (AreBelow points.now above.now self.new.positions.items self.new.runs.items) }
         ensures parts { OnOk result (HasRoom parts.new (length points.now)) }
     {
@@ -113,7 +113,7 @@ impl Splits {
         requires room { All (λ c. c.level ≤ 15) (squares_of above.now) }
         requires parts { HasRoom parts.old (length points.now) }
         requires below { AreBelow points.now above.now self.old.positions.items self.old.runs.items }
-        ensures cells { OnOk result (squares_of self.new.runs.items ≡ squares_of self.old.runs.items ++ flat_map (below points.now cap) (drop start (squares_of above.now))) }
+        ensures cells { OnOk result (AddsCells self.old.runs.items (below_from points.now cap start above.now) self.new.runs.items) }
         ensures below { OnOk result (AreBelow points.now above.now self.new.positions.items self.new.runs.items) }
         ensures parts { OnOk result (HasRoom parts.new (length points.now)) }
     {
