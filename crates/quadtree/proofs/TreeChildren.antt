@@ -109,7 +109,7 @@ module _ (tree : TreeModel) (points : List Point) (cap : ℕ) (inside : AreInGri
           let i = image_of (square_of tree) (children_of tree n) s m in
           let L : List ℕ → Type 0 = λ l. Contains l i.source in
           let child = child_of n i.source lt (subst L (sym (h.nodes_are n lt).children_are) i.listed) in
-          let cell = cell_at i.source child.in_range in
+          let cell = tree_cell_at tree points cap i.source h child.in_range in
           let lo : 0 < (square_of tree i.source).level = omega (arith, child.level_is) in
           let P : Square → Type 0 = λ v. Contains (below points cap v) (square_of tree i.source) in
           let Q : Square → Type 0 = λ v. Contains (below points cap (square_of tree n)) v in
