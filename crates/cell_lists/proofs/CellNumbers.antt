@@ -11,7 +11,7 @@ use Rattle.cell_name.proofs.Order.{IsBefore-irrefl}
 use Rattle.quadtree.specs.Tree.{IsTreeCell}
 use Rattle.quadtree.specs.TreeModel.{TreeModel, size, squares, square_of, node_of, HasParent, IsTree}
 use Rattle.quadtree.proofs.Parents.{IsTreeCell-parent}
-use Rattle.cell_lists.proofs.TreeNumbers.{tree_cell_at}
+use Rattle.quadtree.proofs.TreeChildren.{tree_cell_at}
 
 -- a listed cell has a number
 pub number_listed : (tree : TreeModel) (s : Square) → Contains (squares tree) s → (n : ℕ) × (n < size tree) × (square_of tree n ≡ s)

@@ -7,19 +7,15 @@ use Rattle.std.proofs.lemmas.List.Edits.{length-between}
 use Rattle.std.proofs.lemmas.List.Sums.{sum_by-append, sum_by-cons}
 use Rattle.std.proofs.lemmas.Slice.{between_to_end}
 use Rattle.std.proofs.Math.Seq.{drop-append_seam}
+use Rattle.quadtree.proofs.Runs.{slice_range-grown}
 use Rattle.cell_lists.specs.declared.flat.Range.{Range}
 use Rattle.cell_lists.specs.FlatLists.{lists_in, IsRange, AreRanges}
-
--- a range stays as it was where the vector goes on
-range_kept : (items more : List ℕ) (from to : ℕ) → from ≤ to → to ≤ length items → slice_range (items ++ more) from to ≡ slice_range items from to
-range_kept items more from to le hi =
-    ap (take (to - from)) (drop-append-le from items more (omega arith)) ∙ take-append-le (to - from) (drop from items) more (omega (arith, length-drop from items))
 
 lists_kept : (items more : List ℕ) (ranges : List Range) → All (IsRange items) ranges → lists_in (items ++ more) ranges ≡ lists_in items ranges
 lists_kept items more [] h = refl
 lists_kept items more (r ∷ rs) h =
     let here = All-head (IsRange items) r rs h in
-    let e = range_kept items more r.from r.to here.ordered here.in_range in
+    let e = slice_range-grown items more r.from r.to here.ordered here.in_range in
     let rest = lists_kept items more rs (All-tail (IsRange items) r rs h) in
     ap (λ l. l ∷ lists_in (items ++ more) rs) e ∙ ap (λ l. slice_range items r.from r.to ∷ l) rest
 

@@ -7,7 +7,7 @@ use Rattle.letters.specs.declared.Letter.TheVariants.{U, V, W, X}
 use Rattle.quadtree.specs.TreeModel.{TreeModel, size, square_of, node_of, IsTreeOf}
 use Rattle.cell_lists.specs.Entries.{IsPair, IsEntry}
 use Rattle.cell_lists.specs.Pairs.{MeetsLetter}
-use Rattle.cell_lists.proofs.TreeNumbers.{tree_cell_at}
+use Rattle.quadtree.proofs.TreeChildren.{tree_cell_at}
 
 module _ (tree : TreeModel) (points : List Point) (cap b c : ℕ) (h : IsTreeOf 16 tree points cap) (lb : b < size tree) (lc : c < size tree) where
   -- two cells meet the condition of a letter

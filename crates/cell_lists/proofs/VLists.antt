@@ -9,7 +9,7 @@ use Rattle.std.proofs.Math.Nat.{mul-le-mul_right}
 use Rattle.points.specs.declared.Point.{Point}
 use Rattle.cell_name.specs.Order.{IsBefore}
 use Rattle.cell_name.specs.Square.{Square, side, half, parent, Touches}
-use Rattle.cell_name.proofs.Distances.{same_side}
+use Rattle.cell_name.proofs.Distances.{near, same_side}
 use Rattle.letters.specs.declared.Letter.TheVariants.{V}
 use Rattle.quadtree.specs.TreeModel.{TreeModel, size, square_of, IsTreeOf, IsTree}
 use Rattle.cell_lists.specs.Entries.{ComeApartOnOneLevel}
@@ -18,14 +18,6 @@ use Rattle.cell_lists.specs.ListAt.{list_at}
 use Rattle.cell_lists.specs.EntryLists.{EntryListsModel}
 use Rattle.std.proofs.lemmas.List.{get_or_default}
 use Rattle.cell_lists.proofs.CellNumbers.{number_before}
-
--- pieces of one length that meet are neighbours
-near_index : (i k s : ℕ) → 0 < s → i * s ≤ k * s + s → i ≤ k + 1
-near_index i k s positive le =
-    elim (cases_lt (k + 1) i) [
-      | inr near ↦ near
-      | inl far ↦ let more : (k + 2) * s ≤ i * s = mul-le-mul_right s (omega arith) in absurd (omega arith)
-    ]
 
 near_pieces : (i k s : ℕ) → i ≤ k + 1 → i * s ≤ k * s + s
 near_pieces i k s near = let le : i * s ≤ (k + 1) * s = mul-le-mul_right s near in omega arith
@@ -46,10 +38,10 @@ neighbours-from_touch b c grid level t =
     let ei : b.i * side b ≡ b.i * s = ap (λ n. b.i * n) e in
     let ej : b.j * side b ≡ b.j * s = ap (λ n. b.j * n) e in
     record {
-      west = near_index b.i c.i s positive (omega (arith, ints, t.west));
-      east = near_index c.i b.i s positive (omega (arith, ints, t.east));
-      south = near_index b.j c.j s positive (omega (arith, ints, t.south));
-      north = near_index c.j b.j s positive (omega (arith, ints, t.north));
+      west = near b.i c.i s positive (omega (arith, ints, t.west));
+      east = near c.i b.i s positive (omega (arith, ints, t.east));
+      south = near b.j c.j s positive (omega (arith, ints, t.south));
+      north = near c.j b.j s positive (omega (arith, ints, t.north));
     }
 
 touch-from_neighbours : (b c : Square) → b.grid ≡ c.grid → b.level ≡ c.level → AreNeighbours b c → Touches b c

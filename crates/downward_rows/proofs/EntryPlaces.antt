@@ -9,7 +9,7 @@ use Rattle.std.proofs.lemmas.Map.Keys.{sorted_from_strictly_increasing}
 use Rattle.std.proofs.lemmas.Map.Views.{length-le_from_below}
 use Rattle.std.proofs.lemmas.Option.{get_or_from_slice_get}
 use Rattle.cell_name.proofs.HoldsTest.{Holds-from_test}
-use Rattle.cell_lists.proofs.TreeNumbers.{tree_cell_at}
+use Rattle.quadtree.proofs.TreeChildren.{tree_cell_at}
 use Rattle.cell_lists.specs.Entries.{IsEntry, IsVPair, IsWPair}
 use Rattle.cell_lists.specs.EntryLists.{lists_of, EntryListsModel}
 use Rattle.cell_lists.specs.Lists.{IsListOf}

@@ -6,7 +6,7 @@ use Rattle.std.proofs.lemmas.List.Kept.{AllPairs-from_increasing}
 use Rattle.cell_name.specs.Order.{IsBefore}
 use Rattle.cell_name.specs.Square.{Square}
 use Rattle.cell_lists.proofs.CellNumbers.{number_listed, number_before}
-use Rattle.cell_lists.proofs.TreeNumbers.{tree_cell_at}
+use Rattle.quadtree.proofs.TreeChildren.{tree_cell_at}
 use Rattle.cell_lists.specs.Entries.{IsEntry, IsPair}
 use Rattle.cell_lists.specs.EntryLists.{lists_of, EntryListsModel}
 use Rattle.cell_lists.specs.Lists.{IsListOf, AreLists}

@@ -17,7 +17,7 @@ use Rattle.quadtree.specs.Tree.{count_in}
 use Rattle.quadtree.proofs.Positions.{members-parent}
 
 -- a range of a list that goes on
-slice_range-grown : (xs more : List ℕ) (from to : ℕ) → from ≤ to → to ≤ length xs → slice_range (xs ++ more) from to ≡ slice_range xs from to
+pub slice_range-grown : (xs more : List ℕ) (from to : ℕ) → from ≤ to → to ≤ length xs → slice_range (xs ++ more) from to ≡ slice_range xs from to
 slice_range-grown xs more from to le hi =
     ap (take (to - from)) (drop-append-le from xs more (omega arith)) ∙ take-append-le (to - from) (drop from xs) more (omega (arith, length-drop from xs))
 

@@ -30,12 +30,13 @@ pub record IsChildOf (tree : TreeModel) (n c : ℕ) : Type 0 where
   pub level_is : (square_of tree c).level ≡ (square_of tree n).level + 1
   pub behind : n < c
 
+-- the cell of a number is one of the tree
+pub tree_cell_at : (tree : TreeModel) (points : List Point) (cap n : ℕ) → IsTreeOf 16 tree points cap → n < size tree → IsTreeCell 16 points cap (square_of tree n)
+tree_cell_at tree points cap n h lt = All-get_or (IsTreeCell 16 points cap) (squares tree) n (root 16) (omega (arith, length-map tree.cells _)) h.cells_are.in_tree
+
 module _ (tree : TreeModel) (points : List Point) (cap : ℕ) (inside : AreInGrid 16 points) (h : IsTreeOf 16 tree points cap) where
   as_many : length (squares tree) ≡ size tree
   as_many = length-map tree.cells _
-
-  cell_at : (n : ℕ) → n < size tree → IsTreeCell 16 points cap (square_of tree n)
-  cell_at n lt = All-get_or (IsTreeCell 16 points cap) (squares tree) n (root 16) (omega (arith, as_many)) h.cells_are.in_tree
 
   same : (m n : ℕ) → m < size tree → n < size tree → square_of tree m ≡ square_of tree n → m ≡ n
   same m n lm ln e = number_unique (squares tree) m n h.cells_are.ascending (omega (arith, as_many)) (omega (arith, as_many)) e
@@ -108,7 +109,7 @@ module _ (tree : TreeModel) (points : List Point) (cap : ℕ) (inside : AreInGri
           let i = image_of (square_of tree) (children_of tree n) s m in
           let L : List ℕ → Type 0 = λ l. Contains l i.source in
           let child = child_of n i.source lt (subst L (sym (h.nodes_are n lt).children_are) i.listed) in
-          let cell = cell_at i.source child.in_range in
+          let cell = tree_cell_at tree points cap i.source h child.in_range in
           let lo : 0 < (square_of tree i.source).level = omega (arith, child.level_is) in
           let P : Square → Type 0 = λ v. Contains (below points cap v) (square_of tree i.source) in
           let Q : Square → Type 0 = λ v. Contains (below points cap (square_of tree n)) v in
@@ -120,7 +121,7 @@ module _ (tree : TreeModel) (points : List Point) (cap : ℕ) (inside : AreInGri
       up : (s : Square) → Contains (below points cap (square_of tree n)) s → Contains (map (square_of tree) (children_of tree n)) s
       up s m =
           let b = below_is points cap (square_of tree n) s m in
-          let here = cell_at n lt in
+          let here = tree_cell_at tree points cap n h lt in
           let S : Square → Type 0 = λ v. IsSplit points cap v in
           let in_tree : IsTreeCell 16 points cap s = IsTreeCell-from_below 16 points cap s (b.quarter.of_grid ∙ here.of_grid) (omega (arith, b.quarter.level)) (omega (arith, b.quarter.level)) b.occupied (subst S (sym b.quarter.parent_is) b.split) in
           let k = h.cells_are.whole s in_tree in

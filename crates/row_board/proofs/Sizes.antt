@@ -10,7 +10,7 @@ use Rattle.std.proofs.lemmas.Nat.{div-add-mod'}
 use mathlib.Core.Logic.{⊎_elim}
 use Rattle.exact_math.specs.Ends.{BoxEnds, BoxEndsWithin, zero_box}
 use Rattle.exact_math.proofs.Orders.{order_bounds}
-use Rattle.cell_lists.proofs.TreeNumbers.{tree_cell_at}
+use Rattle.quadtree.proofs.TreeChildren.{tree_cell_at}
 use Rattle.complex_box.specs.Box.{BoxWithin}
 use Rattle.complex_box.specs.Rows.{at, zero_cbox}
 use Rattle.complex_box.specs.declared.CBox.{CBox}

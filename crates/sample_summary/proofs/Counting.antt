@@ -12,7 +12,7 @@ use Rattle.cell_name.specs.Square.{Square, root}
 use Rattle.cell_lists.specs.EntryLists.{lists_of, EntryListsModel}
 use Rattle.cell_lists.specs.Lists.{AreLists}
 use Rattle.cell_lists.specs.ListAt.{list_at}
-use Rattle.cell_lists.proofs.TreeNumbers.{tree_cell_at}
+use Rattle.quadtree.proofs.TreeChildren.{tree_cell_at}
 use Rattle.letters.specs.declared.Letter.{Letter}
 use Rattle.points.specs.declared.Point.{Point}
 use Rattle.quadtree.specs.Tree.{count_in, AreInGrid, IsTreeCell, IsLeaf}

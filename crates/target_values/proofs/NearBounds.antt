@@ -7,7 +7,7 @@ use Rattle.cell_name.specs.Square.{Square}
 use Rattle.cell_lists.specs.Lists.{AreLists}
 use Rattle.cell_lists.specs.ListAt.{list_at}
 use Rattle.cell_lists.specs.EntryLists.{EntryListsModel}
-use Rattle.cell_lists.proofs.TreeNumbers.{tree_cell_at}
+use Rattle.quadtree.proofs.TreeChildren.{tree_cell_at}
 use Rattle.letters.specs.declared.Letter.TheVariants.{U}
 use Rattle.field_sizes.proofs.Disjoint.{entries_share_no_source}
 use Rattle.near_field.specs.Pair.{is_at}

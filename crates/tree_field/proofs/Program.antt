@@ -16,7 +16,6 @@ use Rattle.cell_lists.specs.EntryLists.{lists_of}
 use Rattle.cell_lists.specs.ListAt.{list_at}
 use Rattle.cell_lists.proofs.CellNumbers.{number_listed, number_before}
 use Rattle.cell_lists.proofs.OneEntry.{in_tree_of}
-use Rattle.cell_lists.proofs.TreeNumbers.{tree_cell_at}
 use Rattle.points.specs.Points.{is_source}
 use Rattle.points.specs.declared.Point.{Point}
 use Rattle.quadtree.specs.Members.{holds_point, holds_position, members_of}
@@ -27,7 +26,7 @@ use Rattle.quadtree.proofs.Distinct.{Contains-filter}
 use Rattle.quadtree.proofs.Levels.{below-split}
 use Rattle.quadtree.proofs.Parents.{leaf_or_split}
 use Rattle.quadtree.proofs.PointKinds.{point_at}
-use Rattle.quadtree.proofs.TreeChildren.{children_squares}
+use Rattle.quadtree.proofs.TreeChildren.{children_squares, tree_cell_at}
 use Rattle.tree_field.specs.Field.{is_source_in, sources_in, has_source}
 use Rattle.tree_field.specs.Program.{ListsOfTree, source_children, IsNodeOfField, NodesOfTree, LeavesOfTree}
 use Rattle.tree_field.specs.Work.{has_target}

@@ -8,6 +8,7 @@ use Rattle.field_sizes.proofs.MultipoleSizes.{multipole_row-light}
 use Rattle.field_sizes.proofs.RowTotals.{wider}
 use Rattle.points.specs.declared.Point.{Point}
 use Rattle.cell_name.specs.Quarters.{quarters}
+use Rattle.quadtree.proofs.TreeChildren.{tree_cell_at}
 use Rattle.quadtree.specs.TreeModel.{TreeModel, size, square_of, node_of, IsTreeOf}
 use Rattle.row_recursions.specs.Rows.{shifted_up}
 use Rattle.row_recursions.specs.Sizes.{RowWithin}
@@ -23,7 +24,7 @@ use Rattle.tree_rows.specs.Trees.{IsTreeOfPoints}
 use Rattle.upward_rows.specs.Upward.{row_from}
 use Rattle.quadtree.proofs.Limits.{in_grid}
 use Rattle.upward_rows.proofs.Totals.{shifted_same}
-use Rattle.upward_rows.proofs.Trees.{cell_is, inner_is, row_of_leaf}
+use Rattle.upward_rows.proofs.Trees.{inner_is, row_of_leaf}
 
 -- the row of a cell by its number, shifted up
 abbrev pub shifted_row : TreeModel → (ℕ → ℕ → BoxEnds) → ℕ → ℕ → BoxEnds
@@ -54,5 +55,5 @@ module _ (tree : TreeModel) (points : List Point) (of_points : IsTreeOfPoints po
 
     pub row_small : (P cap : ℕ) → P ≤ 64 → IsTreeOf 16 tree points cap → RowWithin P (2 ^ 74) (multipole_row points cap (square_of tree n))
     row_small P cap few is =
-        let cell = cell_is tree points cap is n lt in
+        let cell = tree_cell_at tree points cap n is lt in
         wider P (2 ^ 72) (2 ^ 74) (multipole_row points cap (square_of tree n)) (omega arith) (multipole_row-light P points cap (square_of tree n) few (omega (arith, cell.of_grid, cell.level_in_grid)) of_points.light)

@@ -11,6 +11,7 @@ use Rattle.points.specs.declared.Point.{Point}
 use Rattle.cell_name.specs.Quarters.{quarter}
 use Rattle.quadtree.specs.Tree.{count_in, IsTreeCell, IsSplit}
 use Rattle.quadtree.specs.TreeModel.{TreeModel, size, squares, square_of, node_of, IsTreeOf}
+use Rattle.quadtree.proofs.TreeChildren.{tree_cell_at}
 use Rattle.quadtree.proofs.Parents.{leaf_or_split, IsTreeCell-from_below}
 use Rattle.cell_name.proofs.Quarters.{IsQuarter}
 use Rattle.row_recursions.specs.Cells.{sign, quadrant_of}
@@ -21,9 +22,6 @@ use Rattle.tree_field.proofs.Occupants.{occupied_from_source}
 use Rattle.tree_field.proofs.MultipoleRows.{multipole_row-leaf}
 
 module _ (tree : TreeModel) (points : List Point) (capacity : ℕ) (is : IsTreeOf 16 tree points capacity) where
-  pub cell_is : (n : ℕ) → n < size tree → IsTreeCell 16 points capacity (square_of tree n)
-  cell_is n lt = All-get_or (IsTreeCell 16 points capacity) (squares tree) n (root 16) (omega (arith, length-map tree.cells square)) is.cells_are.in_tree
-
   -- ---- leaves
   pub row_of_leaf : (n : ℕ) → n < size tree → (node_of tree n).is_leaf ≡ true → (k : ℕ) → multipole_row points capacity (square_of tree n) k ≡ leaf_row points (square_of tree n) k
   row_of_leaf n lt e k =
@@ -42,7 +40,7 @@ module _ (tree : TreeModel) (points : List Point) (capacity : ℕ) (is : IsTreeO
 
   pub inner_is : (n : ℕ) → n < size tree → (node_of tree n).is_leaf ≡ false → IsInner n
   inner_is n lt e =
-      let here = cell_is n lt in
+      let here = tree_cell_at tree points capacity n is lt in
       elim (leaf_or_split 16 points capacity (square_of tree n) here) [
         | inl leaf ↦ absurd (false≢true (sym e ∙ (is.nodes_are n lt).leaf.1 leaf))
         | inr split ↦ record { of_grid = here.of_grid; room = split.1; over = split.0.over_cap }

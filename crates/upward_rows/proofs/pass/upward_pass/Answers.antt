@@ -19,7 +19,7 @@ use Rattle.upward_rows.proofs.Counts.{shifts_more, shifts_of_all}
 use Rattle.field_sizes.proofs.MultipoleSizes.{multipole_row-light}
 use Rattle.upward_rows.proofs.Slices.{row_fits}
 use Rattle.field_sizes.proofs.RowTotals.{wider}
-use Rattle.upward_rows.proofs.Trees.{cell_is}
+use Rattle.quadtree.proofs.TreeChildren.{tree_cell_at}
 use Rattle.upward_rows.proofs.pass.upward_pass.Goals as goal
 
 pub fill_row-requires-clause-small : goal.fill_row-requires-clause-small
@@ -34,7 +34,7 @@ fill_row-requires-clause-small g c =
     let few = order_bounds P c.requires.order in
     All-from_members (λ m. RowWithin P (2 ^ 74) (row_at P c.loop-n.rows m)) (source_children tree n) (λ m listed k h.
     let child = source_child_is points tree c.requires.tree n lt m listed in
-    let cell = cell_is tree points capacity is m child.in_range in
+    let cell = tree_cell_at tree points capacity m is child.in_range in
     subst (BoxEndsWithin (2 ^ 74)) (sym (c.loop-n.invariant.rows capacity m is (omega (arith, child.behind)) child.in_range k h))
     (wider P (2 ^ 72) (2 ^ 74) (multipole_row points capacity (square_of tree m)) (omega arith) (multipole_row-light P points capacity (square_of tree m) (omega (arith, few)) (omega (arith, cell.of_grid, cell.level_in_grid)) c.requires.tree.light) k h))
 

@@ -13,14 +13,10 @@ use Rattle.quadtree.proofs.Levels.{cell_at, run_at}
 use Rattle.quadtree.proofs.Pushed.{IsPushed, quarter_pushed, four_pushed, has_room, members_held}
 use Rattle.quadtree.proofs.split.Splits.push_quarters.Goals as goal
 
--- the run of the number, and its cell
-here : (above : List Run) (number : ℕ) (run : Run) → number < length above → run ≡ get_or above number run → get_or (squares_of above) number (root 16) ≡ square run.cell
-here = cell_at
-
 room_here : (above : List Run) (number : ℕ) (run : Run) → number < length above → run ≡ get_or above number run → All (λ c. c.level ≤ 15) (squares_of above) → run.cell.level ≤ 15
 room_here above number run lt e room =
     let P : Square → Type 0 = λ c. c.level ≤ 15 in
-    subst P (here above number run lt e) (All-get_or P (squares_of above) number (root 16) (omega (arith, length-map above (λ (r : Run). square r.cell))) room)
+    subst P (cell_at above number run lt e) (All-get_or P (squares_of above) number (root 16) (omega (arith, length-map above (λ (r : Run). square r.cell))) room)
 
 pub divide-counts-requires-clause-room : goal.divide-counts-requires-clause-room
 divide-counts-requires-clause-room c =
@@ -48,7 +44,7 @@ southwest c =
     let run : Run = c.index-above-number.result in
     let first = c.args.self.now.positions.items in
     let lt : c.args.number < length (squares_of c.args.above.now) = omega (arith, c.requires.number, length-map c.args.above.now (λ (r : Run). square r.cell)) in
-    let read = here c.args.above.now c.args.number run c.requires.number c.index-above-number.is in
+    let read = cell_at c.args.above.now c.args.number run c.requires.number c.index-above-number.is in
     let r = run_at c.args.points.now first c.args.above.now c.args.number run c.requires.below.above_are c.requires.number c.index-above-number.is in
     let room = room_here c.args.above.now c.args.number run c.requires.number c.index-above-number.is c.requires.room in
     let P : List ℕ → Type 0 = λ l. IsFront c.args.points.now (child (square run.cell) 0 0) (slice_range l run.from run.to) c.divide-counts.new.self.southwest.items c.divide-counts.result.southwest in
@@ -60,7 +56,7 @@ northwest c =
     let run : Run = c.index-above-number.result in
     let first = c.args.self.now.positions.items in
     let lt : c.args.number < length (squares_of c.args.above.now) = omega (arith, c.requires.number, length-map c.args.above.now (λ (r : Run). square r.cell)) in
-    let read = here c.args.above.now c.args.number run c.requires.number c.index-above-number.is in
+    let read = cell_at c.args.above.now c.args.number run c.requires.number c.index-above-number.is in
     let r = run_at c.args.points.now first c.args.above.now c.args.number run c.requires.below.above_are c.requires.number c.index-above-number.is in
     let room = room_here c.args.above.now c.args.number run c.requires.number c.index-above-number.is c.requires.room in
     let P : List ℕ → Type 0 = λ l. IsFront c.args.points.now (child (square run.cell) 0 1) (slice_range l run.from run.to) c.divide-counts.new.self.northwest.items c.divide-counts.result.northwest in
@@ -72,7 +68,7 @@ southeast c =
     let run : Run = c.index-above-number.result in
     let first = c.args.self.now.positions.items in
     let lt : c.args.number < length (squares_of c.args.above.now) = omega (arith, c.requires.number, length-map c.args.above.now (λ (r : Run). square r.cell)) in
-    let read = here c.args.above.now c.args.number run c.requires.number c.index-above-number.is in
+    let read = cell_at c.args.above.now c.args.number run c.requires.number c.index-above-number.is in
     let r = run_at c.args.points.now first c.args.above.now c.args.number run c.requires.below.above_are c.requires.number c.index-above-number.is in
     let room = room_here c.args.above.now c.args.number run c.requires.number c.index-above-number.is c.requires.room in
     let P : List ℕ → Type 0 = λ l. IsFront c.args.points.now (child (square run.cell) 1 0) (slice_range l run.from run.to) c.divide-counts.new.self.southeast.items c.divide-counts.result.southeast in
@@ -84,7 +80,7 @@ northeast c =
     let run : Run = c.index-above-number.result in
     let first = c.args.self.now.positions.items in
     let lt : c.args.number < length (squares_of c.args.above.now) = omega (arith, c.requires.number, length-map c.args.above.now (λ (r : Run). square r.cell)) in
-    let read = here c.args.above.now c.args.number run c.requires.number c.index-above-number.is in
+    let read = cell_at c.args.above.now c.args.number run c.requires.number c.index-above-number.is in
     let r = run_at c.args.points.now first c.args.above.now c.args.number run c.requires.below.above_are c.requires.number c.index-above-number.is in
     let room = room_here c.args.above.now c.args.number run c.requires.number c.index-above-number.is c.requires.room in
     let P : List ℕ → Type 0 = λ l. IsFront c.args.points.now (child (square run.cell) 1 1) (slice_range l run.from run.to) c.divide-counts.new.self.northeast.items c.divide-counts.result.northeast in
