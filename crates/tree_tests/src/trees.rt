@@ -53,6 +53,12 @@ fn cells_of_two_places(rt: HostRuntime) -> Result<(), Fail> {
     assert_eq!(rt; (tree.has_source(16), tree.has_target(16)), (true, false));
     assert_eq!(rt; (tree.has_source(17), tree.has_target(17)), (false, true));
     assert_eq!(rt; tree.members(17), [8].as_slice());
+    assert_eq!(rt; tree.children(15), [16, 17].as_slice());
+    assert_eq!(rt; tree.children(17).len(), 0);
+    let last = tree.level(16);
+    assert_eq!(rt; (last.start, last.end), (16, 18));
+    let first = tree.level(0);
+    assert_eq!(rt; (first.start, first.end), (0, 1));
     Ok(())
 }
 
