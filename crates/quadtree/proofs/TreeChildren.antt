@@ -7,6 +7,7 @@ use Rattle.std.proofs.lemmas.List.{get_or_default, length-map}
 use Rattle.std.proofs.lemmas.List.Elements.{All-get_or}
 use Rattle.std.proofs.lemmas.List.Kept.{AllPairs-filter}
 use Rattle.points.specs.declared.Point.{Point}
+use Rattle.cell_name.specs.Cell.{square}
 use Rattle.cell_name.specs.Order.{IsBefore}
 use Rattle.cell_name.specs.Quarters.{quarters}
 use Rattle.cell_name.specs.Square.{Square, root, parent}
@@ -32,7 +33,7 @@ pub record IsChildOf (tree : TreeModel) (n c : ℕ) : Type 0 where
 
 -- the cell of a number is one of the tree
 pub tree_cell_at : (tree : TreeModel) (points : List Point) (cap n : ℕ) → IsTreeOf 16 tree points cap → n < size tree → IsTreeCell 16 points cap (square_of tree n)
-tree_cell_at tree points cap n h lt = All-get_or (IsTreeCell 16 points cap) (squares tree) n (root 16) (omega (arith, length-map tree.cells _)) h.cells_are.in_tree
+tree_cell_at tree points cap n h lt = All-get_or (IsTreeCell 16 points cap) (squares tree) n (root 16) (omega (arith, length-map tree.cells square)) h.cells_are.in_tree
 
 module _ (tree : TreeModel) (points : List Point) (cap : ℕ) (inside : AreInGrid 16 points) (h : IsTreeOf 16 tree points cap) where
   as_many : length (squares tree) ≡ size tree
