@@ -1,9 +1,10 @@
 //! A board of nine charges and a far target, whose box is known from elsewhere.
-use crate::compare::{FAR_TARGET, NINE_CHARGES, box_is};
+use crate::compare::{FAR_TARGET, NINE_CHARGES};
 use complex_box::Work;
 use row_board::{Board, Name};
 use std::process::Abort;
 use std::test::Fail;
+use test_boxes::ends;
 use test_points::points_of;
 
 /// What was missing when a place was to be filled; nothing where it is filled now, or there is none.
@@ -21,7 +22,7 @@ fn missing(board: &mut Board<4>, name: Name) -> Option<Name> {
 fn target_is_known(rt: &impl Abort, board: &Board<4>) {
     assert!(rt; board.has(Name::Value(0)));
     match board.value(0) {
-        Some(value) => box_is(rt, value, FAR_TARGET),
+        Some(value) => assert_eq!(rt; ends(value), FAR_TARGET),
         None => assert!(rt; false),
     }
 }

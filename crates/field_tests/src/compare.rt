@@ -1,14 +1,5 @@
-//! Boxes as they are expected.
-use complex_box::CBox;
-use std::process::Abort;
-
-/// The ends of the two parts of a box.
-pub type Ends = ((i128, i128), (i128, i128));
-
-pub fn box_is(rt: &impl Abort, got: CBox, ends: Ends) {
-    assert_eq!(rt; (got.re.lo, got.re.hi), ends.0);
-    assert_eq!(rt; (got.im.lo, got.im.hi), ends.1);
-}
+//! What several fields are made of and give.
+use test_boxes::Ends;
 
 /// Nine charges at the origin.
 pub const NINE_CHARGES: (u32, &str) = (9, "charge 0 0 1\n");

@@ -3,7 +3,7 @@ ghost use Rattle.std.specs.Prelude.{◌≡◌, ◌≤◌, ◌*◌, IfOk, length,
 ghost use Rattle.complex_box.specs.Rows.{IsZero};
 ghost use Rattle.tree_rows.specs.Trees.{IsTreeOfPoints, IsTreeWithLists};
 
-use crate::compare::{Ends, NINE_CHARGES, box_is};
+use crate::compare::NINE_CHARGES;
 use cell_lists::{EntryLists, lists};
 use complex_box::{CBox, Work};
 use downward_rows::{fill_row, local_radius, radius_pass};
@@ -13,6 +13,7 @@ use quadtree::Tree;
 use std::alloc::Global;
 use std::process::Abort;
 use std::test::Fail;
+use test_boxes::{Ends, ends};
 use test_points::points_of;
 use tree_rows::weigh_cells;
 
@@ -27,7 +28,7 @@ fn zeros(alloc: Global, count: usize) -> Result<Vec<CBox>, Fail>
 }
 
 /// The row of cell 15 where all other rows are zero.
-fn row_is(
+fn local_row_is(
     rt: &impl Abort,
     alloc: Global,
     tree: &Tree,
@@ -45,10 +46,10 @@ fn row_is(
     let mut work = Work::new();
     fill_row::<4>(tree, lists, points, &kernel, &up, 15, &mut rows, &mut work);
     assert_eq!(rt; (work.translations(), work.pairs()), (1, 0));
-    box_is(rt, rows[60], row[0]);
-    box_is(rt, rows[61], row[1]);
-    box_is(rt, rows[62], row[2]);
-    box_is(rt, rows[63], row[3]);
+    assert_eq!(rt; ends(rows[60]), row[0]);
+    assert_eq!(rt; ends(rows[61]), row[1]);
+    assert_eq!(rt; ends(rows[62]), row[2]);
+    assert_eq!(rt; ends(rows[63]), row[3]);
     Ok(())
 }
 
@@ -81,7 +82,7 @@ fn far_charge(rt: HostRuntime) -> Result<(), Fail> {
     let points = points_of(alloc, &[(1, "charge 8 0 1\n"), (9, "target 0 0\n")])?;
     let tree = Tree::build(alloc, &points, 8)?;
     let lists = lists(alloc, &tree)?;
-    row_is(
+    local_row_is(
         &rt,
         alloc,
         &tree,

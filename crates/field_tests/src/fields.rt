@@ -1,9 +1,10 @@
 //! Fields whose numbers are known from elsewhere: one entry far away of each kind.
-use crate::compare::{Ends, NINE_CHARGES, box_is};
+use crate::compare::NINE_CHARGES;
 use letters::Letter;
 use solve_phase::{Field, solve};
 use std::process::Abort;
 use std::test::Fail;
+use test_boxes::{Ends, ends};
 use test_points::points_of;
 
 /// The numbers of a field all of whose targets stand at one place.
@@ -23,7 +24,7 @@ fn has_numbers(rt: &impl Abort, field: &Field<4>, known: &Known) {
     assert_eq!(rt; field.lists().total(known.letter), 1);
     assert_eq!(rt; field.targets(), known.targets);
     for k in 0..field.targets() {
-        box_is(rt, field.value(k), known.ends);
+        assert_eq!(rt; ends(field.value(k)), known.ends);
     }
     assert_eq!(rt; field.translations(), known.translations);
     assert_eq!(rt; field.pairs(), 0);

@@ -4,7 +4,7 @@ ghost use Rattle.complex_box.specs.Box.{BoxWithin};
 ghost use Rattle.points.specs.Limits.{WithinLimits};
 ghost use Rattle.tree_rows.specs.FlatRows.{IsWeight};
 
-use crate::compare::{Ends, FAR_TARGET, NINE_CHARGES, box_is};
+use crate::compare::{FAR_TARGET, NINE_CHARGES};
 use cell_lists::lists;
 use complex_box::{CBox, Work};
 use points::Points;
@@ -13,6 +13,7 @@ use std::alloc::Global;
 use std::process::Abort;
 use std::test::Fail;
 use target_values::{target_positions, target_value, value_pass};
+use test_boxes::{Ends, ends};
 use test_points::points_of;
 use tree_rows::weigh_cells;
 
@@ -55,7 +56,7 @@ fn value_is(
     );
     let mut work = Work::new();
     let value = target_value::<4>(&tree, &found, list, up, local, weights, 0, k, &mut work);
-    box_is(rt, value, ends);
+    assert_eq!(rt; ends(value), ends);
     assert_eq!(rt; (work.translations(), work.pairs()), (0, pairs));
     Ok(())
 }
@@ -118,7 +119,7 @@ fn values_are(
         &mut work,
     );
     for value in &values {
-        box_is(rt, *value, ends);
+        assert_eq!(rt; ends(*value), ends);
     }
     assert_eq!(rt; (work.translations(), work.pairs()), (0, pairs));
     Ok(())

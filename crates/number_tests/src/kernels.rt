@@ -3,11 +3,11 @@ ghost use Rattle.std.specs.Prelude.{◌^◌};
 ghost use Rattle.complex_box.specs.Box.{number};
 ghost use Rattle.kernel_table.specs.Kernel.{IsKernelDistance};
 
-use crate::compare::box_is;
 use complex_box::Gauss;
 use kernel_table::{Kernel, binomial};
 use std::process::Abort;
 use std::test::Fail;
+use test_boxes::ends;
 
 #[test]
 fn binomials_of_the_border(rt: HostRuntime) {
@@ -54,11 +54,11 @@ fn entries_two_sides_apart(rt: HostRuntime) -> Result<(), Fail> {
     let kernel = Kernel::<4>::new(rt.alloc()).ok().ok_or("no memory")?;
     let e = Gauss { re: 2, im: 0 };
     let half = 1 << 38;
-    box_is(&rt, kernel.entry(e, 0, 0), (1 << 39, 1 << 39), (0, 0));
-    box_is(&rt, kernel.entry(e, 0, 1), (-half, -half), (0, 0));
+    assert_eq!(rt; ends(kernel.entry(e, 0, 0)), ((1 << 39, 1 << 39), (0, 0)));
+    assert_eq!(rt; ends(kernel.entry(e, 0, 1)), ((-half, -half), (0, 0)));
     let second = kernel.column(e, 1);
     assert_eq!(rt; second.len(), 4);
-    box_is(&rt, second[0], (-half, -half), (0, 0));
+    assert_eq!(rt; ends(second[0]), ((-half, -half), (0, 0)));
     Ok(())
 }
 
@@ -69,6 +69,6 @@ fn entries_three_sides_apart(rt: HostRuntime) -> Result<(), Fail> {
     let first = kernel.entry(Gauss { re: 3, im: 0 }, 0, 0);
     assert_eq!(rt; (first.re.lo, first.re.hi), third);
     let turned = kernel.entry(Gauss { re: 0, im: 2 }, 0, 0);
-    box_is(&rt, turned, (0, 0), (-(1 << 39), -(1 << 39)));
+    assert_eq!(rt; ends(turned), ((0, 0), (-(1 << 39), -(1 << 39))));
     Ok(())
 }

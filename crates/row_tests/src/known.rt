@@ -8,12 +8,12 @@ ghost use Rattle.points.specs.Points.{pole, dipole};
 ghost use Rattle.row_recursions.specs.Rows.{row_of};
 ghost use Rattle.row_recursions.specs.Sizes.{RowWithin};
 
-use crate::compare::Ends;
 use cell_name::{Cell, Quadrant};
 use complex_box::CBox;
 use local_expansion::add_far_source;
 use multipole::add_source;
 use points::{Kind, Point};
+use test_boxes::Ends;
 
 /// The cell of side 1 whose corner is the origin.
 pub const SMALL: Cell = Cell {

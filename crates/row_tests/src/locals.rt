@@ -1,5 +1,5 @@
 //! Rows that are known from elsewhere: far sources of each kind, and a far cell and its value.
-use crate::compare::{box_is, row_is};
+use crate::compare::row_is;
 use crate::known::{FAR_CHARGE, SMALL, far_point, nine_charges};
 use cell_name::Cell;
 use complex_box::{CBox, Gauss, Row, Work};
@@ -7,6 +7,7 @@ use kernel_table::Kernel;
 use local_expansion::{at_local, convert};
 use points::Kind;
 use std::test::Fail;
+use test_boxes::ends;
 
 #[test]
 fn far_sources(rt: HostRuntime) {
@@ -98,11 +99,12 @@ fn far_cell(rt: HostRuntime) -> Result<(), Fail> {
         i: 32770,
         j: 32768,
     };
-    box_is(
-        &rt,
-        at_local::<4>(Row::new(&row), cell, 2, 0),
-        (5_102_421_147_648, 5_102_421_147_648),
-        (193_273_528_320, 193_273_528_320),
+    assert_eq!(rt;
+        ends(at_local::<4>(Row::new(&row), cell, 2, 0)),
+        (
+            (5_102_421_147_648, 5_102_421_147_648),
+            (193_273_528_320, 193_273_528_320)
+        )
     );
     Ok(())
 }

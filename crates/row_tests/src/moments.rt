@@ -1,12 +1,12 @@
 //! Rows that are known from elsewhere: sources on the border of a cell go in and out again, and a far value.
 ghost use Rattle.points.specs.Limits.{HasStrength};
 
-use crate::compare::box_is;
 use crate::known::{LARGE, SMALL, nine_charges};
 use complex_box::{CBox, Row};
 use multipole::{add_source, at_multipole, take_source};
 use points::{Kind, Point};
 use std::process::Abort;
+use test_boxes::ends;
 
 /// The point of a kind in the corner of the cell of side 1 that holds the origin.
 fn goes_and_comes(rt: &impl Abort, kind: Kind, second: CBox)
@@ -33,10 +33,11 @@ fn there_and_back(rt: HostRuntime) {
 
 #[test]
 fn far_value(rt: HostRuntime) {
-    box_is(
-        &rt,
-        at_multipole::<4>(Row::new(&nine_charges(LARGE)), LARGE, 8, 0),
-        (1_250_804_427_757, 1_250_804_427_759),
-        (47_498_902_319, 47_498_902_321),
+    assert_eq!(rt;
+        ends(at_multipole::<4>(Row::new(&nine_charges(LARGE)), LARGE, 8, 0)),
+        (
+            (1_250_804_427_757, 1_250_804_427_759),
+            (47_498_902_319, 47_498_902_321)
+        )
     );
 }

@@ -3,7 +3,7 @@ ghost use Rattle.std.specs.Prelude.{◌≡◌, ◌^◌, length};
 ghost use Rattle.row_recursions.specs.Rows.{row_of};
 ghost use Rattle.row_recursions.specs.Sizes.{RowWithin};
 
-use crate::compare::{box_is, row_is};
+use crate::compare::row_is;
 use crate::known::{BOTTOM_LEFT, FAR_CHARGE, SMALL, far_point};
 use cell_name::Quadrant;
 use complex_box::{CBox, Row, Work};
@@ -11,6 +11,7 @@ use local_expansion::at_local;
 use local_shift::shift_down;
 use points::Kind;
 use std::process::Abort;
+use test_boxes::ends;
 
 /// The row alone, brought down.
 fn brought_down(rt: &impl Abort, parent: &[CBox], q: Quadrant) -> [CBox; 4]
@@ -33,10 +34,10 @@ fn square_is(rt: &impl Abort, q: Quadrant, first: i128, re: i128, im: i128) {
         &[CBox::zero(), CBox::zero(), CBox::point(16, 0), CBox::zero()],
         q,
     );
-    box_is(rt, row[0], (0, 0), (first, first));
-    box_is(rt, row[1], (re, re), (im, im));
-    box_is(rt, row[2], (2, 2), (0, 0));
-    box_is(rt, row[3], (0, 0), (0, 0));
+    assert_eq!(rt; ends(row[0]), ((0, 0), (first, first)));
+    assert_eq!(rt; ends(row[1]), ((re, re), (im, im)));
+    assert_eq!(rt; ends(row[2]), ((2, 2), (0, 0)));
+    assert_eq!(rt; ends(row[3]), ((0, 0), (0, 0)));
 }
 
 const TOP_RIGHT: Quadrant = Quadrant {
@@ -68,17 +69,19 @@ fn far_charge_twice(rt: HostRuntime) {
     let charge = far_point(Kind::Charge(1));
     row_is(&rt, &charge, &FAR_CHARGE);
     let first = brought_down(&rt, &charge, BOTTOM_LEFT);
-    box_is(
-        &rt,
-        first[0],
-        (-307_973_206_941, -307_973_206_939),
-        (-44_750_123_252, -44_750_123_249),
+    assert_eq!(rt;
+        ends(first[0]),
+        (
+            (-307_973_206_941, -307_973_206_939),
+            (-44_750_123_252, -44_750_123_249)
+        )
     );
-    box_is(
-        &rt,
-        first[3],
-        (-3_078_632_558, -3_078_632_557),
-        (-10_555_311_627, -10_555_311_626),
+    assert_eq!(rt;
+        ends(first[3]),
+        (
+            (-3_078_632_558, -3_078_632_557),
+            (-10_555_311_627, -10_555_311_626)
+        )
     );
     let second = brought_down(&rt, &first, BOTTOM_LEFT);
     row_is(
@@ -97,10 +100,11 @@ fn far_charge_twice(rt: HostRuntime) {
             ((-192_414_535, -192_414_534), (-659_706_977, -659_706_976)),
         ],
     );
-    box_is(
-        &rt,
-        at_local::<4>(Row::new(&second), SMALL, 0, 0),
-        (-138_978_269_756, -138_978_269_745),
-        (-5_277_655_819, -5_277_655_807),
+    assert_eq!(rt;
+        ends(at_local::<4>(Row::new(&second), SMALL, 0, 0)),
+        (
+            (-138_978_269_756, -138_978_269_745),
+            (-5_277_655_819, -5_277_655_807)
+        )
     );
 }

@@ -3,12 +3,12 @@ ghost use Rattle.std.specs.Prelude.{◌≡◌, ◌^◌, length};
 ghost use Rattle.row_recursions.specs.Rows.{row_of};
 ghost use Rattle.row_recursions.specs.Sizes.{RowWithin};
 
-use crate::compare::box_is;
 use crate::known::{BOTTOM_LEFT, LARGE, SMALL, nine_charges};
 use cell_name::Quadrant;
 use complex_box::{CBox, Row, Work};
 use multipole::at_multipole;
 use multipole_shift::{shift_up, take_up};
+use test_boxes::ends;
 
 #[test]
 fn up_and_away(rt: HostRuntime) {
@@ -26,10 +26,10 @@ fn up_and_away(rt: HostRuntime) {
     let mut work = Work::new();
     let mut row = [CBox::zero(); 4];
     shift_up::<4>(child_row, below_on_the_right, &mut row, &mut work);
-    box_is(&rt, row[0], (1, 1), (0, 0));
-    box_is(&rt, row[1], (1, 2), (-1, 0));
-    box_is(&rt, row[2], (-1, 1), (-1, 1));
-    box_is(&rt, row[3], (0, 2), (0, 3));
+    assert_eq!(rt; ends(row[0]), ((1, 1), (0, 0)));
+    assert_eq!(rt; ends(row[1]), ((1, 2), (-1, 0)));
+    assert_eq!(rt; ends(row[2]), ((-1, 1), (-1, 1)));
+    assert_eq!(rt; ends(row[3]), ((0, 2), (0, 3)));
     take_up::<4>(child_row, below_on_the_right, &mut row, &mut work);
     for k in 0..4 {
         assert_eq!(rt; row[k], CBox::zero());
@@ -52,10 +52,11 @@ fn above(child: &[CBox]) -> [CBox; 4]
 #[test]
 fn up_and_seen_from_afar(rt: HostRuntime) {
     let row = above(&above(&nine_charges(SMALL)));
-    box_is(
-        &rt,
-        at_multipole::<4>(Row::new(&row), LARGE, 8, 0),
-        (1_250_804_427_757, 1_250_804_427_759),
-        (47_498_902_319, 47_498_902_321),
+    assert_eq!(rt;
+        ends(at_multipole::<4>(Row::new(&row), LARGE, 8, 0)),
+        (
+            (1_250_804_427_757, 1_250_804_427_759),
+            (47_498_902_319, 47_498_902_321)
+        )
     );
 }

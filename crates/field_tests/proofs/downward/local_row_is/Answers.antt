@@ -5,7 +5,7 @@ use Rattle.quadtree.specs.TreeModel.{node_of}
 use Rattle.row_recursions.specs.Sizes.{RowWithin}
 use Rattle.tree_rows.specs.FlatRows.{row_at}
 use Rattle.field_tests.proofs.ZeroRows.{zero_rows_within}
-use Rattle.field_tests.proofs.downward.row_is.Goals as goal
+use Rattle.field_tests.proofs.downward.local_row_is.Goals as goal
 
 pub fill_row-requires : goal.fill_row-requires
 fill_row-requires g c =
