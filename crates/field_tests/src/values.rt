@@ -36,7 +36,7 @@ fn value_is(
     local: &[CBox],
     weights: &[i128],
     k: usize,
-    ends: Ends,
+    known: Ends,
     pairs: u64,
 ) -> Result<(), Fail>
     requires list { WithinLimits points.now.mode points.now.list }
@@ -56,7 +56,7 @@ fn value_is(
     );
     let mut work = Work::new();
     let value = target_value::<4>(&tree, &found, list, up, local, weights, 0, k, &mut work);
-    assert_eq!(rt; ends(value), ends);
+    assert_eq!(rt; ends(value), known);
     assert_eq!(rt; (work.translations(), work.pairs()), (0, pairs));
     Ok(())
 }
@@ -90,7 +90,7 @@ fn values_are(
     rt: &impl Abort,
     alloc: Global,
     points: &Points,
-    ends: Ends,
+    known: Ends,
     pairs: u64,
 ) -> Result<(), Fail>
     requires list { WithinLimits points.now.mode points.now.list }
@@ -119,7 +119,7 @@ fn values_are(
         &mut work,
     );
     for value in &values {
-        assert_eq!(rt; ends(*value), ends);
+        assert_eq!(rt; ends(*value), known);
     }
     assert_eq!(rt; (work.translations(), work.pairs()), (0, pairs));
     Ok(())
