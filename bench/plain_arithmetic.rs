@@ -1,4 +1,4 @@
-// The loops of crates/arithmetic_bench in plain Rust with i128 and the plain formulas, for comparison.
+// The loops of `benches arithmetic` in plain Rust with i128 and the plain formulas, for comparison.
 // rustc -O bench/plain_arithmetic.rs -o plain_arithmetic && ./plain_arithmetic
 mod plain_box;
 

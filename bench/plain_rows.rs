@@ -1,4 +1,4 @@
-// The calls on rows of order 16 in plain Rust, for comparison: `i128` with no proof, in the loops of `row_bench`. First by the formulas, with the four
+// The calls on rows of order 16 in plain Rust, for comparison: `i128` with no proof, in the loops of `benches rows`. First by the formulas, with the four
 // products of a product of intervals and a division for each end of a quotient, whose divisors the compiler doesn't know; then some of them in the steps
 // of the proved calls: sums of the parts and shifts, and two products where the sign is definite.
 mod plain_box;

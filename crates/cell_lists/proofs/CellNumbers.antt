@@ -1,20 +1,17 @@
 -- Numbers, levels and parents of a tree's cells.
-use Rattle.std.proofs.Common.{ℕ, ◌≡◌, ◌-◌, ◌%◌, ◌<◌, ◌≤◌, inl, inr, List, refl, sym, ap, ◌∙◌, subst, arith, lit<}
-use Rattle.std.specs.Prelude.{AllPairs, Contains, IsTrue, Bool, ◌↔◌, [], ◌∷◌, ◌++◌}
-use Rattle.std.proofs.lemmas.List.Elements.{Contains-get_or, Contains-push}
+use Rattle.std.proofs.Common.{ℕ, ◌≡◌, ◌-◌, ◌<◌, ◌≤◌, inl, inr, List, sym, ap, ◌∙◌, subst, arith, lit<}
+use Rattle.std.specs.Prelude.{AllPairs, Contains, IsTrue, Bool, ◌↔◌}
 use Rattle.std.proofs.lemmas.Bool.{cases_lt}
 use Rattle.std.proofs.lemmas.List.{get_or_default, length-map}
 use Rattle.points.specs.declared.Point.{Point}
 use Rattle.cell_name.specs.Cell.{square}
 use Rattle.cell_name.specs.Order.{IsBefore}
-use Rattle.cell_name.specs.Square.{Square, root, parent, child, Touches}
-use Rattle.cell_name.proofs.Cells.{same_square}
+use Rattle.cell_name.specs.Square.{Square, root, parent, Touches}
 use Rattle.cell_name.proofs.Order.{IsBefore-irrefl}
 use Rattle.quadtree.specs.Tree.{IsTreeCell}
 use Rattle.quadtree.specs.TreeModel.{TreeModel, size, squares, square_of, node_of, HasParent, IsTree}
 use Rattle.quadtree.proofs.Parents.{IsTreeCell-parent}
-use Rattle.cell_lists.specs.Walks.{IsChild}
-use Rattle.cell_lists.proofs.TreeNumbers.{tree_cell_at}
+use Rattle.quadtree.proofs.TreeChildren.{tree_cell_at}
 
 -- a listed cell has a number
 pub number_listed : (tree : TreeModel) (s : Square) → Contains (squares tree) s → (n : ℕ) × (n < size tree) × (square_of tree n ≡ s)
@@ -118,38 +115,6 @@ parent_before tree h b lo hi = record { before = before; in_range = has.in_range
                 | inl gt ↦ elim (number_before tree h.is_tree.cells_are.ascending b p gt has.in_range).before [ inl lt ↦ absurd (omega (arith, lt, level, positive)) | inr rest ↦ absurd (omega (arith, rest.0, level, positive)) ]
               ]
         ]
-
--- a cell is one of the quarters of its parent
-child-parent : (s : Square) → 0 < s.level → child (parent s) (s.i % 2) (s.j % 2) ≡ s
-child-parent s lo = same_square (child (parent s) (s.i % 2) (s.j % 2)) s refl (omega arith) (omega arith) (omega arith)
-
-pub by_quarter : (A : Type 0) (s n : Square) → 0 < s.level → parent s ≡ n → (s ≡ child n 0 0 → A) → (s ≡ child n 0 1 → A) → (s ≡ child n 1 0 → A) → (s ≡ child n 1 1 → A) → A
-by_quarter A s n lo e f00 f01 f10 f11 =
-    let is : s ≡ child n (s.i % 2) (s.j % 2) = sym (child-parent s lo) ∙ ap (λ v. child v (s.i % 2) (s.j % 2)) e in
-    let at : (i j : ℕ) → s.i % 2 ≡ i → s.j % 2 ≡ j → s ≡ child n i j = λ i j ei ej. is ∙ ap (λ k. child n k (s.j % 2)) ei ∙ ap (λ k. child n i k) ej in
-    elim (cases_lt (s.i % 2) 1) [
-      | inl left ↦ elim (cases_lt (s.j % 2) 1) [ inl low ↦ f00 (at 0 0 (omega arith) (omega arith)) | inr top ↦ f01 (at 0 1 (omega arith) (omega arith)) ]
-      | inr right ↦ elim (cases_lt (s.j % 2) 1) [ inl low ↦ f10 (at 1 0 (omega arith) (omega arith)) | inr top ↦ f11 (at 1 1 (omega arith) (omega arith)) ]
-    ]
-
--- a cell of the last level has no quarter
-pub no_quarter : (tree : TreeModel) (s : Square) (n c : ℕ) → IsTree tree → s ≡ square_of tree n → s.level ≡ 16 → IsChild tree n c → ⊥
-no_quarter tree s n c is e last child =
-    let up : (square_of tree c).level - 1 ≡ (square_of tree n).level = ap (λ (v : Square). v.level) child.parent_is in
-    let same : s.level ≡ (square_of tree n).level = ap (λ (v : Square). v.level) e in
-    omega (arith, up, same, last, child.below_root, level_at_most tree is c child.in_range)
-
--- a number whose cell is not among the cells
-pub not_listed : (tree : TreeModel) (s : Square) (c : ℕ) → c < size tree → square_of tree c ≡ s → (Contains (squares tree) s → ⊥) → ⊥
-not_listed tree s c lt e h = let P : Square → Type 0 = λ v. Contains (squares tree) v in h (subst P e (Contains-get_or (squares tree) c (root 16) (omega (arith, length-map tree.cells square))))
-
--- the number that a search found
-pub found_number_listed : (tree : TreeModel) (s : Square) (n c : ℕ) (was now : List ℕ) → IsTree tree → now ≡ was ++ n ∷ [] → n < size tree → square_of tree n ≡ s → c < size tree → square_of tree c ≡ s → Contains now c
-found_number_listed tree s n c was now is grown ln en lc ec =
-    let same : n ≡ c = same_number tree is.is_tree.cells_are.ascending n c ln lc (en ∙ sym ec) in
-    let P : List ℕ → Type 0 = λ l. Contains l c in
-    let Q : ℕ → Type 0 = λ v. Contains (was ++ n ∷ []) v in
-    subst P (sym grown) (subst Q same (Contains-push was n))
 
 -- what the program tests of two cells is what holds of their numbers
 pub touch_from_test : (tree : TreeModel) (x y : Square) (a b : ℕ) (r : Bool) → x ≡ square_of tree a → y ≡ square_of tree b → IsTrue r ↔ Touches x y → Touches (square_of tree a) (square_of tree b) → IsTrue r

@@ -5,7 +5,7 @@ pub mod OneEntry
 pub mod OneListed
 pub mod PairTests
 pub mod Picks
-pub mod RowLists
+pub mod FlatLists
 pub mod TreeNumbers
 pub mod VLists
 pub mod WalkSteps

@@ -40,7 +40,7 @@ parent_of grid p k lo hi =
     let h : parent (cell_of grid p (k - 1 + 1)) ≡ cell_of grid p (k - 1) = parent-square_at grid (k - 1) p.x p.y (omega arith) in
     rw e at h
 
-touches_along : (b b' c c' : Square) → b ≡ b' → c ≡ c' → Touches b c → Touches b' c'
+pub touches_along : (b b' c c' : Square) → b ≡ b' → c ≡ c' → Touches b c → Touches b' c'
 touches_along b b' c c' eb ec t = let P : Square → Type 0 = λ v. Touches v c' in let Q : Square → Type 0 = λ v. Touches b v in subst P eb (subst Q ec t)
 
 -- a cell of the grid that holds a point is the point's cell of its level
@@ -135,7 +135,7 @@ pair_along grid points cap letter b b' c c' eb ec h =
     let Q : Square → Type 0 = λ v. IsPair grid points cap letter b v in
     subst P eb (subst Q ec h)
 
-listed : (grid : ℕ) (points : List Point) (p : Point) → AreInGrid grid points → Contains points p → IsListed grid points p
+pub listed : (grid : ℕ) (points : List Point) (p : Point) → AreInGrid grid points → Contains points p → IsListed grid points p
 listed grid points p inside l = record { listed = l; in_grid = All-contains (λ p. IsInGrid grid p.x p.y) points p inside l }
 
 pub each_pair_has_one_entry : EachPairHasOneEntry

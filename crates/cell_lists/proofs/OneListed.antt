@@ -3,14 +3,14 @@ use Rattle.std.proofs.Common.{◌<◌, sym, ◌∙◌, subst, lit<}
 use Rattle.std.proofs.lemmas.List.Elements.{All-contains}
 use Rattle.cell_name.specs.Square.{Square}
 use Rattle.quadtree.specs.TreeModel.{TreeModel, size, square_of}
-use Rattle.cell_lists.specs.declared.entry_lists.EntryLists.{EntryLists}
 use Rattle.cell_lists.specs.Entries.{IsEntry, Accounts}
-use Rattle.cell_lists.specs.Lists.{lists_of, AreLists, EachPairHasOneListed}
-use Rattle.cell_lists.specs.Row.{row}
+use Rattle.cell_lists.specs.EntryLists.{lists_of, EntryListsModel}
+use Rattle.cell_lists.specs.Lists.{AreLists, EachPairHasOneListed}
+use Rattle.cell_lists.specs.ListAt.{list_at}
 use Rattle.cell_lists.proofs.CellNumbers.{number_listed, same_number}
 use Rattle.cell_lists.proofs.OneEntry.{in_tree_of, each_pair_has_one_entry}
 
-pub each_pair_has_one_listed : (tree : TreeModel) (lists : EntryLists) → AreLists tree lists → EachPairHasOneListed tree lists
+pub each_pair_has_one_listed : (tree : TreeModel) (lists : EntryListsModel) → AreLists tree lists → EachPairHasOneListed tree lists
 each_pair_has_one_listed tree lists are points cap inside h target source given =
     let o = each_pair_has_one_entry 16 points cap target source (lit< tt) inside given in
     let cells = in_tree_of 16 points cap o.letter o.b o.c o.entry.pair in
@@ -29,7 +29,7 @@ each_pair_has_one_listed tree lists are points cap inside h target source given 
       accounts = subst S (sym nc.2) (subst R (sym nb.2) o.accounts);
       no_other = λ letter' b' c' lt listed accounts.
           let is = are.each points cap inside h letter' b' lt in
-          let lc : c' < size tree = All-contains (λ c. c < size tree) (row (lists_of lists letter') b') c' is.numbers listed in
+          let lc : c' < size tree = All-contains (λ c. c < size tree) (list_at (lists_of lists letter') b') c' is.numbers listed in
           let same = o.no_other letter' (square_of tree b') (square_of tree c') ((is.exact c' lc).0 listed) accounts in
           (same.0, same_number tree h.cells_are.ascending b' nb.0 lt nb.1 (same.1 ∙ sym nb.2), same_number tree h.cells_are.ascending c' nc.0 lc nc.1 (same.2 ∙ sym nc.2));
     }

@@ -1,8 +1,8 @@
 -- Picking the entries of a letter from the cells that were met.
-use Rattle.std.proofs.Common.{ℕ, ◌≡◌, ◌+◌, ◌<◌, ◌≤◌, ◌⊎◌, inl, inr, Bool, true, false, List, [], ◌∷◌, ◌++◌, length, get_or, sym, ap, ◌∙◌, subst, arith, length-append}
-use Rattle.std.specs.Prelude.{Contains, IsTrue, ◌↔◌, slice_index}
+use Rattle.std.proofs.Common.{ℕ, ◌≡◌, ◌+◌, ◌<◌, ◌≤◌, ◌⊎◌, inl, inr, List, [], ◌∷◌, ◌++◌, length, get_or, sym, ap, ◌∙◌, subst, arith, length-append}
+use Rattle.std.specs.Prelude.{Contains, IsTrue, slice_index}
 use Rattle.std.specs.List.Sorted.{IsStrictlyIncreasing}
-use Rattle.std.proofs.lemmas.Bool.{cases_lt, false≢true}
+use Rattle.std.proofs.lemmas.Bool.{cases_lt}
 use Rattle.std.proofs.lemmas.List.{get_or_append_left}
 use Rattle.std.proofs.lemmas.List.Elements.{All-append, All-contains, Contains-append_left, Contains-get_or, Contains-push, Contains-push_cases}
 use Rattle.std.proofs.lemmas.List.Kept.{AllPairs-from_increasing}
@@ -12,15 +12,17 @@ use Rattle.letters.specs.declared.Letter.{Letter}
 use Rattle.letters.specs.declared.Letter.TheVariants.{U, V, W, X}
 use Rattle.quadtree.specs.TreeModel.{TreeModel, size, square_of, node_of, IsTreeOf, IsTree}
 use Rattle.cell_name.proofs.Cells.{Touches-sym, Touches-parent}
-use Rattle.cell_lists.specs.declared.entry_lists.EntryLists.{EntryLists}
 use Rattle.cell_lists.specs.Entries.{IsPair, IsEntry}
-use Rattle.cell_lists.specs.Lists.{IsListOf, lists_of, AreListsTo}
+use Rattle.cell_lists.specs.EntryLists.{lists_of, EntryListsModel}
+use Rattle.cell_lists.specs.Lists.{IsListOf, AreListsTo}
 use Rattle.cell_lists.specs.Meetings.{MeetsAll}
 use Rattle.cell_lists.specs.Numbers.{OfEachList}
-use Rattle.cell_lists.specs.Row.{row}
+use Rattle.cell_lists.specs.ListAt.{list_at}
+use Rattle.cell_lists.specs.declared.picked.Picked.{Picked}
+use Rattle.cell_lists.specs.Picked.{picked_of, AreListsOf, AddsLists}
 use Rattle.cell_lists.specs.Walks.{AreNumbers, IsMet, IsBelow}
 use Rattle.cell_lists.proofs.CellNumbers.{level_in_grid}
-use Rattle.cell_lists.proofs.WalkSteps.{place_of, colleague_met, each_row_more, one_more, one_number}
+use Rattle.cell_lists.proofs.WalkSteps.{place_of, colleague_met, each_list_more, one_more, one_number}
 
 -- a number stands at one of the first places
 pub record IsEarly (met : List ℕ) (count c : ℕ) : Type 0 where
@@ -66,8 +68,8 @@ increasing_push xs y up above k lt =
     ]
 
 -- the next cell is no entry
-pub picks_skip : (tree : TreeModel) (letter : Letter) (b : ℕ) (met : List ℕ) (count : ℕ) (cells : List ℕ) (r : Bool) → r ≡ false → OfEachList tree (λ points cap. IsTrue r ↔ IsEntry 16 points cap letter (square_of tree b) (square_of tree (slice_index met count))) → PicksTo tree letter b met count cells → PicksTo tree letter b met (count + 1) cells
-picks_skip tree letter b met count cells r is_false test h =
+pub picks_skip : (tree : TreeModel) (letter : Letter) (b : ℕ) (met : List ℕ) (count : ℕ) (cells : List ℕ) → OfEachList tree (λ points cap. IsEntry 16 points cap letter (square_of tree b) (square_of tree (slice_index met count)) → ⊥) → PicksTo tree letter b met count cells → PicksTo tree letter b met (count + 1) cells
+picks_skip tree letter b met count cells none h =
     record {
       numbers = h.numbers;
       ascending = h.ascending;
@@ -82,14 +84,14 @@ picks_skip tree letter b met count cells r is_false test h =
                   | inr here ↦
                       let at : k ≡ count = omega arith in
                       let P : ℕ → Type 0 = λ n. IsEntry 16 points cap letter (square_of tree b) (square_of tree (slice_index met n)) in
-                      absurd (false≢true (sym is_false ∙ (test points cap inside is).1 (subst P at entry)))
+                      absurd (none points cap inside is (subst P at entry))
                 ];
           };
     }
 
 -- the next cell is an entry, and goes to the end
-pub picks_push : (tree : TreeModel) (letter : Letter) (b : ℕ) (met : List ℕ) (count n : ℕ) (cells cells' : List ℕ) (r : Bool) → r ≡ true → OfEachList tree (λ points cap. IsTrue r ↔ IsEntry 16 points cap letter (square_of tree b) (square_of tree n)) → slice_index met count ≡ n → n < size tree → count < length met → IsStrictlyIncreasing met → cells' ≡ cells ++ n ∷ [] → PicksTo tree letter b met count cells → PicksTo tree letter b met (count + 1) cells'
-picks_push tree letter b met count n cells cells' r is_true test at_count in_tree inside_met up grown h =
+pub picks_push : (tree : TreeModel) (letter : Letter) (b : ℕ) (met : List ℕ) (count n : ℕ) (cells cells' : List ℕ) → OfEachList tree (λ points cap. IsEntry 16 points cap letter (square_of tree b) (square_of tree n)) → slice_index met count ≡ n → n < size tree → count < length met → IsStrictlyIncreasing met → cells' ≡ cells ++ n ∷ [] → PicksTo tree letter b met count cells → PicksTo tree letter b met (count + 1) cells'
+picks_push tree letter b met count n cells cells' entry_is at_count in_tree inside_met up grown h =
     let P : List ℕ → Type 0 = λ l. PicksTo tree letter b met (count + 1) l in
     let before_n : (x : ℕ) → Contains cells x → x < n = λ x listed. let e = h.early x listed in omega (arith, AllPairs-from_increasing met up e.at count 0 e.before inside_met, e.here, at_count) in
     subst P (sym grown) (record {
@@ -106,7 +108,7 @@ picks_push tree letter b met count n cells cells' r is_true test at_count in_tre
             sound = λ c listed.
                 elim (Contains-push_cases cells n c listed) [
                   | inl old ↦ p.sound c old
-                  | inr new ↦ let Q : ℕ → Type 0 = λ v. IsEntry 16 points cap letter (square_of tree b) (square_of tree v) in subst Q new ((test points cap inside is).0 is_true)
+                  | inr new ↦ let Q : ℕ → Type 0 = λ v. IsEntry 16 points cap letter (square_of tree b) (square_of tree v) in subst Q new (entry_is points cap inside is)
                 ];
             whole = λ k lt entry.
                 elim (cases_lt k count) [
@@ -175,26 +177,23 @@ numbers_from_listed tree xs ys h from k d lt = All-contains (λ c. c < size tree
 
 -- ---- the lists of one more cell
 
--- the list of a letter
-abbrev pub IsNewList : TreeModel → Letter → ℕ → List ℕ → Type 0
-IsNewList tree letter b cells = OfEachList tree (λ points cap. IsListOf tree points cap letter b cells)
-
-pub lists_more : (tree : TreeModel) (was now : EntryLists) (b : ℕ) (u v w x : List ℕ) → AreListsTo tree was b → now.u ≡ was.u ++ u ∷ [] → now.v ≡ was.v ++ v ∷ [] → now.w ≡ was.w ++ w ∷ [] → now.x ≡ was.x ++ x ∷ [] → IsNewList tree U b u → IsNewList tree V b v → IsNewList tree W b w → IsNewList tree X b x → AreListsTo tree now (b + 1)
-lists_more tree was now b u v w x h eu ev ew ex hu hv hw hx = record { as_many = as_many; each = each }
+pub lists_more : (tree : TreeModel) (was now : EntryListsModel) (b : ℕ) (picked : Picked) → AreListsTo tree was b → AddsLists was picked now → AreListsOf tree b picked → AreListsTo tree now (b + 1)
+lists_more tree was now b picked h adds new = record { as_many = as_many; each = λ points cap inside is letter n lt. each points cap inside is letter n lt }
   where
+    grown : (letter : Letter) → lists_of now letter ≡ lists_of was letter ++ picked_of picked letter ∷ []
+    grown U = adds.u
+    grown V = adds.v
+    grown W = adds.w
+    grown X = adds.x
+
     as_many : (letter : Letter) → length (lists_of now letter) ≡ b + 1
-    as_many U = one_more was.u now.u u b (h.as_many U) eu
-    as_many V = one_more was.v now.v v b (h.as_many V) ev
-    as_many W = one_more was.w now.w w b (h.as_many W) ew
-    as_many X = one_more was.x now.x x b (h.as_many X) ex
+    as_many letter = one_more (lists_of was letter) (lists_of now letter) (picked_of picked letter) b (h.as_many letter) (grown letter)
 
-    each : OfEachList tree (λ points cap. (letter : Letter) (n : ℕ) → n < b + 1 → IsListOf tree points cap letter n (row (lists_of now letter) n))
-    each points cap inside is U = each_row_more (λ n l. IsListOf tree points cap U n l) was.u now.u u b (h.as_many U) eu (h.each points cap inside is U) (hu points cap inside is)
-    each points cap inside is V = each_row_more (λ n l. IsListOf tree points cap V n l) was.v now.v v b (h.as_many V) ev (h.each points cap inside is V) (hv points cap inside is)
-    each points cap inside is W = each_row_more (λ n l. IsListOf tree points cap W n l) was.w now.w w b (h.as_many W) ew (h.each points cap inside is W) (hw points cap inside is)
-    each points cap inside is X = each_row_more (λ n l. IsListOf tree points cap X n l) was.x now.x x b (h.as_many X) ex (h.each points cap inside is X) (hx points cap inside is)
+    each : OfEachList tree (λ points cap. (letter : Letter) (n : ℕ) → n < b + 1 → IsListOf tree points cap letter n (list_at (lists_of now letter) n))
+    each points cap inside is letter =
+        each_list_more (λ n l. IsListOf tree points cap letter n l) (lists_of was letter) (lists_of now letter) (picked_of picked letter) b (h.as_many letter) (grown letter) (h.each points cap inside is letter) (new points cap inside is letter)
 
-pub lists_none : (tree : TreeModel) (lists : EntryLists) → lists.u ≡ [] → lists.v ≡ [] → lists.w ≡ [] → lists.x ≡ [] → AreListsTo tree lists 0
+pub lists_none : (tree : TreeModel) (lists : EntryListsModel) → lists.u ≡ [] → lists.v ≡ [] → lists.w ≡ [] → lists.x ≡ [] → AreListsTo tree lists 0
 lists_none tree lists eu ev ew ex = record { as_many = as_many; each = λ points cap inside is letter n lt. absurd (omega arith) }
   where
     as_many : (letter : Letter) → length (lists_of lists letter) ≡ 0

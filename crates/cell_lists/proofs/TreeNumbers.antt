@@ -12,6 +12,7 @@ use Rattle.cell_name.proofs.Ancestors.{IsPart-ancestor}
 use Rattle.cell_name.proofs.Cells.{IsPart}
 use Rattle.cell_name.proofs.Levels.{above_le}
 use Rattle.letters.specs.declared.Letter.{Letter}
+use Rattle.quadtree.proofs.TreeChildren.{tree_cell_at}
 use Rattle.quadtree.specs.Tree.{AreInGrid, IsTreeCell}
 use Rattle.quadtree.specs.TreeModel.{TreeModel, size, squares, square_of, node_of, IsTreeOf, IsTree}
 use Rattle.quadtree.proofs.LeafLevel.{InTreeAt, tree_above}
@@ -20,10 +21,6 @@ use Rattle.cell_lists.specs.Cases.{IsCase}
 use Rattle.cell_lists.specs.Entries.{IsEntry}
 use Rattle.cell_lists.specs.Walk.{AncestorsTouch}
 use Rattle.cell_lists.proofs.OneEntry.{ancestor_of, levels_of_case, entry_from_case}
-
--- a cell of the tree by its number
-pub tree_cell_at : (tree : TreeModel) (points : List Point) (cap n : ℕ) → IsTreeOf 16 tree points cap → n < size tree → IsTreeCell 16 points cap (square_of tree n)
-tree_cell_at tree points cap n h lt = All-get_or (IsTreeCell 16 points cap) (squares tree) n (root 16) (omega (arith, length-map tree.cells square)) h.cells_are.in_tree
 
 -- what the program reads is the cell of the number
 pub read_is : (cells : List Cell) (n : ℕ) (x : Cell) → n < length cells → x ≡ get_or cells n x → square x ≡ get_or (map square cells) n (root 16)

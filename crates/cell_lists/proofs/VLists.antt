@@ -9,23 +9,15 @@ use Rattle.std.proofs.Math.Nat.{mul-le-mul_right}
 use Rattle.points.specs.declared.Point.{Point}
 use Rattle.cell_name.specs.Order.{IsBefore}
 use Rattle.cell_name.specs.Square.{Square, side, half, parent, Touches}
-use Rattle.cell_name.proofs.Distances.{same_side}
+use Rattle.cell_name.proofs.Distances.{near, same_side}
 use Rattle.letters.specs.declared.Letter.TheVariants.{V}
 use Rattle.quadtree.specs.TreeModel.{TreeModel, size, square_of, IsTreeOf, IsTree}
-use Rattle.cell_lists.specs.Entries.{ComeApart}
+use Rattle.cell_lists.specs.Entries.{ComeApartOnOneLevel}
 use Rattle.cell_lists.specs.Lists.{IsListOf, AreLists, VListsAreShort}
-use Rattle.cell_lists.specs.Row.{row}
-use Rattle.cell_lists.specs.declared.entry_lists.EntryLists.{EntryLists}
+use Rattle.cell_lists.specs.ListAt.{list_at}
+use Rattle.cell_lists.specs.EntryLists.{EntryListsModel}
 use Rattle.std.proofs.lemmas.List.{get_or_default}
 use Rattle.cell_lists.proofs.CellNumbers.{number_before}
-
--- pieces of one length that meet are neighbours
-near_index : (i k s : ℕ) → 0 < s → i * s ≤ k * s + s → i ≤ k + 1
-near_index i k s positive le =
-    elim (cases_lt (k + 1) i) [
-      | inr near ↦ near
-      | inl far ↦ let more : (k + 2) * s ≤ i * s = mul-le-mul_right s (omega arith) in absurd (omega arith)
-    ]
 
 near_pieces : (i k s : ℕ) → i ≤ k + 1 → i * s ≤ k * s + s
 near_pieces i k s near = let le : i * s ≤ (k + 1) * s = mul-le-mul_right s near in omega arith
@@ -46,10 +38,10 @@ neighbours-from_touch b c grid level t =
     let ei : b.i * side b ≡ b.i * s = ap (λ n. b.i * n) e in
     let ej : b.j * side b ≡ b.j * s = ap (λ n. b.j * n) e in
     record {
-      west = near_index b.i c.i s positive (omega (arith, ints, t.west));
-      east = near_index c.i b.i s positive (omega (arith, ints, t.east));
-      south = near_index b.j c.j s positive (omega (arith, ints, t.south));
-      north = near_index c.j b.j s positive (omega (arith, ints, t.north));
+      west = near b.i c.i s positive (omega (arith, ints, t.west));
+      east = near c.i b.i s positive (omega (arith, ints, t.east));
+      south = near b.j c.j s positive (omega (arith, ints, t.south));
+      north = near c.j b.j s positive (omega (arith, ints, t.north));
     }
 
 touch-from_neighbours : (b c : Square) → b.grid ≡ c.grid → b.level ≡ c.level → AreNeighbours b c → Touches b c
@@ -164,7 +156,7 @@ record HasPlace (b c : Square) : Type 0 where
   pub place : ℕ
   pub is_place : IsPlace (b.i % 2) (b.j % 2) (column_of b c) (row_of b c) place
 
-has_place : (b c : Square) → b.grid ≡ c.grid → ComeApart b c → HasPlace b c
+has_place : (b c : Square) → b.grid ≡ c.grid → ComeApartOnOneLevel b c → HasPlace b c
 has_place b c grid h =
     let level : b.level - 1 ≡ c.level - 1 = ap (λ n. n - 1) h.same_level in
     let n : AreNeighbours (parent b) (parent c) = neighbours-from_touch (parent b) (parent c) grid level h.parents_touch in
@@ -216,8 +208,8 @@ v_list_is_short tree points cap b cells is lb l =
           absurd (omega (arith, at_least tree points cap b cells is lb l 27 many h, place_below _ _ _ _ h.place h.inside h.is_place))
     ]
 
-pub v_lists_are_short : (tree : TreeModel) (lists : EntryLists) → IsTree tree → AreLists tree lists → VListsAreShort lists
+pub v_lists_are_short : (tree : TreeModel) (lists : EntryListsModel) → IsTree tree → AreLists tree lists → VListsAreShort lists
 v_lists_are_short tree lists is are n d lt =
     let lb : n < size tree = omega (arith, are.as_many V) in
-    let short = v_list_is_short tree is.points is.cap n (row lists.v n) is.is_tree lb (are.each is.points is.cap is.in_grid is.is_tree V n lb) in
+    let short = v_list_is_short tree is.points is.cap n (list_at lists.v n) is.is_tree lb (are.each is.points is.cap is.in_grid is.is_tree V n lb) in
     omega (arith, short, ap length (get_or_default lists.v n d [] lt))

@@ -8,8 +8,10 @@ use Rattle.std.proofs.lemmas.List.Elements.{All-append, All-cons, Contains-appen
 use Rattle.cell_name.specs.Square.{Square, parent, Touches}
 use Rattle.cell_name.proofs.Cells.{Touches-sym, Touches-parent, Touches-parents}
 use Rattle.quadtree.specs.TreeModel.{TreeModel, size, square_of, node_of, IsTree}
-use Rattle.cell_lists.specs.Row.{row}
-use Rattle.cell_lists.specs.Walks.{AreNumbers, IsChild, IsColleague, IsBelow, IsMet, AreChildren, AreColleagues, IsFrom, AddsChildren, MeetsBelow}
+use Rattle.quadtree.proofs.Lists.{All-from_members}
+use Rattle.quadtree.proofs.TreeChildren.{child_of, child_listed}
+use Rattle.cell_lists.specs.ListAt.{list_at}
+use Rattle.cell_lists.specs.Walks.{AreNumbers, IsChild, IsColleague, IsBelow, IsMet, AreColleagues, IsFrom, AddsChildren, MeetsBelow}
 use Rattle.cell_lists.proofs.CellNumbers.{level_in_grid, level_at_most, level_positive, first_is_root, first_level, parent_number, parent_before, IsParentOf}
 
 -- a listed number stands at a place
@@ -30,6 +32,13 @@ place_appended xs more c h =
   where
     past : (xs more : List ℕ) (k : ℕ) → get_or (xs ++ more) (length xs + k) 0 ≡ get_or more k 0
     past xs more k = get_or-append_right xs more (length xs + k) 0 (omega arith) ∙ ap (λ n. get_or more n 0) (omega arith)
+
+-- ---- the children, as the tree has them
+pub children_numbers : (tree : TreeModel) → IsTree tree → (n : ℕ) → n < size tree → AreNumbers tree (node_of tree n).children
+children_numbers tree is n lt = All-from_members (λ c. c < size tree) (node_of tree n).children (λ c listed. (child_of tree is.points is.cap is.in_grid is.is_tree n c lt listed).in_range)
+
+pub children_whole : (tree : TreeModel) → IsTree tree → (n c : ℕ) → n < size tree → IsChild tree n c → Contains (node_of tree n).children c
+children_whole tree is n c lt child = child_listed tree is.points is.cap is.in_grid is.is_tree n c lt child.in_range child.below_root child.parent_is
 
 -- ---- the quarters of the found cells
 
@@ -181,7 +190,7 @@ around_more tree near count found found' mine added h e mine_numbers added_numbe
     })
 
 -- so all around the cell is met
-pub around_all : (tree : TreeModel) (b p count : ℕ) (near : List (List ℕ)) (found : List ℕ) → IsTree tree → 0 < b → b < size tree → IsParentOf tree b p → AreColleagues tree near b → length (row near p) ≤ count → MeetsAround tree (row near p) count found → (c : ℕ) → IsMet tree b c → Contains found c
+pub around_all : (tree : TreeModel) (b p count : ℕ) (near : List (List ℕ)) (found : List ℕ) → IsTree tree → 0 < b → b < size tree → IsParentOf tree b p → AreColleagues tree near b → length (list_at near p) ≤ count → MeetsAround tree (list_at near p) count found → (c : ℕ) → IsMet tree b c → Contains found c
 around_all tree b p count near found is lo hi up colleagues all h c (inl roots) = absurd (omega (arith, level_positive tree is b lo hi, roots.first_root))
 around_all tree b p count near found is lo hi up colleagues all h c (inr around) =
     let level_p : (square_of tree p).level ≡ (square_of tree b).level - 1 = ap (λ (s : Square). s.level) up.is_parent in
@@ -192,7 +201,7 @@ around_all tree b p count near found is lo hi up colleagues all h c (inr around)
           let P : Square → Type 0 = λ s. Touches s (square_of tree q.0) in
           let Q : Square → Type 0 = λ s. Touches (parent (square_of tree b)) s in
           let colleague : IsColleague tree p q.0 = record { in_range = q.1; touch = subst P (sym up.is_parent) (subst Q (sym q.2) same.1); reached = inl (omega (arith, level_p, level_q, same.0)) } in
-          let at = place_of (row near p) q.0 (colleagues.whole p q.0 up.before colleague) in
+          let at = place_of (list_at near p) q.0 (colleagues.whole p q.0 up.before colleague) in
           let R : ℕ → Type 0 = λ n. IsChild tree n c in
           h.quarters at.at c (omega (arith, at.inside)) (subst R (sym at.here) (record { in_range = around.in_range; below_root = omega (arith, same.0, around.below_root); parent_is = sym q.2 }))
       | inr leaf ↦
@@ -202,7 +211,7 @@ around_all tree b p count near found is lo hi up colleagues all h c (inr around)
             touch = subst P (sym up.is_parent) leaf.2;
             reached = elim (cases_lt (square_of tree c).level (square_of tree p).level) [ inl lt ↦ inr (leaf.0, lt) | inr ge ↦ inl (omega (arith, level_p, leaf.1, ge)) ];
           } in
-          let at = place_of (row near p) c (colleagues.whole p c up.before colleague) in
+          let at = place_of (list_at near p) c (colleagues.whole p c up.before colleague) in
           let Q : ℕ → Type 0 = λ n. IsTrue (node_of tree n).is_leaf in
           let R : ℕ → Type 0 = λ n. Contains found n in
           subst R at.here (h.leaf at.at (omega (arith, at.inside)) (subst Q (sym at.here) leaf.0))
@@ -242,61 +251,36 @@ keeps_all tree b found count near all h c listed t =
     let R : ℕ → Type 0 = λ n. Contains near n in
     subst R at.here (h.whole at.at (omega (arith, at.inside)) (subst Q (sym at.here) t))
 
--- ---- rows, one cell after another
+-- ---- lists, one cell after another
 
--- a fact of each row stays, and the new row has it
-pub each_row_more : (P : ℕ → List ℕ → Type 0) (rows rows' : List (List ℕ)) (new : List ℕ) (count : ℕ) → length rows ≡ count → rows' ≡ rows ++ new ∷ [] → ((n : ℕ) → n < count → P n (row rows n)) → P count new → (n : ℕ) → n < count + 1 → P n (row rows' n)
-each_row_more P rows rows' new count e grown old here n lt =
+-- a fact of each list stays, and the new list has it
+pub each_list_more : (P : ℕ → List ℕ → Type 0) (lists lists' : List (List ℕ)) (new : List ℕ) (count : ℕ) → length lists ≡ count → lists' ≡ lists ++ new ∷ [] → ((n : ℕ) → n < count → P n (list_at lists n)) → P count new → (n : ℕ) → n < count + 1 → P n (list_at lists' n)
+each_list_more P lists lists' new count e grown old here n lt =
     elim (cases_lt n count) [
       | inl before ↦
-          let same : row rows n ≡ row rows' n = sym (ap (λ l. get_or l n []) grown ∙ get_or_append_left rows (new ∷ []) [] n (omega arith)) in
+          let same : list_at lists n ≡ list_at lists' n = sym (ap (λ l. get_or l n []) grown ∙ get_or_append_left lists (new ∷ []) [] n (omega arith)) in
           let Q : List ℕ → Type 0 = λ l. P n l in
           subst Q same (old n before)
       | inr at ↦
-          let is : n ≡ length rows = omega arith in
-          let last : new ≡ row rows' n = sym (ap (λ l. get_or l n []) grown ∙ ap (λ k. get_or (rows ++ new ∷ []) k []) is ∙ get_or-append_seam rows new [] []) in
+          let is : n ≡ length lists = omega arith in
+          let last : new ≡ list_at lists' n = sym (ap (λ l. get_or l n []) grown ∙ ap (λ k. get_or (lists ++ new ∷ []) k []) is ∙ get_or-append_seam lists new [] []) in
           let Q : ℕ → Type 0 = λ k. P k new in
           let R : List ℕ → Type 0 = λ l. P n l in
           subst R last (subst Q (omega arith) here)
     ]
 
-pub one_more : (rows rows' : List (List ℕ)) (new : List ℕ) (count : ℕ) → length rows ≡ count → rows' ≡ rows ++ new ∷ [] → length rows' ≡ count + 1
-one_more rows rows' new count e grown = ap length grown ∙ omega (arith, length-append rows (new ∷ []))
+pub one_more : (lists lists' : List (List ℕ)) (new : List ℕ) (count : ℕ) → length lists ≡ count → lists' ≡ lists ++ new ∷ [] → length lists' ≡ count + 1
+one_more lists lists' new count e grown = ap length grown ∙ omega (arith, length-append lists (new ∷ []))
 
--- the quarters of the first cells
-pub record AreChildrenTo (tree : TreeModel) (rows : List (List ℕ)) (count : ℕ) : Type 0 where
-  pub as_many : length rows ≡ count
-  pub numbers : (n : ℕ) → n < count → AreNumbers tree (row rows n)
-  pub whole : (n : ℕ) → n < count → (c : ℕ) → IsChild tree n c → Contains (row rows n) c
+pub colleagues_none : (tree : TreeModel) (lists : List (List ℕ)) → lists ≡ [] → AreColleagues tree lists 0
+colleagues_none tree lists e = record { as_many = ap length e; numbers = λ n lt. absurd (omega arith); whole = λ b c lt. absurd (omega arith) }
 
-pub children_none : (tree : TreeModel) (rows : List (List ℕ)) → rows ≡ [] → AreChildrenTo tree rows 0
-children_none tree rows e = record { as_many = ap length e; numbers = λ n lt. absurd (omega arith); whole = λ n lt. absurd (omega arith) }
-
-pub children_more : (tree : TreeModel) (rows rows' : List (List ℕ)) (new : List ℕ) (count : ℕ) → AreChildrenTo tree rows count → rows' ≡ rows ++ new ∷ [] → AreNumbers tree new → ((c : ℕ) → IsChild tree count c → Contains new c) → AreChildrenTo tree rows' (count + 1)
-children_more tree rows rows' new count h e numbers whole =
+pub colleagues_more : (tree : TreeModel) (lists lists' : List (List ℕ)) (found new : List ℕ) (b : ℕ) → IsTree tree → b < size tree → AreColleagues tree lists b → lists' ≡ lists ++ new ∷ [] → AreNumbers tree new → ((c : ℕ) → IsMet tree b c → Contains found c) → ((c : ℕ) → Contains found c → Touches (square_of tree c) (square_of tree b) → Contains new c) → AreColleagues tree lists' (b + 1)
+colleagues_more tree lists lists' found new b is lt h e numbers met touching =
+    let whole = each_list_more (λ n l. (c : ℕ) → IsColleague tree n c → Contains l c) lists lists' new b h.as_many e (λ n lo c k. h.whole n c lo k) (λ c k. touching c (met c (colleague_met tree b c is lt k)) (Touches-sym (square_of tree b) (square_of tree c) k.touch)) in
     record {
-      as_many = one_more rows rows' new count h.as_many e;
-      numbers = each_row_more (λ n l. AreNumbers tree l) rows rows' new count h.as_many e h.numbers numbers;
-      whole = each_row_more (λ n l. (c : ℕ) → IsChild tree n c → Contains l c) rows rows' new count h.as_many e h.whole whole;
-    }
-
-pub children_all : (tree : TreeModel) (rows : List (List ℕ)) (count : ℕ) → count ≡ size tree → AreChildrenTo tree rows count → AreChildren tree rows
-children_all tree rows count e h =
-    record {
-      as_many = h.as_many ∙ e;
-      numbers = λ n lt. h.numbers n (omega arith);
-      whole = λ n c lt child. h.whole n (omega arith) c child;
-    }
-
-pub colleagues_none : (tree : TreeModel) (rows : List (List ℕ)) → rows ≡ [] → AreColleagues tree rows 0
-colleagues_none tree rows e = record { as_many = ap length e; numbers = λ n lt. absurd (omega arith); whole = λ b c lt. absurd (omega arith) }
-
-pub colleagues_more : (tree : TreeModel) (rows rows' : List (List ℕ)) (found new : List ℕ) (b : ℕ) → IsTree tree → b < size tree → AreColleagues tree rows b → rows' ≡ rows ++ new ∷ [] → AreNumbers tree new → ((c : ℕ) → IsMet tree b c → Contains found c) → ((c : ℕ) → Contains found c → Touches (square_of tree c) (square_of tree b) → Contains new c) → AreColleagues tree rows' (b + 1)
-colleagues_more tree rows rows' found new b is lt h e numbers met touching =
-    let whole = each_row_more (λ n l. (c : ℕ) → IsColleague tree n c → Contains l c) rows rows' new b h.as_many e (λ n lo c k. h.whole n c lo k) (λ c k. touching c (met c (colleague_met tree b c is lt k)) (Touches-sym (square_of tree b) (square_of tree c) k.touch)) in
-    record {
-      as_many = one_more rows rows' new b h.as_many e;
-      numbers = each_row_more (λ n l. AreNumbers tree l) rows rows' new b h.as_many e h.numbers numbers;
+      as_many = one_more lists lists' new b h.as_many e;
+      numbers = each_list_more (λ n l. AreNumbers tree l) lists lists' new b h.as_many e h.numbers numbers;
       whole = λ n c lo k. whole n lo c k;
     }
 
@@ -312,19 +296,19 @@ pub root_met : (tree : TreeModel) (b c : ℕ) (found : List ℕ) → IsTree tree
 root_met tree b c found is zero lt first (inl roots) = let e : c ≡ 0 = first_is_root tree is c roots.in_range roots.second_root in let P : ℕ → Type 0 = λ n. Contains found n in subst P (sym e) first
 root_met tree b c found is zero lt first (inr around) = absurd (root_not_around tree b is zero lt around.below_root)
 
--- ---- the parent's row
+-- ---- the parent's list
 
 pub parent_of_cell : (tree : TreeModel) (b p : ℕ) → IsTree tree → 0 < b → b < size tree → p ≡ (node_of tree b).parent → IsParentOf tree b p
 parent_of_cell tree b p is lo hi e = let P : ℕ → Type 0 = λ n. IsParentOf tree b n in subst P (sym e) (parent_before tree is b lo hi)
 
-pub parent_row_numbers : (tree : TreeModel) (b p : ℕ) (near : List (List ℕ)) (colleagues : List ℕ) → IsTree tree → 0 < b → b < size tree → p ≡ (node_of tree b).parent → AreColleagues tree near b → colleagues ≡ row near p → AreNumbers tree colleagues
-parent_row_numbers tree b p near colleagues is lo hi e h r =
+pub parent_list_numbers : (tree : TreeModel) (b p : ℕ) (near : List (List ℕ)) (colleagues : List ℕ) → IsTree tree → 0 < b → b < size tree → p ≡ (node_of tree b).parent → AreColleagues tree near b → colleagues ≡ list_at near p → AreNumbers tree colleagues
+parent_list_numbers tree b p near colleagues is lo hi e h r =
     let up = parent_of_cell tree b p is lo hi e in
     let P : List ℕ → Type 0 = λ l. AreNumbers tree l in
     subst P (sym r) (h.numbers p up.before)
 
-pub around_row : (tree : TreeModel) (b p count : ℕ) (near : List (List ℕ)) (colleagues found : List ℕ) → IsTree tree → 0 < b → b < size tree → p ≡ (node_of tree b).parent → AreColleagues tree near b → colleagues ≡ row near p → length colleagues ≤ count → MeetsAround tree colleagues count found → (c : ℕ) → IsMet tree b c → Contains found c
-around_row tree b p count near colleagues found is lo hi e h r all m =
+pub around_list : (tree : TreeModel) (b p count : ℕ) (near : List (List ℕ)) (colleagues found : List ℕ) → IsTree tree → 0 < b → b < size tree → p ≡ (node_of tree b).parent → AreColleagues tree near b → colleagues ≡ list_at near p → length colleagues ≤ count → MeetsAround tree colleagues count found → (c : ℕ) → IsMet tree b c → Contains found c
+around_list tree b p count near colleagues found is lo hi e h r all m =
     let P : List ℕ → Type 0 = λ l. MeetsAround tree l count found in
     around_all tree b p count near found is lo hi (parent_of_cell tree b p is lo hi e) h (omega (arith, ap length r)) (subst P r m)
 

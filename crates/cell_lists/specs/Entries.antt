@@ -14,7 +14,7 @@ pub record IsUPair (grid : ℕ) (points : List Point) (cap : ℕ) (b c : Square)
   pub touch : Touches b c
 
 -- they have one level of at least 1, their parents touch, and they don't touch
-pub record ComeApart (b c : Square) : Type 0 where
+pub record ComeApartOnOneLevel (b c : Square) : Type 0 where
   pub same_level : b.level ≡ c.level
   pub below_root : 1 ≤ b.level
   pub parents_touch : Touches (parent b) (parent c)
@@ -23,7 +23,7 @@ pub record ComeApart (b c : Square) : Type 0 where
 pub record IsVPair (grid : ℕ) (points : List Point) (cap : ℕ) (b c : Square) : Type 0 where
   pub first_in_tree : IsTreeCell grid points cap b
   pub second_in_tree : IsTreeCell grid points cap c
-  pub come_apart : ComeApart b c
+  pub come_apart : ComeApartOnOneLevel b c
 
 -- `c` has a greater level than `b`, its parent touches `b`, and `c` doesn't
 pub record ComesApartBelow (b c : Square) : Type 0 where
@@ -60,6 +60,10 @@ abbrev pub NoOtherAccounts : ℕ → List Point → ℕ → Letter → Square �
 NoOtherAccounts grid points cap letter b c target source =
     (letter' : Letter) (b' c' : Square) → IsEntry grid points cap letter' b' c' → Accounts b' c' target source → (letter' ≡ letter) × (b' ≡ b) × (c' ≡ c)
 
+-- what two cells account for, two others account for
+abbrev pub AccountForAll : Square → Square → Square → Square → Type 0
+AccountForAll b c b' c' = (target source : Point) → Accounts b c target source → Accounts b' c' target source
+
 -- exactly one entry accounts for a target and a source
 pub record HasOneEntry (grid : ℕ) (points : List Point) (cap : ℕ) (target source : Point) : Type 0 where
   pub letter : Letter
@@ -75,6 +79,11 @@ pub record IsTargetAndSource (points : List Point) (target source : Point) : Typ
   pub is_target : IsTarget target.kind
   pub source_listed : Contains points source
   pub is_source : IsSource source.kind
+
+-- no other entry than the one named accounts for what the leaves `b` and `c` hold
+abbrev pub NoOtherFor : ℕ → List Point → ℕ → Square → Square → Letter → Square → Square → Type 0
+NoOtherFor grid points cap b c letter b' c' =
+    (target source : Point) → IsTargetAndSource points target source → Accounts b c target source → NoOtherAccounts grid points cap letter b' c' target source
 
 -- each target and source of a list within the grid, for any capacity of the leaves
 abbrev pub EachPairHasOneEntry : Type 0

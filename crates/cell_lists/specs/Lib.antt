@@ -1,10 +1,13 @@
 -- Definitions that the contracts cite.
 pub mod Cases
 pub mod Entries
+pub mod EntryLists
+pub mod FlatLists
+pub mod ListAt
 pub mod Lists
 pub mod Meetings
 pub mod Numbers
-pub mod Row
-pub mod Rows
+pub mod Pairs
+pub mod Picked
 pub mod Walk
 pub mod Walks

@@ -2,7 +2,7 @@
 use Rattle.std.specs.Prelude.{ℕ, ◌≡◌, ◌<◌, ◌≤◌, ◌⊎◌, IsTrue, List, ◌++◌, length, slice_index, All, Contains}
 use Rattle.cell_name.specs.Square.{parent, Touches}
 use Rattle.quadtree.specs.TreeModel.{TreeModel, size, square_of, node_of}
-use Rattle.cell_lists.specs.Row.{row}
+use Rattle.cell_lists.specs.ListAt.{list_at}
 
 -- numbers of cells of the tree
 abbrev pub AreNumbers : TreeModel → List ℕ → Type 0
@@ -43,17 +43,20 @@ pub record AreRoots (tree : TreeModel) (b c : ℕ) : Type 0 where
 abbrev pub IsMet : TreeModel → ℕ → ℕ → Type 0
 IsMet tree b c = AreRoots tree b c ⊎ IsAround tree b c
 
--- a row for each cell, with its quarters among it
-pub record AreChildren (tree : TreeModel) (rows : List (List ℕ)) : Type 0 where
-  pub as_many : length rows ≡ size tree
-  pub numbers : (n : ℕ) → n < size tree → AreNumbers tree (row rows n)
-  pub whole : (n c : ℕ) → n < size tree → IsChild tree n c → Contains (row rows n) c
+-- the cells of the level of `b` that touch it are among those found
+abbrev pub HasTouching : TreeModel → ℕ → List ℕ → Type 0
+HasTouching tree b found =
+    (c : ℕ) → c < size tree → (square_of tree c).level ≡ (square_of tree b).level → Touches (square_of tree c) (square_of tree b) → Contains found c
 
--- a row for each of the first cells, with its colleagues among it
-pub record AreColleagues (tree : TreeModel) (rows : List (List ℕ)) (count : ℕ) : Type 0 where
-  pub as_many : length rows ≡ count
-  pub numbers : (b : ℕ) → b < count → AreNumbers tree (row rows b)
-  pub whole : (b c : ℕ) → b < count → IsColleague tree b c → Contains (row rows b) c
+-- those of the found cells that touch `b` are kept
+abbrev pub KeepsTouching : TreeModel → ℕ → List ℕ → List ℕ → Type 0
+KeepsTouching tree b found kept = (c : ℕ) → Contains found c → Touches (square_of tree c) (square_of tree b) → Contains kept c
+
+-- a list for each of the first cells, with its colleagues among it
+pub record AreColleagues (tree : TreeModel) (lists : List (List ℕ)) (count : ℕ) : Type 0 where
+  pub as_many : length lists ≡ count
+  pub numbers : (b : ℕ) → b < count → AreNumbers tree (list_at lists b)
+  pub whole : (b c : ℕ) → b < count → IsColleague tree b c → Contains (list_at lists b) c
 
 -- a number stands among those from a place on
 pub record IsFrom (start : ℕ) (cells : List ℕ) (c : ℕ) : Type 0 where

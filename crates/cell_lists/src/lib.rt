@@ -2,16 +2,14 @@
 #![tactic(auto)]
 
 mod entry_lists;
+mod flat;
 mod gather;
 pub mod law;
 mod pairs;
-mod rows;
+mod picked;
 mod search;
 mod walk;
 
 pub use entry_lists::EntryLists;
 pub use gather::lists;
 pub use walk::first_apart;
-
-#[cfg(test)]
-mod tests;

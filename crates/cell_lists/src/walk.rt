@@ -4,10 +4,9 @@ ghost use Rattle.std.specs.Prelude.{◌≡◌, ◌<◌, ◌≤◌, IsTrue};
 ghost use Rattle.cell_name.specs.Cell.{square};
 ghost use Rattle.cell_name.specs.Square.{ancestor};
 ghost use Rattle.cell_lists.specs.Cases.{IsCase, letter_at};
-ghost use Rattle.cell_lists.specs.Entries.{Accounts, IsEntry, IsTargetAndSource, NoOtherAccounts};
+ghost use Rattle.cell_lists.specs.Entries.{AccountForAll, IsEntry};
 ghost use Rattle.cell_lists.specs.Numbers.{OfEachList};
-ghost use Rattle.cell_lists.specs.Walk.{AncestorsTouch, IsAncestor};
-ghost use Rattle.points.specs.declared.Point.{Point};
+ghost use Rattle.cell_lists.specs.Walk.{AncestorsTouch, IsAncestor, IsOnlyEntry};
 ghost use Rattle.quadtree.specs.TreeModel.{size, square_of, node_of};
 
 use cell_name::Cell;
@@ -90,10 +89,10 @@ pub fn first_apart(tree: &Tree, b: usize, c: usize) -> Entry
 
     // It is an entry, and it accounts for what the leaves hold.
     ensures entry { OfEachList tree.now (λ points cap. IsEntry 16 points cap result.letter (square_of tree.now result.b) (square_of tree.now result.c)) }
-    ensures accounts { (target source : Point) → Accounts (square_of tree.now b) (square_of tree.now c) target source → Accounts (square_of tree.now result.b) (square_of tree.now result.c) target source }
+    ensures accounts { AccountForAll (square_of tree.now b) (square_of tree.now c) (square_of tree.now result.b) (square_of tree.now result.c) }
 
     // No other entry accounts for a target and a source that the leaves hold.
-    ensures only { OfEachList tree.now (λ points cap. (target source : Point) → IsTargetAndSource points target source → Accounts (square_of tree.now b) (square_of tree.now c) target source → NoOtherAccounts 16 points cap result.letter (square_of tree.now result.b) (square_of tree.now result.c) target source) }
+    ensures only { IsOnlyEntry tree.now b c result }
 {
     let cells = tree.cells();
     let stop = descend(cells[b], cells[c]);

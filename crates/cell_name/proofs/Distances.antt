@@ -126,7 +126,7 @@ centres_differ b c same level =
     )
 
 -- two pieces of one side, of which neither begins more than a side after the other's end
-near : (i k s : ℕ) → 0 < s → i * s ≤ k * s + s → i ≤ k + 1
+pub near : (i k s : ℕ) → 0 < s → i * s ≤ k * s + s → i ≤ k + 1
 near i k s p h = let e : i * s ≤ (k + 1) * s = omega arith in le_of_mul-le-mul_right e p
 
 halves_near : (i k : ℕ) → i / 2 ≤ k / 2 + 1 → k / 2 ≤ i / 2 + 1 → unsigned_abs (pos i -ℤ pos k) ≤ 3

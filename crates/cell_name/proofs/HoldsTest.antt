@@ -1,21 +1,9 @@
 -- The test by which points are counted says whether a cell holds them.
-use Rattle.std.proofs.Common.{◌≡◌, true, arith}
-use Rattle.std.specs.Prelude.{ℤ, ◌≤ℤ◌, ◌<ℤ◌, int_le, int_lt}
+use Rattle.std.proofs.Common.{◌≡◌, true}
+use Rattle.std.specs.Prelude.{ℤ}
 use Rattle.std.proofs.lemmas.Bool.{and_from, and_parts}
-use Rattle.std.proofs.lemmas.Int.{ints}
 use Rattle.cell_name.specs.Square.{Square, Holds, holds_test}
-
-le_from_test : (a b : ℤ) → int_le a b ≡ true → a ≤ℤ b
-le_from_test a b e = grind (arith, ints)
-
-lt_from_test : (a b : ℤ) → int_lt a b ≡ true → a <ℤ b
-lt_from_test a b e = grind (arith, ints)
-
-test-from_le : (a b : ℤ) → a ≤ℤ b → int_le a b ≡ true
-test-from_le a b h = grind (arith, ints)
-
-test-from_lt : (a b : ℤ) → a <ℤ b → int_lt a b ≡ true
-test-from_lt a b h = grind (arith, ints)
+use Rattle.cell_name.proofs.Comparisons.{le_from_test, lt_from_test, test-from_le, test-from_lt}
 
 pub Holds-from_test : (c : Square) (x y : ℤ) → holds_test c x y ≡ true → Holds c x y
 Holds-from_test c x y e =

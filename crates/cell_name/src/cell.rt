@@ -1,8 +1,8 @@
 //! Cells and their arithmetic.
 
-ghost use Rattle.std.specs.Prelude.{◌≡◌, ◌≤◌, ◌<◌, ◌^◌, ◌+◌, ◌*◌, ◌%◌, IsTrue, ◌↔◌, pos, ◌≤ℤ◌, ◌<ℤ◌, ◌+ℤ◌, FitsSigned};
+ghost use Rattle.std.specs.Prelude.{◌≡◌, ◌≤◌, ◌<◌, ◌^◌, IsTrue, ◌↔◌, pos, ◌≤ℤ◌, ◌<ℤ◌, ◌+ℤ◌, FitsSigned};
 ghost use Rattle.std.specs.Int.{w64};
-ghost use Rattle.cell_name.specs.Square.{side, corner_x, corner_y, doubled_centre_x, doubled_centre_y, offset_x, offset_y, Holds, Touches, IsInGrid, IsInsideGrid, square_at, parent, child, ancestor};
+ghost use Rattle.cell_name.specs.Square.{side, corner_x, corner_y, doubled_centre_x, doubled_centre_y, offset_x, offset_y, Holds, Touches, IsInGrid, parent, ancestor};
 
 /// The bits of the grid: it has 2 ^ 16 places in each direction.
 pub const GRID: u8 = 16;
@@ -31,13 +31,15 @@ pub struct Quadrant {
 }
 
 impl Cell {
-    ghost use Rattle.cell_name.specs.Cell.{square, half_number};
+    ghost use Rattle.cell_name.specs.Cell.{square};
+    ghost use Rattle.cell_name.specs.Quarters.{quarter};
 
     /// The one cell of a level that holds a place of the grid: column `(x + 32768) / s`, row `(y + 32768) / s`, for the side `s`.
     pub fn of(x: i64, y: i64, level: u8) -> Cell
         requires in_grid { IsInGrid 16 x y }
         requires level { level ≤ 16 }
-        ensures { square result ≡ square_at 16 level x y }
+        ensures level { result.level ≡ level }
+        ensures holds { Holds (square result) x y }
     {
         let shift = GRID - level;
         Cell {
@@ -75,8 +77,7 @@ impl Cell {
     /// Which quarter of its parent the cell is.
     pub fn quadrant(self) -> Quadrant
         requires { 1 ≤ self.level }
-        ensures right { half_number result.right ≡ self.i % 2 }
-        ensures top { half_number result.top ≡ self.j % 2 }
+        ensures { quarter (parent (square self)) result ≡ square self }
     {
         Quadrant {
             right: self.i % 2 == 1,
@@ -87,7 +88,7 @@ impl Cell {
     /// A quarter of the cell, one level below: column `2 i` or `2 i + 1`, row `2 j` or `2 j + 1`.
     pub fn child(self, q: Quadrant) -> Cell
         requires { self.level ≤ 15 }
-        ensures { square result ≡ child (square self) (half_number q.right) (half_number q.top) }
+        ensures { square result ≡ quarter (square self) q }
     {
         Cell {
             level: self.level + 1,
@@ -109,7 +110,6 @@ impl Cell {
     pub fn corner(self) -> (i64, i64)
         ensures x { result.0 ≡ corner_x (square self) }
         ensures y { result.1 ≡ corner_y (square self) }
-        ensures inside { IsInsideGrid (square self) }
     {
         let s = self.side();
         (i64::from(self.i) * s - HALF, i64::from(self.j) * s - HALF)
@@ -119,7 +119,6 @@ impl Cell {
     pub fn doubled_centre(self) -> (i64, i64)
         ensures x { result.0 ≡ doubled_centre_x (square self) }
         ensures y { result.1 ≡ doubled_centre_y (square self) }
-        ensures inside { IsInsideGrid (square self) }
     {
         let s = self.side();
         let (x, y) = self.corner();

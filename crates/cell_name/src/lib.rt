@@ -5,6 +5,3 @@ pub mod cell;
 pub mod law;
 
 pub use cell::{Cell, GRID, Quadrant};
-
-#[cfg(test)]
-mod tests;

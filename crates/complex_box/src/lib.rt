@@ -1,27 +1,32 @@
 //! Boxes: complex intervals of whole ends, rows of them, sums of their products, and the counts of work.
 //!
-//! A box counts units of its caller's choice. Whatever complex fractions the arguments of a call contain, its result
-//! contains the exact result.
+//! A box counts units of its caller's choice. One rule holds for every call but `take`, which undoes `add`: whatever
+//! complex fractions the arguments contain, the result contains the exact result in the same unit, and a product in the
+//! product of the units.
 #![tactic(auto)]
 
-ghost use Rattle.std.specs.Prelude.{◌≡◌, ℕ, ◌^◌, ◌<◌, pos, ◌≤ℤ◌, IsTrue, ◌↔◌};
-ghost use Rattle.exact_math.specs.Ends.{BoxEndsWithin, BoxEndsContain, BoxEndsInside, EndsWithin, zero_box, point_box, add_box, neg_box, sub_box, scale_box, times_box, gscale_box, quot_box, gquot_box, widen_box};
+ghost use Rattle.std.specs.Prelude.{◌≡◌, ℕ, ◌^◌, ◌<◌, ℤ, pos, ◌*ℤ◌, ◌≤ℤ◌, IsTrue, ◌↔◌};
+ghost use Rattle.exact_math.specs.Ends.{BoxEndsWithin, BoxEndsContain, BoxEndsInside, EndsWithin, zero_box, point_box, add_box, take_box, neg_box, sub_box, scale_box, times_box, gscale_box, quot_box, gquot_box, widen_box};
 ghost use Rattle.exact_math.specs.Gaussian.{gaussian};
-ghost use Rattle.exact_math.specs.Ratio.{ComplexRatio, whole_complex, zero_complex, add_complex, neg_complex, sub_complex, mul_complex, over_complex};
+ghost use Rattle.exact_math.specs.Ratio.{ComplexRatio, whole_complex, zero_complex, neg_complex, over_complex, ◌+ᶜ◌, ◌-ᶜ◌, ◌*ᶜ◌};
 ghost use Rattle.exact_math.specs.Within.{Within};
 ghost use Rattle.complex_box.specs.Box.{box_ends, number, around, BoxContains, TakeFits, TimesFits, GscaleFits};
 ghost use Rattle.complex_box.specs.declared.CBox.{CBox};
 
 mod acc;
 mod row;
-#[cfg(test)]
-mod tests;
 mod work;
 
 pub use acc::Acc;
 use fixed_interval::Interval;
 pub use row::{Row, clear};
 pub use work::Work;
+
+/// The boxes of the layers above count units of `2^-UNIT_BITS`.
+pub const UNIT_BITS: u32 = 40;
+
+/// How many of these units are 1.
+pub const UNIT: i128 = 1 << UNIT_BITS;
 
 /// A Gaussian integer, `re + i im`.
 #[derive(Clone, Copy, PartialEq, Eq, Debug)]
@@ -41,7 +46,7 @@ impl CBox {
     /// The box that holds 0 alone.
     pub fn zero() -> CBox
         ensures ends { box_ends result ≡ zero_box }
-        ensures contains { BoxContains result zero_complex }
+        ensures contains { (u : ℤ) → BoxContains u result zero_complex }
     {
         CBox::point(0, 0)
     }
@@ -51,7 +56,7 @@ impl CBox {
         requires re { Within (2 ^ 126) re }
         requires im { Within (2 ^ 126) im }
         ensures ends { box_ends result ≡ point_box re im }
-        ensures contains { BoxContains result (whole_complex (gaussian re im)) }
+        ensures contains { BoxContains (pos 1) result (whole_complex (gaussian re im)) }
     {
         CBox {
             re: Interval::point(re),
@@ -64,7 +69,7 @@ impl CBox {
     pub fn add(self, o: CBox) -> CBox
         requires { BoxEndsWithin (2 ^ 126) (add_box (box_ends self) (box_ends o)) }
         ensures ends { box_ends result ≡ add_box (box_ends self) (box_ends o) }
-        ensures contains { (z w : ComplexRatio) → BoxContains self z → BoxContains o w → BoxContains result (add_complex z w) }
+        ensures contains { (u : ℤ) (z w : ComplexRatio) → BoxContains u self z → BoxContains u o w → BoxContains u result (z +ᶜ w) }
     {
         CBox {
             re: self.re.add(o.re),
@@ -73,13 +78,12 @@ impl CBox {
     }
 
     /// Takes a part away from a sum, lower end from lower end and upper end from upper end. It undoes `add`.
-    /// Condition: what is left is a box with ends of at most 2^126 in size.
+    /// Condition: this leaves the ends of a box.
     #[inline]
     pub fn take(self, o: CBox) -> CBox
-        requires re { TakeFits self.re o.re }
-        requires im { TakeFits self.im o.im }
-        ensures sum { box_ends self ≡ add_box (box_ends result) (box_ends o) }
-        ensures undoes { (part : CBox) → box_ends self ≡ add_box (box_ends part) (box_ends o) → box_ends result ≡ box_ends part }
+        requires { TakeFits (box_ends self) (box_ends o) }
+        ensures ends { box_ends result ≡ take_box (box_ends self) (box_ends o) }
+        ensures undoes { (rest : CBox) → box_ends self ≡ add_box (box_ends rest) (box_ends o) → box_ends result ≡ box_ends rest }
     {
         CBox {
             re: self.re.take(o.re),
@@ -92,7 +96,7 @@ impl CBox {
     pub fn sub(self, o: CBox) -> CBox
         requires { BoxEndsWithin (2 ^ 126) (sub_box (box_ends self) (box_ends o)) }
         ensures ends { box_ends result ≡ sub_box (box_ends self) (box_ends o) }
-        ensures contains { (z w : ComplexRatio) → BoxContains self z → BoxContains o w → BoxContains result (sub_complex z w) }
+        ensures contains { (u : ℤ) (z w : ComplexRatio) → BoxContains u self z → BoxContains u o w → BoxContains u result (z -ᶜ w) }
     {
         CBox {
             re: self.re.sub(o.re),
@@ -104,7 +108,7 @@ impl CBox {
     #[inline]
     pub fn neg(self) -> CBox
         ensures ends { box_ends result ≡ neg_box (box_ends self) }
-        ensures contains { (z : ComplexRatio) → BoxContains self z → BoxContains result (neg_complex z) }
+        ensures contains { (u : ℤ) (z : ComplexRatio) → BoxContains u self z → BoxContains u result (neg_complex z) }
     {
         CBox {
             re: self.re.neg(),
@@ -115,9 +119,9 @@ impl CBox {
     /// The product with the whole number `k`. Condition: all its ends are at most 2^126 in size.
     #[inline]
     pub fn scale(self, k: i128) -> CBox
-        requires { BoxEndsWithin (2 ^ 126) (scale_box k (box_ends self)) }
-        ensures ends { box_ends result ≡ scale_box k (box_ends self) }
-        ensures contains { (z : ComplexRatio) → BoxContains self z → BoxContains result (mul_complex (whole_complex (gaussian k (pos 0))) z) }
+        requires { BoxEndsWithin (2 ^ 126) (scale_box (box_ends self) k) }
+        ensures ends { box_ends result ≡ scale_box (box_ends self) k }
+        ensures contains { (u : ℤ) (z : ComplexRatio) → BoxContains u self z → BoxContains u result (whole_complex (gaussian k (pos 0)) *ᶜ z) }
     {
         CBox {
             re: self.re.scale(k),
@@ -132,7 +136,7 @@ impl CBox {
         requires radius { pos 0 ≤ℤ r }
         requires fits { BoxEndsWithin (2 ^ 126) (widen_box (box_ends self) r) }
         ensures ends { box_ends result ≡ widen_box (box_ends self) r }
-        ensures contains { (z w : ComplexRatio) → BoxContains self z → BoxEndsContain (pos 1) (around r) (sub_complex w z) → BoxContains result w }
+        ensures contains { (u : ℤ) (z w : ComplexRatio) → BoxContains u self z → BoxEndsContain u (around r) (w -ᶜ z) → BoxContains u result w }
     {
         CBox {
             re: self.re.widen(r),
@@ -145,7 +149,7 @@ impl CBox {
     pub fn quot(self, n: i128) -> CBox
         requires { pos 1 ≤ℤ n }
         ensures ends { box_ends result ≡ quot_box (box_ends self) n }
-        ensures contains { (z : ComplexRatio) → BoxContains self z → BoxContains result (over_complex z n) }
+        ensures contains { (u : ℤ) (z : ComplexRatio) → BoxContains u self z → BoxContains u result (over_complex z n) }
     {
         CBox {
             re: self.re.quot(n),
@@ -158,7 +162,7 @@ impl CBox {
     pub fn quot_shift(self, k: u32) -> CBox
         requires { k < 127 }
         ensures ends { box_ends result ≡ quot_box (box_ends self) (pos (2 ^ k)) }
-        ensures contains { (z : ComplexRatio) → BoxContains self z → BoxContains result (over_complex z (pos (2 ^ k))) }
+        ensures contains { (u : ℤ) (z : ComplexRatio) → BoxContains u self z → BoxContains u result (over_complex z (pos (2 ^ k))) }
     {
         CBox {
             re: self.re.quot_shift(k),
@@ -172,7 +176,7 @@ impl CBox {
     pub fn times(self, o: CBox) -> CBox
         requires { TimesFits (box_ends self) (box_ends o) }
         ensures ends { box_ends result ≡ times_box (box_ends self) (box_ends o) }
-        ensures contains { (z w : ComplexRatio) → BoxContains self z → BoxContains o w → BoxContains result (mul_complex z w) }
+        ensures contains { (u v : ℤ) (z w : ComplexRatio) → BoxContains u self z → BoxContains v o w → BoxContains (u *ℤ v) result (z *ᶜ w) }
     {
         CBox {
             re: self.re.times(o.re).sub(self.im.times(o.im)),
@@ -186,7 +190,7 @@ impl CBox {
     pub fn gscale(self, g: Gauss) -> CBox
         requires { GscaleFits (box_ends self) (number g) }
         ensures ends { box_ends result ≡ gscale_box (box_ends self) (number g) }
-        ensures contains { (z : ComplexRatio) → BoxContains self z → BoxContains result (mul_complex (whole_complex (number g)) z) }
+        ensures contains { (u : ℤ) (z : ComplexRatio) → BoxContains u self z → BoxContains u result (whole_complex (number g) *ᶜ z) }
     {
         let re = i128::from(g.re);
         let im = i128::from(g.im);
@@ -203,7 +207,7 @@ impl CBox {
         requires fits { GscaleFits (box_ends self) (number g) }
         requires divisor { pos 1 ≤ℤ n }
         ensures ends { box_ends result ≡ gquot_box (box_ends self) (number g) n }
-        ensures contains { (z : ComplexRatio) → BoxContains self z → BoxContains result (over_complex (mul_complex (whole_complex (number g)) z) n) }
+        ensures contains { (u : ℤ) (z : ComplexRatio) → BoxContains u self z → BoxContains u result (over_complex (whole_complex (number g) *ᶜ z) n) }
     {
         self.gscale(g).quot(n)
     }
@@ -212,7 +216,7 @@ impl CBox {
     #[inline]
     pub fn inside(self, outer: CBox) -> bool
         ensures exactly { IsTrue result ↔ BoxEndsInside (box_ends self) (box_ends outer) }
-        ensures contains { IsTrue result → (z : ComplexRatio) → BoxContains self z → BoxContains outer z }
+        ensures contains { IsTrue result → (u : ℤ) (z : ComplexRatio) → BoxContains u self z → BoxContains u outer z }
     {
         self.re.inside(outer.re) && self.im.inside(outer.im)
     }

@@ -9,11 +9,11 @@ use Rattle.std.proofs.lemmas.Map.Keys.{sorted_from_strictly_increasing}
 use Rattle.std.proofs.lemmas.Map.Views.{length-le_from_below}
 use Rattle.std.proofs.lemmas.Option.{get_or_from_slice_get}
 use Rattle.cell_name.proofs.HoldsTest.{Holds-from_test}
-use Rattle.cell_lists.proofs.TreeNumbers.{tree_cell_at}
+use Rattle.quadtree.proofs.TreeChildren.{tree_cell_at}
 use Rattle.cell_lists.specs.Entries.{IsEntry, IsVPair, IsWPair}
-use Rattle.cell_lists.specs.Lists.{IsListOf, lists_of}
-use Rattle.cell_lists.specs.Row.{row}
-use Rattle.cell_lists.specs.declared.entry_lists.EntryLists.{EntryLists}
+use Rattle.cell_lists.specs.EntryLists.{lists_of, EntryListsModel}
+use Rattle.cell_lists.specs.Lists.{IsListOf}
+use Rattle.cell_lists.specs.ListAt.{list_at}
 use Rattle.letters.specs.declared.Letter.{Letter}
 use Rattle.letters.specs.declared.Letter.TheVariants.{V, X}
 use Rattle.cell_name.proofs.Cells.{Touches-sym}
@@ -24,12 +24,12 @@ use Rattle.quadtree.proofs.Limits.{in_grid}
 use Rattle.quadtree.specs.Members.{holds_position, holds_point, members_of}
 use Rattle.quadtree.specs.TreeModel.{TreeModel, size, square_of, node_of}
 use Rattle.row_recursions.proofs.Geometry.{pairs_of_cells, far_places}
-use Rattle.tree_field.proofs.Members.{range_below}
+use Rattle.quadtree.proofs.Lists.{range_below}
 use Rattle.downward_rows.specs.Entries.{IsPairAt, IsFarPosition, IsFarCell, HasFarEntries}
 use Rattle.tree_rows.specs.Trees.{IsTreeWithLists}
 
-module _ (tree : TreeModel) (lists : EntryLists) (points : List Point) (has : IsTreeWithLists points tree lists) (n : ℕ) (lt : n < size tree) where
-  the_list : (letter : Letter) → IsListOf tree points has.tree_is.cap letter n (row (lists_of lists letter) n)
+module _ (tree : TreeModel) (lists : EntryListsModel) (points : List Point) (has : IsTreeWithLists points tree lists) (n : ℕ) (lt : n < size tree) where
+  the_list : (letter : Letter) → IsListOf tree points has.tree_is.cap letter n (list_at (lists_of lists letter) n)
   the_list letter = has.lists_are.each points has.tree_is.cap (in_grid points has.tree_is.range) has.tree_is.is_tree letter n lt
 
   grid_is : (c : ℕ) → c < size tree → (square_of tree c).grid ≡ 16
@@ -38,10 +38,10 @@ module _ (tree : TreeModel) (lists : EntryLists) (points : List Point) (has : Is
   level_is : (c : ℕ) → c < size tree → (square_of tree c).level ≤ 16
   level_is c h = (tree_cell_at tree points has.tree_is.cap c has.tree_is.is_tree h).level_in_grid
 
-  pub entry_at : (letter : Letter) (k d : ℕ) → k < length (row (lists_of lists letter) n) → IsEntry 16 points has.tree_is.cap letter (square_of tree n) (square_of tree (get_or (row (lists_of lists letter) n) k d))
+  pub entry_at : (letter : Letter) (k d : ℕ) → k < length (list_at (lists_of lists letter) n) → IsEntry 16 points has.tree_is.cap letter (square_of tree n) (square_of tree (get_or (list_at (lists_of lists letter) n) k d))
   entry_at letter k d h =
       let is = the_list letter in
-      (is.exact (get_or (row (lists_of lists letter) n) k d) (is.numbers k d h)).0 (Contains-get_or (row (lists_of lists letter) n) k d h)
+      (is.exact (get_or (list_at (lists_of lists letter) n) k d) (is.numbers k d h)).0 (Contains-get_or (list_at (lists_of lists letter) n) k d h)
 
   pair_at : (c : ℕ) → c < size tree → IsVPair 16 points has.tree_is.cap (square_of tree n) (square_of tree c) → IsPairAt tree n c
   pair_at c h e = record {
@@ -81,9 +81,9 @@ module _ (tree : TreeModel) (lists : EntryLists) (points : List Point) (has : Is
   pub far_entries : HasFarEntries tree lists points n
   far_entries = record {
     has_pairs = omega (arith, lt, has.lists_are.as_many V);
-    pairs = λ k d h. pair_at (get_or (row lists.v n) k d) ((the_list V).numbers k d h) (entry_at V k d h).pair;
+    pairs = λ k d h. pair_at (get_or (list_at lists.v n) k d) ((the_list V).numbers k d h) (entry_at V k d h).pair;
     short = has.short n [] (omega (arith, lt, has.lists_are.as_many V));
     has_far = omega (arith, lt, has.lists_are.as_many X);
-    far = λ k d h. far_cell (get_or (row lists.x n) k d) ((the_list X).numbers k d h) (entry_at X k d h).pair;
-    few = let le = length-le_from_below (size tree) (row lists.x n) (sorted_from_strictly_increasing (row lists.x n) (the_list X).ascending) (the_list X).numbers in omega (arith, le, has.tree_is.is_tree.few);
+    far = λ k d h. far_cell (get_or (list_at lists.x n) k d) ((the_list X).numbers k d h) (entry_at X k d h).pair;
+    few = let le = length-le_from_below (size tree) (list_at lists.x n) (sorted_from_strictly_increasing (list_at lists.x n) (the_list X).ascending) (the_list X).numbers in omega (arith, le, has.tree_is.is_tree.few);
   }

@@ -4,7 +4,7 @@ use Rattle.std.specs.Prelude.{fold, slice_get}
 use Rattle.std.specs.List.{range_with_len}
 use Rattle.std.proofs.lemmas.Bool.{false≢true}
 use Rattle.exact_math.specs.Ends.{BoxEnds, zero_box, add_box}
-use Rattle.row_recursions.proofs.ZeroBoxes.{zero_right}
+use Rattle.complex_box.proofs.ZeroBoxes.{zero_right}
 
 -- a term of the first sum is one of the second, or nothing where the second leaves it out
 pub record Agrees (u v : Bool) (s t : BoxEnds) : Type 0 where

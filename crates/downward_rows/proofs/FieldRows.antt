@@ -9,8 +9,8 @@ use Rattle.exact_math.specs.Ends.{BoxEnds, zero_box, add_box}
 use Rattle.exact_math.specs.Gaussian.{Gaussian}
 use Rattle.cell_name.specs.Square.{Square, side, holds_test, parent}
 use Rattle.cell_lists.specs.Lists.{AreLists}
-use Rattle.cell_lists.specs.Row.{row}
-use Rattle.cell_lists.specs.declared.entry_lists.EntryLists.{EntryLists}
+use Rattle.cell_lists.specs.ListAt.{list_at}
+use Rattle.cell_lists.specs.EntryLists.{EntryListsModel}
 use Rattle.letters.specs.declared.Letter.TheVariants.{V, X}
 use Rattle.complex_box.specs.declared.CBox.{CBox}
 use Rattle.kernel_table.specs.Kernel.{kernel_entry}
@@ -30,11 +30,11 @@ use Rattle.row_recursions.specs.Rows.{converted, far_source}
 use Rattle.soundness.specs.Computed.{total_row, total_box, far_coefficients_in}
 use Rattle.soundness.specs.Squares.{offset, quadrant}
 use Rattle.tree_field.proofs.LocalRows.{local_row-below}
-use Rattle.tree_field.proofs.Members.{Contains-range}
+use Rattle.quadtree.proofs.Lists.{Contains-range}
 use Rattle.tree_field.proofs.Sums.{total_box-map, total_box-same}
 use Rattle.tree_field.specs.Field.{is_source_in, sources_in, multipole_row, converted_rows, far_rows, local_row}
 use Rattle.tree_field.specs.Lists.{TreeLists}
-use Rattle.truncation.specs.Places.{GaussianBeyond}
+use Rattle.exact_math.specs.Within.{GaussianBeyond}
 use Rattle.downward_rows.specs.Entries.{pair_row, far_of, far_row_at, far_row_of, row_from, IsFarCell, IsFarPosition, HasFarEntries}
 use Rattle.tree_rows.specs.FlatRows.{row_at, AreSameRows}
 use Rattle.tree_rows.specs.FieldRows.{IsFieldOf, AreMultipoleRowsOf}
@@ -73,13 +73,13 @@ far_total points b c far k =
         (Contains-into_filter (λ j. holds_position c points j) (range_with_len 0 (length points)) i (Contains-range (length points) i (slice_get_within points i x e)) (ap (holds_point c) e ∙ held))
 
 -- ---- the row
-module _ (P : ℕ) (tree : TreeModel) (lists : EntryLists) (points : List Point) (cap : ℕ) (field : TreeLists) (up : List CBox) (n : ℕ) (inside : AreInGrid 16 points) (are : AreLists tree lists) (is : IsFieldOf points cap tree field) (lt : n < size tree) (entries : HasFarEntries tree lists points n) (multipoles : AreMultipoleRowsOf points cap P tree up (row lists.v n)) where
-  pairs_is : (k : ℕ) → total_row (pair_row P tree up n) (row lists.v n) k ≡ converted_rows points cap P field (square_of tree n) k
+module _ (P : ℕ) (tree : TreeModel) (lists : EntryListsModel) (points : List Point) (cap : ℕ) (field : TreeLists) (up : List CBox) (n : ℕ) (inside : AreInGrid 16 points) (are : AreLists tree lists) (is : IsFieldOf points cap tree field) (lt : n < size tree) (entries : HasFarEntries tree lists points n) (multipoles : AreMultipoleRowsOf points cap P tree up (list_at lists.v n)) where
+  pairs_is : (k : ℕ) → total_row (pair_row P tree up n) (list_at lists.v n) k ≡ converted_rows points cap P field (square_of tree n) k
   pairs_is k =
-      total_box-same (λ c. pair_row P tree up n c k) (λ c. converted P (kernel_entry (sides_between (square_of tree n) (square_of tree c))) (multipole_row points cap (square_of tree c)) k) (row lists.v n)
-      (λ i d h. converted_same P (kernel_entry (sides_between (square_of tree n) (square_of tree (get_or (row lists.v n) i d)))) (row_at P up (get_or (row lists.v n) i d)) (multipole_row points cap (square_of tree (get_or (row lists.v n) i d)))
-      (multipoles.each (get_or (row lists.v n) i d) (Contains-get_or (row lists.v n) i d h)) k)
-      ∙ sym (total_box-map (λ c. converted P (kernel_entry (sides_between (square_of tree n) c)) (multipole_row points cap c) k) (square_of tree) (row lists.v n))
+      total_box-same (λ c. pair_row P tree up n c k) (λ c. converted P (kernel_entry (sides_between (square_of tree n) (square_of tree c))) (multipole_row points cap (square_of tree c)) k) (list_at lists.v n)
+      (λ i d h. converted_same P (kernel_entry (sides_between (square_of tree n) (square_of tree (get_or (list_at lists.v n) i d)))) (row_at P up (get_or (list_at lists.v n) i d)) (multipole_row points cap (square_of tree (get_or (list_at lists.v n) i d)))
+      (multipoles.each (get_or (list_at lists.v n) i d) (Contains-get_or (list_at lists.v n) i d h)) k)
+      ∙ sym (total_box-map (λ c. converted P (kernel_entry (sides_between (square_of tree n) c)) (multipole_row points cap c) k) (square_of tree) (list_at lists.v n))
       ∙ ap (λ l. total_box (λ c. converted P (kernel_entry (sides_between (square_of tree n) c)) (multipole_row points cap c) k) l) (sym (entries_by_number tree lists points cap field inside are is V n lt))
 
   far_cell_is : (c : ℕ) → IsFarCell tree points (square_of tree n) c → (k : ℕ) → far_row_of tree points (square_of tree n) c k ≡ total_row (far_coefficients_in (square_of tree n)) (sources_in points (square_of tree c)) k
@@ -88,11 +88,11 @@ module _ (P : ℕ) (tree : TreeModel) (lists : EntryLists) (points : List Point)
       let P : List ℕ → Type 0 = λ l. All (IsFarPosition points (square_of tree n)) l in
       ap (λ l. total_row (far_row_at points (square_of tree n)) l k) e ∙ far_total points (square_of tree n) (square_of tree c) (subst P e far.each) k
 
-  far_is : (k : ℕ) → total_row (far_row_of tree points (square_of tree n)) (row lists.x n) k ≡ far_rows points cap P field (square_of tree n) k
+  far_is : (k : ℕ) → total_row (far_row_of tree points (square_of tree n)) (list_at lists.x n) k ≡ far_rows points cap P field (square_of tree n) k
   far_is k =
-      total_box-same (λ c. far_row_of tree points (square_of tree n) c k) (λ c. total_row (far_coefficients_in (square_of tree n)) (sources_in points (square_of tree c)) k) (row lists.x n)
-      (λ i d h. far_cell_is (get_or (row lists.x n) i d) (entries.far i d h) k)
-      ∙ sym (total_box-map (λ c. total_row (far_coefficients_in (square_of tree n)) (sources_in points c) k) (square_of tree) (row lists.x n))
+      total_box-same (λ c. far_row_of tree points (square_of tree n) c k) (λ c. total_row (far_coefficients_in (square_of tree n)) (sources_in points (square_of tree c)) k) (list_at lists.x n)
+      (λ i d h. far_cell_is (get_or (list_at lists.x n) i d) (entries.far i d h) k)
+      ∙ sym (total_box-map (λ c. total_row (far_coefficients_in (square_of tree n)) (sources_in points c) k) (square_of tree) (list_at lists.x n))
       ∙ ap (λ l. total_box (λ c. total_row (far_coefficients_in (square_of tree n)) (sources_in points c) k) l) (sym (entries_by_number tree lists points cap field inside are is X n lt))
 
   pub row_is : (m : ℕ → BoxEnds) → 0 < (square_of tree n).level → AreSameRows P m (local_row points cap P field (parent (square_of tree n))) → (k : ℕ) → row_from P tree lists points up n m k ≡ local_row points cap P field (square_of tree n) k

@@ -6,15 +6,15 @@ use Rattle.std.proofs.lemmas.Int.{ints}
 use mathlib.Core.Logic.{⊎_elim}
 use Rattle.exact_math.specs.Ends.{zero_box}
 use Rattle.exact_math.specs.Orders.{IsOrder}
-use Rattle.cell_lists.proofs.TreeNumbers.{tree_cell_at}
+use Rattle.quadtree.proofs.TreeChildren.{tree_cell_at}
 use Rattle.complex_box.specs.declared.CBox.{CBox}
+use Rattle.complex_box.proofs.Sizes.{zero_within}
 use Rattle.field_sizes.proofs.Bounds.{rows_within, radii_within}
 use Rattle.field_sizes.specs.Sizes.{IsLimited, RowsWithin}
 use Rattle.points.specs.declared.Point.{Point}
 use Rattle.quadtree.proofs.Limits.{in_grid}
 use Rattle.quadtree.specs.Tree.{HasTarget}
 use Rattle.quadtree.specs.TreeModel.{TreeModel, size, square_of, node_of}
-use Rattle.row_recursions.proofs.RowSizes.{zero_within}
 use Rattle.row_recursions.specs.Sizes.{RowWithin}
 use Rattle.tree_field.proofs.EachList.{each_list_has_tree}
 use Rattle.tree_field.specs.Field.{multipole_row, local_row, local_radius}

@@ -4,22 +4,22 @@ use Rattle.std.specs.Prelude.{All, IsTrue, ◌==◌}
 use Rattle.std.proofs.lemmas.Bool.{cases_lt}
 use Rattle.std.proofs.lemmas.List.{take-append-drop, length-append, length-take}
 use Rattle.exact_math.specs.Ends.{BoxEnds, BoxEndsWithin, zero_box, add_box}
+use Rattle.complex_box.specs.Rows.{IsZero}
 use Rattle.exact_math.specs.Gaussian.{gaussian}
 use Rattle.cell_name.specs.Cell.{half_number}
 use Rattle.cell_name.specs.Square.{Square}
 use Rattle.cell_name.specs.declared.cell.Quadrant.{Quadrant}
 use Rattle.cell_lists.proofs.CellNumbers.{first_level, level_positive, parent_before, IsParentOf}
-use Rattle.cell_lists.specs.Row.{row}
-use Rattle.cell_lists.specs.declared.entry_lists.EntryLists.{EntryLists}
-use Rattle.complex_box.specs.Rows.{AllZero}
+use Rattle.cell_lists.specs.ListAt.{list_at}
+use Rattle.cell_lists.specs.EntryLists.{EntryListsModel}
 use Rattle.complex_box.specs.declared.CBox.{CBox}
 use Rattle.local_shift.proofs.Sums.{nothing_at}
 use Rattle.points.specs.declared.Point.{Point}
 use Rattle.quadtree.proofs.Limits.{in_grid}
 use Rattle.quadtree.specs.Tree.{HasTarget}
 use Rattle.quadtree.specs.TreeModel.{TreeModel, size, square_of, node_of}
-use Rattle.row_recursions.proofs.RowSizes.{zero_within}
-use Rattle.row_recursions.proofs.ZeroBoxes.{zero_left}
+use Rattle.complex_box.proofs.ZeroBoxes.{zero_left}
+use Rattle.complex_box.proofs.Sizes.{zero_within}
 use Rattle.row_recursions.specs.Cells.{sign, quadrant_of}
 use Rattle.row_recursions.specs.Rows.{row_of, RowsAdd}
 use Rattle.row_recursions.specs.Sizes.{RowWithin}
@@ -39,7 +39,7 @@ use Rattle.downward_rows.proofs.Totals.{add_box-assoc}
 use Rattle.tree_rows.proofs.Trees.{some_tree}
 use Rattle.downward_rows.proofs.Trees.{target_of_parent}
 
-pub zero_row_within : (P : ℕ) (xs : List CBox) → length xs ≡ P → AllZero xs → RowWithin P 0 (row_of xs)
+pub zero_row_within : (P : ℕ) (xs : List CBox) → length xs ≡ P → All IsZero xs → RowWithin P 0 (row_of xs)
 zero_row_within P xs e z k h = subst (BoxEndsWithin 0) (sym (nothing_at P xs e z k h)) (zero_within 0)
 
 -- what is added to a row of zeros, one after another
@@ -51,9 +51,9 @@ three_added P start a b c S V X z s v x k h =
 pub within_listed : (P s : ℕ) (up : List CBox) (l m : List ℕ) → l ≡ m → All (λ c. RowWithin P s (row_at P up c)) m → All (λ c. RowWithin P s (row_at P up c)) l
 within_listed P s up l m e h = let Q : List ℕ → Type 0 = λ xs. All (λ c. RowWithin P s (row_at P up c)) xs in subst Q (sym e) h
 
-pub within_each : (P s : ℕ) (tree : TreeModel) (lists : EntryLists) (points : List Point) (up : List CBox) (n : ℕ) → IsTreeWithLists points tree lists → n < size tree
-    → ((c : ℕ) → c < size tree → RowWithin P s (row_at P up c)) → All (λ c. RowWithin P s (row_at P up c)) (row lists.v n)
-within_each P s tree lists points up n has lt w k d h = w (get_or (row lists.v n) k d) ((far_entries tree lists points has n lt).pairs k d h).in_range
+pub within_each : (P s : ℕ) (tree : TreeModel) (lists : EntryListsModel) (points : List Point) (up : List CBox) (n : ℕ) → IsTreeWithLists points tree lists → n < size tree
+    → ((c : ℕ) → c < size tree → RowWithin P s (row_at P up c)) → All (λ c. RowWithin P s (row_at P up c)) (list_at lists.v n)
+within_each P s tree lists points up n has lt w k d h = w (get_or (list_at lists.v n) k d) ((far_entries tree lists points has n lt).pairs k d h).in_range
 
 half_is : (b : Bool) (n : ℕ) → half_number b ≡ n → b ≡ (n == 1)
 half_is true n e = ap (λ m. m == 1) e
@@ -63,8 +63,8 @@ pub quadrant_read : (q : Quadrant) (c : Square) → half_number q.right ≡ c.i 
 quadrant_read q c r t = ap₂ (λ x y. gaussian (sign x) (sign y)) (half_is q.right (c.i % 2) r) (half_is q.top (c.j % 2) t)
 
 -- ---- the row of a cell, from its parent's in a run of rows
-module _ (P : ℕ) (tree : TreeModel) (lists : EntryLists) (points : List Point) (up : List CBox) (n : ℕ) (has : IsTreeWithLists points tree lists) (lt : n < size tree) (above own : List CBox) (row_from_parent : 0 < n → IsTrue (node_of tree n).has_target → AreSameRows P (row_of own) (row_from P tree lists points up n (row_at P above (node_of tree n).parent)))
-    (at_root : n ≡ 0 → AreSameRows P (row_of own) (λ k. zero_box)) (empty : (IsTrue (node_of tree n).has_target → ⊥) → AreSameRows P (row_of own) (λ k. zero_box)) (cap : ℕ) (field : TreeLists) (is : IsFieldOf points cap tree field) (multipoles : AreMultipoleRowsOf points cap P tree up (row lists.v n)) (parent_row : 0 < n → IsLocalRow points cap P tree field above (node_of tree n).parent) where
+module _ (P : ℕ) (tree : TreeModel) (lists : EntryListsModel) (points : List Point) (up : List CBox) (n : ℕ) (has : IsTreeWithLists points tree lists) (lt : n < size tree) (above own : List CBox) (row_from_parent : 0 < n → IsTrue (node_of tree n).has_target → AreSameRows P (row_of own) (row_from P tree lists points up n (row_at P above (node_of tree n).parent)))
+    (at_root : n ≡ 0 → AreSameRows P (row_of own) (λ k. zero_box)) (empty : (IsTrue (node_of tree n).has_target → ⊥) → AreSameRows P (row_of own) (λ k. zero_box)) (cap : ℕ) (field : TreeLists) (is : IsFieldOf points cap tree field) (multipoles : AreMultipoleRowsOf points cap P tree up (list_at lists.v n)) (parent_row : 0 < n → IsLocalRow points cap P tree field above (node_of tree n).parent) where
   below_root : 0 < n → HasTarget points (square_of tree n) → AreSameRows P (row_of own) (local_row points cap P field (square_of tree n))
   below_root lo t k h =
       let some = some_tree points tree has.tree_is in

@@ -15,4 +15,3 @@ pub mod RadiiSoFar
 pub mod SameRows
 pub mod Totals
 pub mod Trees
-pub mod ZeroRows

@@ -1,39 +1,37 @@
 -- What entries can lose, one more at a time, and that it stays small.
+use Rattle.std.specs.Int.{div_ceil}
 use Rattle.std.proofs.Common.{ℕ, ◌+◌, ◌*◌, ◌^◌, ◌<◌, ◌≤◌, ◌≡◌, List, length, get_or, take, ap, ap₂, ◌∙◌, arith, ℤ, pos, ◌+ℤ◌, SFits, w64, to_z, of_z}
 use Rattle.std.specs.Prelude.{sum_by, unsigned_abs, ◌≤ℤ◌}
-use Rattle.std.proofs.Math.Nat.{mul-le-mul_right, div-le_of_le-mul}
+use Rattle.std.proofs.Math.Nat.{mul-le-mul_right}
 use Rattle.std.proofs.Math.Seq.{take-length}
 use Rattle.std.proofs.lemmas.Int.{ints, to_z-of_z}
 use Rattle.std.proofs.lemmas.List.Sums.{sum_by_more}
-use Rattle.truncation.specs.Tails.{ceiling}
 use Rattle.tree_rows.specs.FlatRows.{IsWeight}
+use Rattle.truncation.proofs.Tails.{div_ceil-le}
 use mir.Syntax.{w128}
-
-ceiling_small : (a s : ℕ) → 1 ≤ s → ceiling a s ≤ a + 1
-ceiling_small a s h = let m : 1 * a ≤ s * a = mul-le-mul_right a h in div-le_of_le-mul s (omega arith)
 
 weight_small : (w : ℤ) → IsWeight w → unsigned_abs w ≤ 2 ^ 32
 weight_small w h = let l = h.least in let u = h.most in omega (arith, ints)
 
-pub loss_small : (w side : ℤ) (tail : ℕ) → IsWeight w → tail ≤ 2 ^ 41 → pos 1 ≤ℤ side → ceiling (unsigned_abs w * tail) (unsigned_abs side) ≤ 2 ^ 75
+pub loss_small : (w side : ℤ) (tail : ℕ) → IsWeight w → tail ≤ 2 ^ 41 → pos 1 ≤ℤ side → div_ceil (unsigned_abs w * tail) (unsigned_abs side) ≤ 2 ^ 75
 loss_small w side tail h t s =
     let a = weight_small w h in
     let m : unsigned_abs w * tail ≤ 2 ^ 32 * tail = mul-le-mul_right tail a in
-    let c = ceiling_small (unsigned_abs w * tail) (unsigned_abs side) (omega (arith, ints)) in
-    bound (ceiling (unsigned_abs w * tail) (unsigned_abs side)) (unsigned_abs w * tail) tail c m t
+    let c = div_ceil-le (unsigned_abs w * tail) (unsigned_abs side) (omega (arith, ints)) in
+    bound (div_ceil (unsigned_abs w * tail) (unsigned_abs side)) (unsigned_abs w * tail) tail c m t
   where
-    bound : (x y t : ℕ) → x ≤ y + 1 → y ≤ 2 ^ 32 * t → t ≤ 2 ^ 41 → x ≤ 2 ^ 75
+    bound : (x y t : ℕ) → x ≤ y → y ≤ 2 ^ 32 * t → t ≤ 2 ^ 41 → x ≤ 2 ^ 75
     bound x y t a b c = omega arith
 
 weight_fits : (w : ℤ) → IsWeight w → SFits w128 w
 weight_fits w h = let l = h.least in let u = h.most in omega (arith, ints)
 
 -- as it comes back from a call
-pub loss_read : (w side : ℤ) (tail : ℕ) → IsWeight w → SFits w64 side → ceiling (unsigned_abs (to_z w128 (of_z w128 w)) * tail) (unsigned_abs (to_z w64 (of_z w64 side))) ≡ ceiling (unsigned_abs w * tail) (unsigned_abs side)
-loss_read w side tail h f = ap₂ (λ x y. ceiling (unsigned_abs x * tail) (unsigned_abs y)) (to_z-of_z w128 w (weight_fits w h)) (to_z-of_z w64 side f)
+pub loss_read : (w side : ℤ) (tail : ℕ) → IsWeight w → SFits w64 side → div_ceil (unsigned_abs (to_z w128 (of_z w128 w)) * tail) (unsigned_abs (to_z w64 (of_z w64 side))) ≡ div_ceil (unsigned_abs w * tail) (unsigned_abs side)
+loss_read w side tail h f = ap₂ (λ x y. div_ceil (unsigned_abs x * tail) (unsigned_abs y)) (to_z-of_z w128 w (weight_fits w h)) (to_z-of_z w64 side f)
 
-pub weight_read : (w : ℤ) (tail s : ℕ) → IsWeight w → ceiling (unsigned_abs (to_z w128 (of_z w128 w)) * tail) s ≡ ceiling (unsigned_abs w * tail) s
-weight_read w tail s h = ap (λ x. ceiling (unsigned_abs x * tail) s) (to_z-of_z w128 w (weight_fits w h))
+pub weight_read : (w : ℤ) (tail s : ℕ) → IsWeight w → div_ceil (unsigned_abs (to_z w128 (of_z w128 w)) * tail) s ≡ div_ceil (unsigned_abs w * tail) s
+weight_read w tail s h = ap (λ x. div_ceil (unsigned_abs x * tail) s) (to_z-of_z w128 w (weight_fits w h))
 
 pub side_read : (side : ℤ) → pos 1 ≤ℤ side → side ≤ℤ pos 65536 → to_z w64 (of_z w64 side) ≡ side
 side_read side low high = let f : SFits w64 side = omega (arith, ints) in to_z-of_z w64 side f

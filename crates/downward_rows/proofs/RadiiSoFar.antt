@@ -6,7 +6,7 @@ use Rattle.std.proofs.lemmas.Int.{ints, to_z-of_z}
 use Rattle.std.proofs.lemmas.List.{get_or_default}
 use Rattle.exact_math.specs.Orders.{IsOrder}
 use Rattle.cell_lists.proofs.CellNumbers.{parent_before}
-use Rattle.cell_lists.specs.declared.entry_lists.EntryLists.{EntryLists}
+use Rattle.cell_lists.specs.EntryLists.{EntryListsModel}
 use Rattle.points.specs.declared.Point.{Point}
 use Rattle.quadtree.proofs.Limits.{in_grid}
 use Rattle.quadtree.specs.Tree.{AreInGrid}
@@ -51,7 +51,7 @@ module _ (points : List Point) (cap P : ℕ) (tree : TreeModel) (field : TreeLis
       own : IsRadius points cap P tree field (slice_set radii n r) n
       own = let same = get_or-set_same radii n r (pos 0) lt in record { radius_is = λ t. same ∙ here.radius_is t; empty = λ no. same ∙ here.empty no }
 
-module _ (P : ℕ) (tree : TreeModel) (lists : EntryLists) (weights radii : List ℤ) (order : IsOrder P) (are : AreWeightsOfTree P tree lists weights) where
+module _ (P : ℕ) (tree : TreeModel) (lists : EntryListsModel) (weights radii : List ℤ) (order : IsOrder P) (are : AreWeightsOfTree P tree lists weights) where
   radius_at : (n count : ℕ) → n < count → n < size tree → AreRadiiSoFar P tree weights radii count → (r : ℤ) → r ≡ slice_index_or radii n (pos 0) → (pos 0 ≤ℤ r) × (r ≤ℤ pos (2 ^ 90))
   radius_at n count less lt so_far r e =
       let tree_is = are.tree_is.tree_is in

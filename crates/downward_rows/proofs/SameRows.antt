@@ -2,9 +2,10 @@
 use Rattle.std.proofs.Common.{ℕ, zero, suc, ◌-◌, ◌≤◌, ◌^◌, ◌≡◌, refl, ap, ap₂, subst, sym, arith, pos}
 use Rattle.exact_math.specs.Ends.{BoxEnds, BoxEndsWithin, add_box, scale_box, times_box, gscale_box, quot_box}
 use Rattle.exact_math.specs.Gaussian.{Gaussian}
-use Rattle.row_recursions.proofs.BoxSums.{sum_boxes-same}
+use Rattle.row_recursions.proofs.Equations.{sum_boxes-same}
 use Rattle.row_recursions.specs.Rows.{converted, down_round, shifted_down}
 use Rattle.row_recursions.specs.Sizes.{RowWithin}
+use Rattle.row_recursions.proofs.Equations.{sum_boxes-same}
 use Rattle.tree_rows.specs.FlatRows.{AreSameRows}
 
 pub converted_same : (P : ℕ) (kernel : ℕ → ℕ → BoxEnds) (m n : ℕ → BoxEnds) → AreSameRows P m n → (l : ℕ) → converted P kernel m l ≡ converted P kernel n l
@@ -16,7 +17,7 @@ unfolding down_round
 down_same P m n q h zero k le = refl
 down_same P m n q h (suc r) zero le = ap₂ (λ a b. add_box a (quot_box (gscale_box b q) (pos 4))) (h (P - suc r) (omega arith)) (down_same P m n q h r zero (omega arith))
 down_same P m n q h (suc r) (suc k) le =
-    ap₂ (λ a b. quot_box (add_box (gscale_box a q) (scale_box (pos 2) b)) (pos 4)) (down_same P m n q h r (suc k) (omega arith)) (down_same P m n q h r k (omega arith))
+    ap₂ (λ a b. quot_box (add_box (gscale_box a q) (scale_box b (pos 2))) (pos 4)) (down_same P m n q h r (suc k) (omega arith)) (down_same P m n q h r k (omega arith))
 
 pub shifted_down_same : (P : ℕ) (m n : ℕ → BoxEnds) (q : Gaussian) → AreSameRows P m n → (k : ℕ) → shifted_down P m q k ≡ shifted_down P n q k
 unfolding shifted_down

@@ -2,8 +2,8 @@
 use Rattle.std.specs.Prelude.{ℕ, ◌^◌, ◌<◌, ◌≤◌, ◌≡◌, List, length, Option, Some, None, slice_get, All, sum_by}
 use Rattle.exact_math.specs.Ends.{BoxEnds, zero_box, add_box}
 use Rattle.cell_name.specs.Square.{Square}
-use Rattle.cell_lists.specs.Row.{row}
-use Rattle.cell_lists.specs.declared.entry_lists.EntryLists.{EntryLists}
+use Rattle.cell_lists.specs.ListAt.{list_at}
+use Rattle.cell_lists.specs.EntryLists.{EntryListsModel}
 use Rattle.complex_box.specs.declared.CBox.{CBox}
 use Rattle.kernel_table.specs.Kernel.{IsKernelDistance, kernel_entry}
 use Rattle.points.specs.Limits.{InRange, weight64}
@@ -39,12 +39,12 @@ abbrev pub far_row_of : TreeModel → List Point → Square → ℕ → ℕ → 
 far_row_of tree points b c = total_row (far_row_at points b) (node_of tree c).members
 
 -- how heavy the point at a position is, and the points of the cells of a list together
-abbrev pub weight_of : Option Point → ℕ
-weight_of (Some p) = weight64 p
-weight_of None = 0
+abbrev pub weight64_of : Option Point → ℕ
+weight64_of (Some p) = weight64 p
+weight64_of None = 0
 
 abbrev pub far_weight_at : List Point → ℕ → ℕ
-far_weight_at points k = weight_of (slice_get points k)
+far_weight_at points k = weight64_of (slice_get points k)
 
 abbrev pub far_weight : TreeModel → List Point → ℕ → ℕ
 far_weight tree points c = sum_by (far_weight_at points) (node_of tree c).members
@@ -62,15 +62,15 @@ pub record IsFarCell (tree : TreeModel) (points : List Point) (b : Square) (c : 
   pub each : All (IsFarPosition points b) (node_of tree c).members
 
 -- the V and X entries of cell n: short lists, the V cells a distance of the kernel away and the points of the X cells far from it
-pub record HasFarEntries (tree : TreeModel) (lists : EntryLists) (points : List Point) (n : ℕ) : Type 0 where
+pub record HasFarEntries (tree : TreeModel) (lists : EntryListsModel) (points : List Point) (n : ℕ) : Type 0 where
   pub has_pairs : n < length lists.v
-  pub pairs : All (IsPairAt tree n) (row lists.v n)
-  pub short : length (row lists.v n) ≤ 27
+  pub pairs : All (IsPairAt tree n) (list_at lists.v n)
+  pub short : length (list_at lists.v n) ≤ 27
   pub has_far : n < length lists.x
-  pub far : All (IsFarCell tree points (square_of tree n)) (row lists.x n)
-  pub few : length (row lists.x n) ≤ 2 ^ 16
+  pub far : All (IsFarCell tree points (square_of tree n)) (list_at lists.x n)
+  pub few : length (list_at lists.x n) ≤ 2 ^ 16
 
 -- the local row of cell n from its parent's row m
-abbrev pub row_from : ℕ → TreeModel → EntryLists → List Point → List CBox → ℕ → (ℕ → BoxEnds) → ℕ → BoxEnds
+abbrev pub row_from : ℕ → TreeModel → EntryListsModel → List Point → List CBox → ℕ → (ℕ → BoxEnds) → ℕ → BoxEnds
 row_from P tree lists points up n m k =
-    add_box (shifted_down P m (quadrant (square_of tree n)) k) (add_box (total_row (pair_row P tree up n) (row lists.v n) k) (total_row (far_row_of tree points (square_of tree n)) (row lists.x n) k))
+    add_box (shifted_down P m (quadrant (square_of tree n)) k) (add_box (total_row (pair_row P tree up n) (list_at lists.v n) k) (total_row (far_row_of tree points (square_of tree n)) (list_at lists.x n) k))

@@ -11,8 +11,6 @@ mod pairs;
 mod pass;
 mod radius;
 mod rows;
-#[cfg(test)]
-mod tests;
 
 pub use pass::downward_pass;
 pub use radius::{local_radius, radius_pass};

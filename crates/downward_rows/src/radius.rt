@@ -8,7 +8,7 @@ ghost use Rattle.quadtree.specs.TreeModel.{IsTree, size, node_of};
 ghost use Rattle.tree_field.specs.Lists.{TreeLists};
 ghost use Rattle.tree_rows.specs.FieldRows.{AreRadiiTo, AreWeights, IsFieldOf};
 ghost use Rattle.tree_rows.specs.FlatRows.{IsWeight};
-ghost use Rattle.downward_rows.specs.Radii.{AreWeightsOfTree, IsRadiusOf, pair_loss, single_loss};
+ghost use Rattle.downward_rows.specs.Radii.{AreWeightsOfTree, IsRadiusOf, pair_radius_at, single_radius_at};
 
 use cell_lists::EntryLists;
 use error_ledger::Ledger;
@@ -23,9 +23,9 @@ fn add_pair_losses(weights: &[i128], list: &[u32], side: i64, order: u32, ledger
     requires most_side { side ≤ℤ pos 65536 }
     requires least { 1 ≤ order }
     requires most { order ≤ 32 }
-    requires room { ledger.old.radius ≤ 2 ^ 92 }
-    ensures added { ledger.new.radius ≡ ledger.old.radius + sum_by (pair_loss weights.now order (unsigned_abs side)) list.now }
-    ensures size { ledger.new.radius ≤ ledger.old.radius + 2 ^ 91 }
+    requires room { ledger.old ≤ 2 ^ 92 }
+    ensures added { ledger.new ≡ ledger.old + sum_by (pair_radius_at weights.now order (unsigned_abs side)) list.now }
+    ensures size { ledger.new ≤ ledger.old + 2 ^ 91 }
 {
     for c in list {
         ledger.add_pair(weights[*c as usize], side, order);
@@ -41,9 +41,9 @@ fn add_single_losses(weights: &[i128], list: &[u32], side: i64, order: u32, ledg
     requires most_side { side ≤ℤ pos 65536 }
     requires least { 1 ≤ order }
     requires most { order ≤ 32 }
-    requires room { ledger.old.radius ≤ 2 ^ 92 }
-    ensures added { ledger.new.radius ≡ ledger.old.radius + sum_by (single_loss weights.now order (unsigned_abs side)) list.now }
-    ensures size { ledger.new.radius ≤ ledger.old.radius + 2 ^ 91 }
+    requires room { ledger.old ≤ 2 ^ 92 }
+    ensures added { ledger.new ≡ ledger.old + sum_by (single_radius_at weights.now order (unsigned_abs side)) list.now }
+    ensures size { ledger.new ≤ ledger.old + 2 ^ 91 }
 {
     for c in list {
         ledger.add_single(weights[*c as usize], side, order);

@@ -3,7 +3,7 @@ ghost use Rattle.std.specs.Prelude.{◌≡◌, ◌≢◌, ℕ, ◌+◌, ◌*◌,
 ghost use Rattle.exact_math.specs.Ends.{zero_box};
 ghost use Rattle.exact_math.specs.Orders.{IsOrder};
 ghost use Rattle.quadtree.specs.TreeModel.{size, square_of, node_of};
-ghost use Rattle.cell_lists.specs.Row.{row};
+ghost use Rattle.cell_lists.specs.ListAt.{list_at};
 ghost use Rattle.row_recursions.specs.Rows.{row_of};
 ghost use Rattle.row_recursions.specs.Sizes.{RowWithin};
 ghost use Rattle.tree_field.specs.Lists.{TreeLists};
@@ -40,14 +40,14 @@ fn fill_below<const P: usize>(
     requires below { 1 ≤ (square_of tree.now n).level }
     requires entries { HasFarEntries tree.now lists.now points.now n }
     requires rows { length up.now ≡ size tree.now * P }
-    requires multipoles { All (λ c. RowWithin P (2 ^ 80) (row_at P up.now c)) (row lists.now.v n) }
+    requires multipoles { All (λ c. RowWithin P (2 ^ 80) (row_at P up.now c)) (list_at lists.now.v n) }
     requires parent { RowWithin P (2 ^ 90) (row_of parent.cells.now) }
     requires len { length into.old ≡ P }
     requires count { work.old.translations + 28 < 2 ^ 63 }
     ensures len { length into.new ≡ P }
     ensures row { AreSameRows P (row_of into.new) (row_from P tree.now lists.now points.now up.now n (row_of parent.entry.cells.now)) }
-    ensures size { (p q : ℕ) → RowWithin P p (row_of parent.entry.cells.now) → All (λ c. RowWithin P (2 * q) (row_at P up.now c)) (row lists.now.v n) → RowWithin P (p + 81 * q + 2 ^ 40 * sum_by (far_weight tree.now points.now) (row lists.now.x n)) (row_of into.new) }
-    ensures translations { work.new.translations ≡ work.old.translations + (1 + length (row lists.now.v n)) }
+    ensures size { (p q : ℕ) → RowWithin P p (row_of parent.entry.cells.now) → All (λ c. RowWithin P (2 * q) (row_at P up.now c)) (list_at lists.now.v n) → RowWithin P (p + 81 * q + 2 ^ 40 * sum_by (far_weight tree.now points.now) (list_at lists.now.x n)) (row_of into.new) }
+    ensures translations { work.new.translations ≡ work.old.translations + (1 + length (list_at lists.now.v n)) }
     ensures pairs { work.new.pairs ≡ work.old.pairs }
 {
     let cells = tree.cells();
@@ -81,7 +81,7 @@ pub fn local_row<const P: usize>(
     requires number { n < size tree.now }
     requires tree { IsTreeWithLists points.now tree.now lists.now }
     requires multipole_rows { length up.now ≡ size tree.now * P }
-    requires multipoles { All (λ c. RowWithin P (2 ^ 80) (row_at P up.now c)) (row lists.now.v n) }
+    requires multipoles { All (λ c. RowWithin P (2 ^ 80) (row_at P up.now c)) (list_at lists.now.v n) }
     requires above { 0 < n → (node_of tree.now n).parent * P + P ≤ length above.now }
     requires parent { 0 < n → RowWithin P (2 ^ 90) (row_at P above.now (node_of tree.now n).parent) }
     requires len { length into.old ≡ P }
@@ -90,8 +90,8 @@ pub fn local_row<const P: usize>(
     ensures row { 0 < n → IsTrue (node_of tree.now n).has_target → AreSameRows P (row_of into.new) (row_from P tree.now lists.now points.now up.now n (row_at P above.now (node_of tree.now n).parent)) }
     ensures root { n ≡ 0 → AreSameRows P (row_of into.new) (λ k. zero_box) }
     ensures empty { (IsTrue (node_of tree.now n).has_target → ⊥) → AreSameRows P (row_of into.new) (λ k. zero_box) }
-    ensures local { (cap : ℕ) (field : TreeLists) → IsFieldOf points.now cap tree.now field → AreMultipoleRowsOf points.now cap P tree.now up.now (row lists.now.v n) → (0 < n → IsLocalRow points.now cap P tree.now field above.now (node_of tree.now n).parent) → IsLocalRowOf points.now cap P tree.now field n (row_of into.new) }
-    ensures size { (p q : ℕ) → (0 < n → RowWithin P p (row_at P above.now (node_of tree.now n).parent)) → All (λ c. RowWithin P (2 * q) (row_at P up.now c)) (row lists.now.v n) → RowWithin P (p + 81 * q + 2 ^ 40 * sum_by (far_weight tree.now points.now) (row lists.now.x n)) (row_of into.new) }
+    ensures local { (cap : ℕ) (field : TreeLists) → IsFieldOf points.now cap tree.now field → AreMultipoleRowsOf points.now cap P tree.now up.now (list_at lists.now.v n) → (0 < n → IsLocalRow points.now cap P tree.now field above.now (node_of tree.now n).parent) → IsLocalRowOf points.now cap P tree.now field n (row_of into.new) }
+    ensures size { (p q : ℕ) → (0 < n → RowWithin P p (row_at P above.now (node_of tree.now n).parent)) → All (λ c. RowWithin P (2 * q) (row_at P up.now c)) (list_at lists.now.v n) → RowWithin P (p + 81 * q + 2 ^ 40 * sum_by (far_weight tree.now points.now) (list_at lists.now.x n)) (row_of into.new) }
     ensures translations { work.new.translations ≡ work.old.translations + translations_at tree.now lists.now n }
     ensures few { work.new.translations ≤ work.old.translations + 28 }
     ensures pairs { work.new.pairs ≡ work.old.pairs }
@@ -127,10 +127,10 @@ pub fn fill_row<const P: usize>(
     requires rows { length rows.old ≡ size tree.now * P }
     requires parent { 0 < n → RowWithin P (2 ^ 90) (row_at P rows.old (node_of tree.now n).parent) }
     requires count { work.old.translations + 28 < 2 ^ 63 }
-    ensures local { (cap : ℕ) (field : TreeLists) → IsFieldOf points.now cap tree.now field → AreMultipoleRowsOf points.now cap P tree.now up.now (row lists.now.v n) → (0 < n → IsLocalRow points.now cap P tree.now field rows.old (node_of tree.now n).parent) → IsLocalRow points.now cap P tree.now field rows.new n }
+    ensures local { (cap : ℕ) (field : TreeLists) → IsFieldOf points.now cap tree.now field → AreMultipoleRowsOf points.now cap P tree.now up.now (list_at lists.now.v n) → (0 < n → IsLocalRow points.now cap P tree.now field rows.old (node_of tree.now n).parent) → IsLocalRow points.now cap P tree.now field rows.new n }
     ensures others { (m : ℕ) → m ≢ n → AreSameRows P (row_at P rows.new m) (row_at P rows.old m) }
     ensures len { length rows.new ≡ length rows.old }
-    ensures size { (p q : ℕ) → (0 < n → RowWithin P p (row_at P rows.old (node_of tree.now n).parent)) → ((c : ℕ) → c < size tree.now → RowWithin P (2 * q) (row_at P up.now c)) → RowWithin P (p + 81 * q + 2 ^ 40 * sum_by (far_weight tree.now points.now) (row lists.now.x n)) (row_at P rows.new n) }
+    ensures size { (p q : ℕ) → (0 < n → RowWithin P p (row_at P rows.old (node_of tree.now n).parent)) → ((c : ℕ) → c < size tree.now → RowWithin P (2 * q) (row_at P up.now c)) → RowWithin P (p + 81 * q + 2 ^ 40 * sum_by (far_weight tree.now points.now) (list_at lists.now.x n)) (row_at P rows.new n) }
     ensures translations { work.new.translations ≡ work.old.translations + translations_at tree.now lists.now n }
     ensures few { work.new.translations ≤ work.old.translations + 28 }
     ensures pairs { work.new.pairs ≡ work.old.pairs }

@@ -1,3 +1,1 @@
--- What contracts cite: points as sources of an entry, and what a radius makes up for.
-pub mod Radii
-pub mod Weights
+-- The words of the contracts stand in `exact_math` and `truncation`.

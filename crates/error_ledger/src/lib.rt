@@ -3,17 +3,14 @@
 #![tactic(auto)]
 
 ghost use Rattle.std.specs.Prelude.{◌≡◌, ◌≤◌, pos};
-ghost use Rattle.truncation.specs.Entries.{weight as source_weight};
+ghost use Rattle.exact_math.specs.Sizes.{weight_at};
 ghost use Rattle.points.specs.Limits.{InRange};
-ghost use Rattle.row_recursions.specs.Sources.{source_of};
-ghost use Rattle.error_ledger.specs.Weights.{weight_of};
+ghost use Rattle.points.specs.Points.{pole, dipole};
 
 mod ledger;
-#[cfg(test)]
-mod tests;
 
 pub use ledger::Ledger;
-use points::{Kind, Point};
+use points::{Point, Strength};
 
 /// The weight `abs(a) + 2 order abs(b)` of a point at an order, where `abs` of a complex number is `abs(re) + abs(im)`.
 /// Conditions: the point is in range, and `order` is 1 to 32.
@@ -21,14 +18,12 @@ pub fn weight(p: &Point, order: u32) -> i128
     requires range { InRange p.now }
     requires least { 1 ≤ order }
     requires most { order ≤ 32 }
-    ensures value { result ≡ pos (weight_of order p.now) }
-    ensures source { result ≡ pos (source_weight order (source_of p.now)) }
+    ensures { result ≡ pos (weight_at order (pole p.now.kind) (dipole p.now.kind)) }
 {
-    let size = match p.kind {
-        Kind::Charge(q) => q.unsigned_abs(),
-        Kind::Dipole(re, im) => { 2 * u64::from(order) * (re.unsigned_abs() + im.unsigned_abs()) }
-        Kind::Vortex(g) => g.unsigned_abs(),
-        Kind::Target => 0,
+    let size = match p.kind.strength() {
+        Strength::Pole(re, im) => re.unsigned_abs() + im.unsigned_abs(),
+        Strength::Dipole(re, im) => 2 * u64::from(order) * (re.unsigned_abs() + im.unsigned_abs()),
+        Strength::Nothing => 0,
     };
     i128::from(size)
 }

@@ -2,13 +2,13 @@
 use mathlib.Core.Path.{◌≡◌, sym, ap, subst, ◌∙◌}
 use lib.IntN.{ℤ, pos}
 use lib.Signed.{◌≤ℤ◌}
-use Rattle.exact_math.specs.Ends.{Ends, BoxEnds, add_box, neg_box, sub_box, times_box, gscale_box, quot_box, gquot_box, zero_box, BoxEndsContain, BoxEndsInside}
+use Rattle.exact_math.specs.Ends.{Ends, BoxEnds, add_box, neg_box, times_box, gscale_box, quot_box, gquot_box, zero_box, BoxEndsContain, BoxEndsInside}
 use Rattle.exact_math.specs.Gaussian.{Gaussian}
 use Rattle.exact_math.specs.Ratio.{ComplexRatio}
 use Rattle.exact_math.proofs.RingTactic.{quotes, ring3, ring4}
 use Rattle.exact_math.proofs.QuadraticExtension.{same_pair}
 use Rattle.exact_math.proofs.Rationals.{ℚ, rational_ring, of_int, ◌+ℚ◌, ◌*ℚ◌}
-use Rattle.exact_math.proofs.ComplexRationals.{ℂ, complex, of_int_ℂ, ◌+ℂ◌, ◌*ℂ◌, ◌-ℂ◌, neg_ℂ, parts-add, parts-neg, parts-mul, parts-int}
+use Rattle.exact_math.proofs.ComplexRationals.{ℂ, complex, of_int_ℂ, ◌+ℂ◌, ◌*ℂ◌, neg_ℂ, parts-add, parts-neg, parts-mul, parts-int}
 use Rattle.exact_math.proofs.Enclosures.{Encloses, Encloses-wider, Encloses-whole, Encloses-add, Encloses-neg, Encloses-scale, Encloses-mul, Encloses-quot}
 use Rattle.exact_math.proofs.Gaussians.{value}
 use Rattle.exact_math.proofs.Fractions.{Stands, Stands-re, Stands-im}
@@ -38,10 +38,6 @@ EnclosesBox-add {z = z} {w = w} h k = rw (parts-add z w) (record { re = Encloses
 -- -z
 pub EnclosesBox-neg : {b : BoxEnds} {z : ℂ} → EnclosesBox b z → EnclosesBox (neg_box b) (neg_ℂ z)
 EnclosesBox-neg {z = z} h = rw (parts-neg z) (record { re = Encloses-neg h.re; im = Encloses-neg h.im })
-
--- z - w
-pub EnclosesBox-sub : {b c : BoxEnds} {z w : ℂ} → EnclosesBox b z → EnclosesBox c w → EnclosesBox (sub_box b c) (z -ℂ w)
-EnclosesBox-sub h k = EnclosesBox-add h (EnclosesBox-neg k)
 
 -- the exact product of two boxes
 pub EnclosesBox-times : {b c : BoxEnds} {z w : ℂ} → EnclosesBox b z → EnclosesBox c w → EnclosesBox (times_box b c) (z *ℂ w)

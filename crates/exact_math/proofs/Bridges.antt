@@ -1,6 +1,5 @@
 -- Containment by cross multiplication is containment of the rational number, and the rules of interval arithmetic on fractions that follow.
 use mathlib.Core.Path.{◌≡◌, sym, ap, subst, subst₂, ◌∙◌}
-use mathlib.Core.Logic.{◌↔◌}
 use Prim.Native.Nat.{zero, suc}
 use native.Mathlib.Omega.{arith}
 use lib.IntN.{ℤ, pos, negsuc, neg_ℤ, ◌+ℤ◌, ◌-ℤ◌, ◌*ℤ◌}
@@ -15,7 +14,7 @@ use Rattle.exact_math.proofs.RingTactic.{quotes, combine, ring2, ring3, ring4, r
 use Rattle.exact_math.proofs.Integers.{*-positive, *-comm}
 use Rattle.exact_math.proofs.Rationals.{ℚ, rational_ring, of_int, of_int-mul, of_int-≤, ◌+ℚ◌, ◌*ℚ◌, ◌-ℚ◌, neg_ℚ, inverse, ◌≤ℚ◌, ◌<ℚ◌}
 use Rattle.exact_math.proofs.RationalOrder.{int-<, inverse_right, mul_mono, cancel_mul, ≤-from_<}
-use Rattle.exact_math.proofs.Enclosures.{Encloses, Encloses-whole, Encloses-wider, Encloses-add, Encloses-neg, Encloses-scale, Encloses-scale_up, Encloses-scale_down, Encloses-quot, Encloses-mul, floor_div_le, ceil_div_ge}
+use Rattle.exact_math.proofs.Enclosures.{Encloses, Encloses-wider, Encloses-add, Encloses-neg, Encloses-scale, Encloses-quot, Encloses-mul, floor_div_le, ceil_div_ge}
 use Rattle.exact_math.proofs.Fractions.{ratio, ratio_value, RatioStands, RatioStands-itself, RatioStands-whole, RatioStands-add, RatioStands-neg, RatioStands-sub, RatioStands-mul, RatioStands-over, ratio-same, times_denominator}
 
 -- ---- x stands for q, and its ends count units of 1/u
@@ -46,10 +45,6 @@ module _ (u lo hi : ℤ) {x : Ratio} {q : ℚ} (s : RatioStands x q) where
     above = (of_int-≤ _ _).0 (subst₂ (λ a b. a ≤ℚ b) (scaled lo) times (mul_mono (of_int x.denominator) (≤-from_< D>0) h.above));
     below = (of_int-≤ _ _).0 (subst₂ (λ a b. a ≤ℚ b) times (scaled hi) (mul_mono (of_int x.denominator) (≤-from_< D>0) h.below));
   }
-
-  -- both at once
-  pub contains_is_enclosing : Contains u lo hi x ↔ Encloses lo hi (of_int u *ℚ q)
-  contains_is_enclosing = (encloses_from_contains, contains_from_encloses)
 
 module _ {u lo hi : ℤ} {x : Ratio} (h : Contains u lo hi x) where
   abbrev stands : RatioStands x (ratio_value x)
@@ -83,14 +78,6 @@ module _ {u lo hi : ℤ} {x : Ratio} (h : Contains u lo hi x) where
   pub contains-scale : (k : ℤ) → Contains u (int_min (lo *ℤ k) (hi *ℤ k)) (int_max (lo *ℤ k) (hi *ℤ k)) (mul_ratio (whole_ratio k) x)
   contains-scale k = contains_from_encloses u _ _ (scaled_stands k) (subst (Encloses _ _) (scale_value k) (Encloses-scale k encloses))
 
-  -- k x, where k is at least 0, and where it is at most 0
-  pub contains-scale_up : (k : ℤ) → pos 0 ≤ℤ k → Contains u (k *ℤ lo) (k *ℤ hi) (mul_ratio (whole_ratio k) x)
-  contains-scale_up k p = contains_from_encloses u _ _ (scaled_stands k) (subst (Encloses _ _) (scale_value k) (Encloses-scale_up k p encloses))
-
-  -- k x, where k is at most 0
-  pub contains-scale_down : (k : ℤ) → k ≤ℤ pos 0 → Contains u (k *ℤ hi) (k *ℤ lo) (mul_ratio (whole_ratio k) x)
-  contains-scale_down k p = contains_from_encloses u _ _ (scaled_stands k) (subst (Encloses _ _) (scale_value k) (Encloses-scale_down k p encloses))
-
   -- x/n, rounded outward
   pub contains-quot : (n : ℤ) → pos 1 ≤ℤ n → Contains u (floor_div lo n) (ceil_div hi n) (over_ratio x n)
   contains-quot n p = contains_from_encloses u _ _ (RatioStands-over n p stands)
@@ -98,14 +85,6 @@ module _ {u lo hi : ℤ} {x : Ratio} (h : Contains u lo hi x) where
     where
       value_is : (n u q i : ℚ) → n *ℚ i ≡ of_int (pos 1) → u *ℚ q ≡ n *ℚ (u *ℚ (q *ℚ i))
       value_is n u q i e = combine rational_ring (neg_ℚ (u *ℚ q)) e (ring4 rational_ring n u q i (λ n u q i. search quotes depth 12) tt)
-
-  -- the same ends in a finer or coarser unit: u x = (u n) (x/n)
-  pub contains-over : (n : ℤ) → pos 1 ≤ℤ n → Contains (u *ℤ n) lo hi (over_ratio x n)
-  contains-over n p = contains_from_encloses (u *ℤ n) _ _ (RatioStands-over n p stands)
-      (subst (Encloses lo hi) (value_is (of_int n) (of_int u) (ratio_value x) (inverse (of_int n)) (inverse_right _ (int-< _ _ (omega (arith, ints)))) (of_int-mul u n)) encloses)
-    where
-      value_is : (n u q i : ℚ) {c : ℚ} → n *ℚ i ≡ of_int (pos 1) → c ≡ u *ℚ n → u *ℚ q ≡ c *ℚ (q *ℚ i)
-      value_is n u q i {c} e f = combine rational_ring (neg_ℚ (u *ℚ q)) e (combine rational_ring (neg_ℚ (q *ℚ i)) f (ring5 rational_ring n u q i c (λ n u q i c. search quotes depth 12) tt))
 
 -- from units of 1/(u n) to units of 1/u, rounded outward
 pub contains-units : (u n : ℤ) {lo hi : ℤ} {x : Ratio} → pos 1 ≤ℤ n → Contains (u *ℤ n) lo hi x → Contains u (floor_div lo n) (ceil_div hi n) x
@@ -125,10 +104,6 @@ contains-rounded u x h =
       above = subst (λ z. z ≤ℤ (u *ℤ x.numerator)) (*-comm x.denominator _) f;
       below = subst (λ z. (u *ℤ x.numerator) ≤ℤ z) (*-comm x.denominator _) c;
     }
-
--- a whole number of units
-pub contains-whole : (u k : ℤ) → Contains u (u *ℤ k) (u *ℤ k) (whole_ratio k)
-contains-whole u k = contains_from_encloses u _ _ (RatioStands-whole k) (subst (Encloses _ _) (of_int-mul u k) (Encloses-whole (u *ℤ k)))
 
 -- x + y
 pub contains-add : {u lo hi lo' hi' : ℤ} {x y : Ratio} → Contains u lo hi x → Contains u lo' hi' y → Contains u (lo +ℤ lo') (hi +ℤ hi') (add_ratio x y)

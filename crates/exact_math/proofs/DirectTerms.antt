@@ -1,4 +1,4 @@
--- What the terms of the direct sum stand for: a/delta for a pole and b/delta^2 for a dipole.
+-- What reciprocals and the terms of the direct sum stand for: 1/g, a/delta for a pole and b/delta^2 for a dipole.
 use mathlib.Core.Path.{◌≡◌, sym, ap, ap₂, subst, ◌∙◌}
 use Prim.Native.Nat.{zero, suc}
 use native.Mathlib.Omega.{arith}
@@ -6,12 +6,15 @@ use lib.IntN.{ℤ, pos, negsuc}
 use lib.Signed.{◌<ℤ◌}
 use borrow.Author.Differences.{ints}
 use Rattle.exact_math.specs.Gaussian.{Gaussian, conj, norm_gaussian}
+use Rattle.exact_math.specs.Ratio.{reciprocal}
 use Rattle.exact_math.specs.Terms.{pole_term, dipole_term}
 use Rattle.exact_math.proofs.RingTactic.{quotes, ring3}
 use Rattle.exact_math.proofs.Integers.{*-positive}
-use Rattle.exact_math.proofs.Rationals.{of_int, of_int-mul, of_int-≤, ◌*ℚ◌, inverse, ◌<ℚ◌, not_≤ℚ, ≤ℚ-refl}
+use Rattle.exact_math.proofs.Rationals.{rational_ring, of_int, of_int-mul, of_int-≤, ◌*ℚ◌, inverse, ◌<ℚ◌, not_≤ℚ, ≤ℚ-refl}
 use Rattle.exact_math.proofs.RationalOrder.{inverse-mul, int-<}
-use Rattle.exact_math.proofs.ComplexRationals.{complex_rationals, ◌*ℂ◌, conjugate, norm, real, real-mul, inverse_ℂ, inverse_ℂ-is, *ℂ_assoc}
+use Rattle.exact_math.proofs.ComplexRationals.{complex_rationals, ◌*ℂ◌, conjugate, norm, real, real-mul, inverse_ℂ, inverse_ℂ-is, *ℂ_assoc, parts-inverse}
+use Rattle.exact_math.proofs.QuadraticExtension.{same_pair}
+use Rattle.exact_math.proofs.Enclosures.{of_int-neg}
 use Rattle.exact_math.proofs.Gaussians.{value, value-mul, value-conj, value-norm}
 use Rattle.exact_math.proofs.Fractions.{complex_value, complex_value-split, Stands}
 
@@ -43,6 +46,16 @@ positive_int (negsuc n) h = absurd (not_≤ℚ _ _ h ((of_int-≤ _ _).1 (omega 
 -- the norm of g is above 0 where that of its value is
 pub norm_positive : (g : Gaussian) → of_int (pos 0) <ℚ norm (value g) → pos 0 <ℤ norm_gaussian g
 norm_positive g h = positive_int _ (subst (λ n. of_int (pos 0) <ℚ n) (sym (value-norm g)) h)
+
+-- 1/g, as a fraction
+pub Stands-reciprocal : (g : Gaussian) → pos 0 <ℤ norm_gaussian g → Stands (reciprocal g) (inverse_ℂ (value g))
+Stands-reciprocal g h = record {
+  positive = h;
+  is = same_pair rational_ring _ _
+      (ap (λ n. of_int g.re *ℚ inverse n) (value-norm g))
+      (ap₂ (λ a n. a *ℚ inverse n) (of_int-neg g.im) (value-norm g))
+      ∙ sym (parts-inverse (value g));
+}
 
 -- the term of a pole is a/delta
 pub Stands-pole : (a delta : Gaussian) → pos 0 <ℤ norm_gaussian delta → Stands (pole_term a delta) (value a *ℂ inverse_ℂ (value delta))

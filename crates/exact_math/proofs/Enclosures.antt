@@ -1,7 +1,6 @@
 -- Whole ends round a rational number, in whatever unit, under sums, multiples, products and division.
 use mathlib.Core.Path.{◌≡◌, ap, subst, subst₂, ◌∙◌}
 use mathlib.Core.Logic.{⊎_elim}
-use mathlib.Core.List.{List, [], ◌∷◌}
 use Prim.Native.Nat.{◌<◌, ◌%◌}
 use native.Mathlib.Nat.{div-add-mod, mod-lt}
 use native.Mathlib.Omega.{arith}
@@ -14,7 +13,6 @@ use Rattle.exact_math.specs.Ends.{least, greatest}
 use Rattle.exact_math.specs.Rounding.{floor_div, ceil_div}
 use Rattle.exact_math.proofs.Ring.{int_ring}
 use Rattle.exact_math.proofs.RingTactic.{quotes, int_quotes, ring1, ring2, ring3}
-use Rattle.exact_math.proofs.Sums.{sum_list}
 use Rattle.exact_math.proofs.Rationals.{ℚ, rational_ring, of_int, of_int-add, of_int-mul, of_int-≤, ◌+ℚ◌, ◌*ℚ◌, neg_ℚ, ◌≤ℚ◌, ◌<ℚ◌, ≤ℚ-refl, ≤ℚ-trans, compare_ℚ}
 use Rattle.exact_math.proofs.RationalOrder.{nonneg_int, add_mono, mul_mono, cancel_mul, from_difference, difference_nonneg, negative, ≤-from_<, int-<}
 
@@ -54,12 +52,6 @@ neg_mono {p} {q} h = from_difference (subst (λ z. of_int (pos 0) ≤ℚ z) (rin
 -- -p
 pub Encloses-neg : {lo hi : ℤ} {p : ℚ} → Encloses lo hi p → Encloses (neg_ℤ hi) (neg_ℤ lo) (neg_ℚ p)
 Encloses-neg h = record { above = rw of_int-neg (neg_mono h.below); below = rw of_int-neg (neg_mono h.above) }
-
--- the ends of a sum over a list
-pub Encloses-sum : {A : Type 0} (f g : A → ℤ) (q : A → ℚ) (xs : List A) → ((x : A) → Encloses (f x) (g x) (q x))
-    → Encloses (sum_list int_ring f xs) (sum_list int_ring g xs) (sum_list rational_ring q xs)
-Encloses-sum f g q [] h = Encloses-whole (pos 0)
-Encloses-sum f g q (x ∷ xs) h = Encloses-add (h x) (Encloses-sum f g q xs h)
 
 -- ---- a whole multiple, by a number that is at least 0 and by one that is at most 0
 pub Encloses-scale_up : (k : ℤ) {lo hi : ℤ} {p : ℚ} → pos 0 ≤ℤ k → Encloses lo hi p → Encloses (k *ℤ lo) (k *ℤ hi) (of_int k *ℚ p)

@@ -8,8 +8,8 @@ use lib.Signed.{◌<ℤ◌, ◌≤ℤ◌}
 use borrow.Author.Differences.{ints}
 use Rattle.std.specs.List.{fold, All}
 use Rattle.exact_math.specs.Gaussian.{Gaussian, gaussian, mul_gaussian}
-use Rattle.exact_math.specs.Ratio.{Ratio, whole_ratio, add_ratio, neg_ratio, sub_ratio, mul_ratio, over_ratio, ComplexRatio, SameComplex, zero_complex, whole_complex, add_complex, neg_complex, sub_complex, mul_complex, over_complex, re_part, im_part}
-use Rattle.exact_math.specs.Sums.{count, pow_complex, slope_complex, sum_complex, sum_terms}
+use Rattle.exact_math.specs.Ratio.{Ratio, whole_ratio, add_ratio, neg_ratio, sub_ratio, mul_ratio, over_ratio, ComplexRatio, SameComplex, zero_complex, whole_complex, neg_complex, over_complex, re_part, im_part, ◌+ᶜ◌, ◌-ᶜ◌, ◌*ᶜ◌}
+use Rattle.exact_math.specs.Sums.{pow_complex, slope_complex, sum_complex, sum_terms, natural_complex}
 use Rattle.exact_math.proofs.Ring.{pow}
 use Rattle.exact_math.proofs.RingTactic.{quotes, combine, ring1, ring2, ring3, ring4, ring5, ring6}
 use Rattle.exact_math.proofs.Integers.{*-positive}
@@ -135,7 +135,7 @@ pub Stands-whole : (g : Gaussian) → Stands (whole_complex g) (value g)
 Stands-whole g = record { positive = omega (arith, ints); is = same_pair rational_ring _ _ (ratio-whole g.re) (ratio-whole g.im) }
 
 -- n
-pub Stands-count : (n : ℕ) → Stands (count n) (of_int_ℂ (pos n))
+pub Stands-count : (n : ℕ) → Stands (natural_complex n) (of_int_ℂ (pos n))
 Stands-count n = record { positive = omega (arith, ints); is = (Stands-whole (gaussian (pos n) (pos 0))).is ∙ sym (parts-int (pos n)) }
 
 -- 0
@@ -143,7 +143,7 @@ pub Stands-zero : Stands zero_complex (of_int_ℂ (pos 0))
 Stands-zero = Stands-count 0
 
 -- z + w
-pub Stands-add : {x y : ComplexRatio} {z w : ℂ} → Stands x z → Stands y w → Stands (add_complex x y) (z +ℂ w)
+pub Stands-add : {x y : ComplexRatio} {z w : ℂ} → Stands x z → Stands y w → Stands (x +ᶜ y) (z +ℂ w)
 Stands-add {x} {y} h k = record {
   positive = *-positive _ _ h.positive k.positive;
   is =
@@ -159,11 +159,11 @@ Stands-neg {x} h = record {
 }
 
 -- z - w
-pub Stands-sub : {x y : ComplexRatio} {z w : ℂ} → Stands x z → Stands y w → Stands (sub_complex x y) (z -ℂ w)
+pub Stands-sub : {x y : ComplexRatio} {z w : ℂ} → Stands x z → Stands y w → Stands (x -ᶜ y) (z -ℂ w)
 Stands-sub h k = Stands-add h (Stands-neg k)
 
 -- z w
-pub Stands-mul : {x y : ComplexRatio} {z w : ℂ} → Stands x z → Stands y w → Stands (mul_complex x y) (z *ℂ w)
+pub Stands-mul : {x y : ComplexRatio} {z w : ℂ} → Stands x z → Stands y w → Stands (x *ᶜ y) (z *ℂ w)
 Stands-mul {x} {y} h k = record {
   positive = *-positive _ _ h.positive k.positive;
   is =
@@ -215,17 +215,13 @@ Stands-re h = record { positive = h.positive; is = ap (λ w. w.re) h.is }
 pub Stands-im : {x : ComplexRatio} {z : ℂ} → Stands x z → RatioStands (im_part x) z.im
 Stands-im h = record { positive = h.positive; is = ap (λ w. w.im) h.is }
 
--- p + i q, part by part
-pub Stands-parts : {x : ComplexRatio} {p q : ℚ} → RatioStands (re_part x) p → RatioStands (im_part x) q → Stands x (complex p q)
-Stands-parts h k = record { positive = h.positive; is = same_pair rational_ring _ _ h.is k.is }
-
 -- ---- the fold of triples over a list is the sum
 module _ {A : Type 0} (term : A → ComplexRatio) (exact : A → ℂ) where
   fold_stands : (xs : List A) {x : ComplexRatio} {z : ℂ} → Stands x z → All (λ a. Stands (term a) (exact a)) xs
-      → Stands (fold (λ s a. add_complex s (term a)) x xs) (z +ℂ sum_list complex_rationals exact xs)
+      → Stands (fold (λ s a. s +ᶜ term a) x xs) (z +ℂ sum_list complex_rationals exact xs)
   fold_stands [] {x} h each = subst (Stands x) (sym (complex_rationals.add_zero _)) h
   fold_stands (a ∷ xs) {x} {z} h each =
-      subst (Stands (fold (λ s a. add_complex s (term a)) (add_complex x (term a)) xs)) (complex_rationals.add_assoc _ _ _)
+      subst (Stands (fold (λ s a. s +ᶜ term a) (x +ᶜ term a) xs)) (complex_rationals.add_assoc _ _ _)
       (fold_stands xs (Stands-add h (each 0 a (omega arith))) (λ k d l. each (suc k) d (omega arith)))
 
   -- so the sum of the fractions stands for the sum of the terms
@@ -267,6 +263,8 @@ cross_from_ratio a d b e p q h = of_int-injective _ _
 -- two fractions that stand for one number
 pub same_from_stands : {x y : ComplexRatio} {z : ℂ} → Stands x z → Stands y z → SameComplex x y
 same_from_stands {x} {y} h k = record {
+  left_fraction = h.positive;
+  right_fraction = k.positive;
   re = cross_from_ratio x.re x.denominator y.re y.denominator h.positive k.positive (ap (λ w. w.re) (h.is ∙ sym k.is));
   im = cross_from_ratio x.im x.denominator y.im y.denominator h.positive k.positive (ap (λ w. w.im) (h.is ∙ sym k.is));
 }

@@ -51,6 +51,11 @@ pub *-positive : (a b : ℤ) → pos 0 <ℤ a → pos 0 <ℤ b → pos 0 <ℤ (a
 *-positive (pos (suc a)) (negsuc b) h k = absurd (omega (arith, ints))
 *-positive (negsuc a) b h k = absurd (omega (arith, ints))
 
+-- 0 <= a a
+pub square_nonneg : (a : ℤ) → pos 0 ≤ℤ (a *ℤ a)
+square_nonneg (pos n) = omega (arith, ints)
+square_nonneg (negsuc n) = omega (arith, ints)
+
 -- c a <= c b from a <= b, where c is at least 0
 pub *-mono_left : (c a b : ℤ) → pos 0 ≤ℤ c → a ≤ℤ b → (c *ℤ a) ≤ℤ (c *ℤ b)
 *-mono_left c a b h k =

@@ -5,12 +5,12 @@ use native.Mathlib.Omega.{arith}
 use lib.IntN.{pos}
 use Rattle.exact_math.specs.Binomials.{choose}
 use Rattle.exact_math.specs.Ratio.{ComplexRatio}
-use Rattle.exact_math.specs.Sums.{count}
 use Rattle.exact_math.specs.TruncatedKernel.{truncated_kernel, truncated_slope, kernel_remainder, remainder_slope, one_less, KernelIdentity, KernelSlopeIdentity}
 use Rattle.exact_math.proofs.ComplexRationals.{ℂ, complex_rationals, of_int_ℂ, ◌-ℂ◌}
 use Rattle.exact_math.proofs.Fractions.{complex_value, Stands, Stands-itself, Stands-count, Stands-add, Stands-sub, Stands-mul, Stands-pow, Stands-slope, Stands-sum, same_from_stands}
 use Rattle.exact_math.proofs.TruncatedKernel as Kernel
 use Rattle.exact_math.proofs.KernelSlope as Slope
+use Rattle.exact_math.specs.Sums.{natural_complex}
 
 module _ {x y : ComplexRatio} {z w : ℂ} (h : Stands x z) (k : Stands y w) where
   -- the truncated kernel
@@ -21,8 +21,8 @@ module _ {x y : ComplexRatio} {z w : ℂ} (h : Stands x z) (k : Stands y w) wher
   pub Stands-kernel_slope : (P : ℕ) → Stands (truncated_slope P x y) (Slope.slope_sum complex_rationals z w P P)
   Stands-kernel_slope P = Stands-sum P (λ l. Stands-sum P (λ m. Stands-mul (Stands-count (choose (m + l) m)) (Stands-mul (Stands-slope h m) (Stands-pow k l))))
 
-  count_is : (p l : ℕ) → Stands (count (choose (suc p + l - 1) l)) (of_int_ℂ (pos (choose (p + l) l)))
-  count_is p l = subst (λ n. Stands (count (choose (suc p + l - 1) l)) (of_int_ℂ (pos (choose n l)))) (less p l) (Stands-count (choose (suc p + l - 1) l))
+  count_is : (p l : ℕ) → Stands (natural_complex (choose (suc p + l - 1) l)) (of_int_ℂ (pos (choose (p + l) l)))
+  count_is p l = subst (λ n. Stands (natural_complex (choose (suc p + l - 1) l)) (of_int_ℂ (pos (choose n l)))) (less p l) (Stands-count (choose (suc p + l - 1) l))
     where
       less : (p l : ℕ) → suc p + l - 1 ≡ p + l
       less p l = omega arith

@@ -6,8 +6,7 @@ use native.Mathlib.Omega.{arith}
 use lib.IntN.{ℤ, pos, negsuc, ◌+ℤ◌, ◌*ℤ◌}
 use Rattle.exact_math.proofs.Ring.{CommutativeRing, pow}
 use Rattle.exact_math.proofs.RingTactic.{quotes, ring1, ring2, ring3, ring5, ring7}
-use Rattle.exact_math.proofs.Sums.{sum_below, sum_list}
-use mathlib.Core.List.{List, [], ◌∷◌}
+use Rattle.exact_math.proofs.Sums.{sum_below}
 
 -- re + im t
 pub record Pair (R : CommutativeRing) : Type 0 where
@@ -100,11 +99,6 @@ module _ (R : CommutativeRing) where
     pub sum_below-pair : (n : ℕ) (f : ℕ → Pair R) → sum_below quadratic_ring n f ≡ record { re = sum_below R n (λ k. (f k).re); im = sum_below R n (λ k. (f k).im) }
     sum_below-pair zero f = refl
     sum_below-pair (suc n) f = ap (λ s. add_pair s (f n)) (sum_below-pair n f)
-
-    -- the same over a list
-    pub sum_list-pair : {A : Type 0} (f : A → Pair R) (xs : List A) → sum_list quadratic_ring f xs ≡ record { re = sum_list R (λ x. (f x).re) xs; im = sum_list R (λ x. (f x).im) xs }
-    sum_list-pair f [] = refl
-    sum_list-pair f (x ∷ xs) = ap (add_pair (f x)) (sum_list-pair f xs)
 
   -- t^2 = -1
   abbrev pub complex_ring : CommutativeRing

@@ -4,7 +4,6 @@
 --     le_equal (ring ..)       p ≤ q from p ≡ q
 use mathlib.Core.Path.{◌≡◌, sym, ap, subst, subst₂, ◌∙◌}
 use mathlib.Core.Logic.{◌⊎◌, inl, inr, ⊎_elim}
-use mathlib.Core.List.{List, [], ◌∷◌}
 use Prim.Native.Nat.{ℕ, zero, suc, ◌<◌}
 use native.Mathlib.Omega.{arith}
 use lib.IntN.{ℤ, pos, negsuc}
@@ -12,12 +11,8 @@ use lib.Signed.{◌<ℤ◌, ◌≤ℤ◌}
 use borrow.Author.Differences.{ints}
 use Rattle.exact_math.proofs.Ring.{pow}
 use Rattle.exact_math.proofs.RingTactic.{quotes, combine, ring1, ring2, ring3, ring4}
-use Rattle.exact_math.proofs.Sums.{sum_below, sum_list}
-use Rattle.exact_math.proofs.Rationals.{ℚ, ℚ-set, rational_ring, of_int, ◌+ℚ◌, ◌*ℚ◌, ◌-ℚ◌, neg_ℚ, inverse, *ℚ-inverse, ◌≤ℚ◌, ◌<ℚ◌, ≤ℚ-prop, ≤ℚ-refl, ≤ℚ-trans, ≤ℚ-antisym, ≤ℚ-total, +ℚ-mono_right, *ℚ-nonneg, of_int-≤, not_≤ℚ, <ℚ-from_not, compare_ℚ, +ℚ_comm, +ℚ-zero, +ℚ-neg, of_int-add, of_int-mul}
-
--- a whole number as a rational one
-abbrev pub int : ℤ → ℚ
-int k = of_int k
+use Rattle.exact_math.proofs.Sums.{sum_below}
+use Rattle.exact_math.proofs.Rationals.{ℚ, rational_ring, of_int, ◌+ℚ◌, ◌*ℚ◌, ◌-ℚ◌, neg_ℚ, inverse, *ℚ-inverse, ◌≤ℚ◌, ◌<ℚ◌, ≤ℚ-refl, ≤ℚ-trans, ≤ℚ-antisym, ≤ℚ-total, +ℚ-mono_right, *ℚ-nonneg, of_int-≤, not_≤ℚ, <ℚ-from_not, compare_ℚ, +ℚ_comm, +ℚ-zero, +ℚ-neg}
 
 -- p <= q from p = q
 pub le_equal : {p q : ℚ} → p ≡ q → p ≤ℚ q
@@ -76,11 +71,6 @@ nonneg_sum_below (suc n) f h = nonneg_add _ _ (nonneg_sum_below n f h) (h n)
 pub sum_below_mono : (n : ℕ) (f g : ℕ → ℚ) → ((k : ℕ) → k < n → f k ≤ℚ g k) → sum_below rational_ring n f ≤ℚ sum_below rational_ring n g
 sum_below_mono zero f g h = ≤ℚ-refl _
 sum_below_mono (suc n) f g h = add_mono (sum_below_mono n f g (λ k l. h k (omega arith))) (h n (omega arith))
-
--- the same over a list
-pub sum_list_mono : {A : Type 0} (f g : A → ℚ) (xs : List A) → ((x : A) → f x ≤ℚ g x) → sum_list rational_ring f xs ≤ℚ sum_list rational_ring g xs
-sum_list_mono f g [] h = ≤ℚ-refl _
-sum_list_mono f g (x ∷ xs) h = add_mono (h x) (sum_list_mono f g xs h)
 
 pub ruleset nonneg = (nonneg_add, *ℚ-nonneg, nonneg_int, nonneg_pow, nonneg_sum_below)
 
@@ -217,11 +207,6 @@ absolute_mul p q = by_absolute (λ z. absolute (p *ℚ q) ≡ z *ℚ absolute q)
 pub absolute_sum_below : (n : ℕ) (f : ℕ → ℚ) → absolute (sum_below rational_ring n f) ≤ℚ sum_below rational_ring n (λ k. absolute (f k))
 absolute_sum_below zero f = le_equal (absolute_is _ (≤ℚ-refl _))
 absolute_sum_below (suc n) f = ≤ℚ-trans _ _ _ (absolute_add _ _) (add_mono (absolute_sum_below n f) (≤ℚ-refl _))
-
--- the same over a list
-pub absolute_sum_list : {A : Type 0} (f : A → ℚ) (xs : List A) → absolute (sum_list rational_ring f xs) ≤ℚ sum_list rational_ring (λ x. absolute (f x)) xs
-absolute_sum_list f [] = le_equal (absolute_is _ (≤ℚ-refl _))
-absolute_sum_list f (x ∷ xs) = ≤ℚ-trans _ _ _ (absolute_add _ _) (add_mono (≤ℚ-refl _) (absolute_sum_list f xs))
 
 -- a c <= b d from a <= b and c <= d, all at least 0
 pub mul_mono_both : {a b c d : ℚ} → of_int (pos 0) ≤ℚ a → a ≤ℚ b → of_int (pos 0) ≤ℚ c → c ≤ℚ d → a *ℚ c ≤ℚ b *ℚ d

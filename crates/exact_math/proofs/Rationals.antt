@@ -268,9 +268,6 @@ pub record ◌<ℚ◌ (p q : ℚ) : Type 0 where
 pub ≤ℚ-prop : (p q : ℚ) → IsProp (p ≤ℚ q)
 ≤ℚ-prop p q = hlevel T_prop
 
-pub <ℚ-prop : (p q : ℚ) → IsProp (p <ℚ q)
-<ℚ-prop p q = hlevel T_prop
-
 -- the order, by cross multiplication
 pub ≤ℚ-fraction : (x y : Fraction) → (fraction x ≤ℚ fraction y) ↔ ((x.numerator *ℤ y.denominator) ≤ℤ (y.numerator *ℤ x.denominator))
 unfolding ℚ fraction le_from le_test

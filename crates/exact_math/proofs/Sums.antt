@@ -1,7 +1,7 @@
 -- Finite sums in a commutative ring: over the numbers below n, and over a list.
 use mathlib.Core.Path.{◌≡◌, refl, sym, ap, ap₂, ◌∙◌}
 use mathlib.Core.List.{List, [], ◌∷◌, ◌++◌}
-use Prim.Native.Nat.{ℕ, zero, suc, ◌+◌, ◌<◌}
+use Prim.Native.Nat.{ℕ, zero, suc, ◌<◌}
 use native.Mathlib.Omega.{arith}
 use lib.IntN.{pos}
 use Rattle.exact_math.proofs.Ring.{CommutativeRing}
@@ -44,13 +44,6 @@ module _ (R : CommutativeRing) where
   pub sum_below-first : (n : ℕ) (f : ℕ → R.carrier) → sum_below (suc n) f ≡ R.add (f 0) (sum_below n (λ k. f (suc k)))
   sum_below-first zero f = R.add_comm _ _
   sum_below-first (suc n) f = ap (λ s. R.add s (f (suc n))) (sum_below-first n f) ∙ R.add_assoc _ _ _
-
-  -- the first m terms and the next n
-  pub sum_below-split : (m n : ℕ) (f : ℕ → R.carrier) → sum_below (n + m) f ≡ R.add (sum_below m f) (sum_below n (λ k. f (k + m)))
-  sum_below-split m zero f = ap (λ k. sum_below k f) {x = 0 + m} {y = m} (omega arith) ∙ sym (R.add_zero _)
-  sum_below-split m (suc n) f =
-      ap (λ k. sum_below k f) {x = suc n + m} {y = suc (n + m)} (omega arith)
-      ∙ ap (λ s. R.add s (f (n + m))) (sum_below-split m n f) ∙ R.add_assoc _ _ _
 
   -- a double sum, either index first
   pub sum_below-exchange : (m n : ℕ) (f : ℕ → ℕ → R.carrier) → sum_below m (λ k. sum_below n (f k)) ≡ sum_below n (λ l. sum_below m (λ k. f k l))

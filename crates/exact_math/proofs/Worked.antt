@@ -32,7 +32,7 @@ remainders : (kernel_remainder 2 (whole (pos 3)) (whole (pos 5)) ≡ whole (pos 
     × (kernel_remainder 2 (whole (pos 2)) (whole (negsuc 0)) ≡ whole (pos 1))
     × (kernel_remainder 2 (fraction (pos 1) (pos 2) (pos 1)) (fraction (pos 3) (negsuc 0) (pos 1)) ≡ fraction (pos 35) (pos 48) (pos 1))
     × SameComplex (kernel_remainder 2 (fraction (pos 1) (pos 0) (pos 2)) (fraction (pos 1) (pos 0) (pos 3))) (fraction (pos 23) (pos 0) (pos 36))
-remainders = (refl, refl, refl, record { re = refl; im = refl })
+remainders = (refl, refl, refl, record { left_fraction = omega (arith, ints); right_fraction = omega (arith, ints); re = refl; im = refl })
 
 -- order 1 is 1, order 2 is 1 + x + y + 2 x y, and at 2 and 3 order 3 is 337 and leaves 1349 = 1 - (1 - 2 - 3) 337
 kernels : (truncated_kernel 1 (whole (pos 3)) (whole (pos 5)) ≡ whole (pos 1))
@@ -40,7 +40,7 @@ kernels : (truncated_kernel 1 (whole (pos 3)) (whole (pos 5)) ≡ whole (pos 1))
     × (truncated_kernel 3 (whole (pos 2)) (whole (pos 3)) ≡ whole (pos 337))
     × (kernel_remainder 3 (whole (pos 2)) (whole (pos 3)) ≡ whole (pos 1349))
     × SameComplex (truncated_kernel 2 (fraction (pos 1) (pos 0) (pos 2)) (fraction (pos 1) (pos 0) (pos 3))) (fraction (pos 13) (pos 0) (pos 6))
-kernels = (refl, refl, refl, refl, record { re = refl; im = refl })
+kernels = (refl, refl, refl, refl, record { left_fraction = omega (arith, ints); right_fraction = omega (arith, ints); re = refl; im = refl })
 
 -- by x, order 2 gives 1 + 2 y and leaves 2 x + 4 x y + 2 y^2
 slopes : (truncated_slope 2 (whole (pos 3)) (whole (pos 5)) ≡ whole (pos 11)) × (remainder_slope 2 (whole (pos 3)) (whole (pos 5)) ≡ whole (pos 116))

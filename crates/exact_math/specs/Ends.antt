@@ -3,7 +3,7 @@ use Rattle.std.specs.Prelude.{ℕ, ℤ, pos, neg_ℤ, ◌+ℤ◌, ◌-ℤ◌, �
 use Rattle.std.specs.Int.{int_min, int_max}
 use Rattle.exact_math.specs.Contains.{Contains}
 use Rattle.exact_math.specs.Gaussian.{Gaussian}
-use Rattle.exact_math.specs.Ratio.{Ratio, ComplexRatio, re_part, im_part}
+use Rattle.exact_math.specs.Ratio.{ComplexRatio, re_part, im_part}
 use Rattle.exact_math.specs.Rounding.{floor_div, ceil_div}
 use Rattle.exact_math.specs.Within.{Within}
 
@@ -30,6 +30,10 @@ neg_ends i = record { lo = neg_ℤ i.hi; hi = neg_ℤ i.lo }
 abbrev pub sub_ends : Ends → Ends → Ends
 sub_ends i j = record { lo = i.lo -ℤ j.hi; hi = i.hi -ℤ j.lo }
 
+-- what a sum leaves without a part: lower end from lower end, upper end from upper end
+abbrev pub take_ends : Ends → Ends → Ends
+take_ends i j = record { lo = i.lo -ℤ j.lo; hi = i.hi -ℤ j.hi }
+
 -- the least and the greatest of four numbers
 abbrev pub least : ℤ → ℤ → ℤ → ℤ → ℤ
 least a b c d = int_min (int_min a b) (int_min c d)
@@ -38,8 +42,8 @@ abbrev pub greatest : ℤ → ℤ → ℤ → ℤ → ℤ
 greatest a b c d = int_max (int_max a b) (int_max c d)
 
 -- the products of both ends with k, in order
-abbrev pub scale_ends : ℤ → Ends → Ends
-scale_ends k i = record { lo = int_min (i.lo *ℤ k) (i.hi *ℤ k); hi = int_max (i.lo *ℤ k) (i.hi *ℤ k) }
+abbrev pub scale_ends : Ends → ℤ → Ends
+scale_ends i k = record { lo = int_min (i.lo *ℤ k) (i.hi *ℤ k); hi = int_max (i.lo *ℤ k) (i.hi *ℤ k) }
 
 -- the least and the greatest of the four products of ends
 abbrev pub times_ends : Ends → Ends → Ends
@@ -73,8 +77,11 @@ neg_box b = record { re = neg_ends b.re; im = neg_ends b.im }
 abbrev pub sub_box : BoxEnds → BoxEnds → BoxEnds
 sub_box b c = record { re = sub_ends b.re c.re; im = sub_ends b.im c.im }
 
-abbrev pub scale_box : ℤ → BoxEnds → BoxEnds
-scale_box k b = record { re = scale_ends k b.re; im = scale_ends k b.im }
+abbrev pub take_box : BoxEnds → BoxEnds → BoxEnds
+take_box b c = record { re = take_ends b.re c.re; im = take_ends b.im c.im }
+
+abbrev pub scale_box : BoxEnds → ℤ → BoxEnds
+scale_box b k = record { re = scale_ends b.re k; im = scale_ends b.im k }
 
 -- re re - im im, and re im + im re
 abbrev pub times_box : BoxEnds → BoxEnds → BoxEnds
@@ -86,8 +93,8 @@ times_box b c = record {
 -- the product with a Gaussian integer
 abbrev pub gscale_box : BoxEnds → Gaussian → BoxEnds
 gscale_box b g = record {
-  re = sub_ends (scale_ends g.re b.re) (scale_ends g.im b.im);
-  im = add_ends (scale_ends g.im b.re) (scale_ends g.re b.im);
+  re = sub_ends (scale_ends b.re g.re) (scale_ends b.im g.im);
+  im = add_ends (scale_ends b.re g.im) (scale_ends b.im g.re);
 }
 
 abbrev pub quot_box : BoxEnds → ℤ → BoxEnds
@@ -111,14 +118,10 @@ pub record BoxEndsWithin (n : ℕ) (b : BoxEnds) : Type 0 where
   pub re : EndsWithin n b.re
   pub im : EndsWithin n b.im
 
--- the ends count units of 1/unit, and contain the fraction
-abbrev pub EndsContain : ℤ → Ends → Ratio → Type 0
-EndsContain unit i x = Contains unit i.lo i.hi x
-
--- each part contains the part of the fraction
+-- the ends count units of 1/unit, and those of each part contain the part of the fraction
 pub record BoxEndsContain (unit : ℤ) (b : BoxEnds) (z : ComplexRatio) : Type 0 where
-  pub re : EndsContain unit b.re (re_part z)
-  pub im : EndsContain unit b.im (im_part z)
+  pub re : Contains unit b.re.lo b.re.hi (re_part z)
+  pub im : Contains unit b.im.lo b.im.hi (im_part z)
 
 -- the first lies in the second
 pub record EndsInside (inner outer : Ends) : Type 0 where

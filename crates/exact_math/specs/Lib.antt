@@ -10,4 +10,5 @@ pub mod Sizes
 pub mod Sums
 pub mod Terms
 pub mod TruncatedKernel
+pub mod Units
 pub mod Within

@@ -1,6 +1,6 @@
 -- Fractions of whole numbers, as a reader compares them: by cross multiplication.
-use Rattle.std.specs.Prelude.{◌≡◌, ℤ, pos, neg_ℤ, ◌+ℤ◌, ◌-ℤ◌, ◌*ℤ◌}
-use Rattle.exact_math.specs.Gaussian.{Gaussian}
+use Rattle.std.specs.Prelude.{◌≡◌, ℤ, pos, neg_ℤ, ◌+ℤ◌, ◌-ℤ◌, ◌*ℤ◌, ◌<ℤ◌}
+use Rattle.exact_math.specs.Gaussian.{Gaussian, gaussian, norm_gaussian}
 
 -- numerator/denominator; the denominator is meant to be above 0
 pub record Ratio : Type 0 where
@@ -48,9 +48,10 @@ zero_complex = record { re = pos 0; im = pos 0; denominator = pos 1 }
 abbrev pub whole_complex : Gaussian → ComplexRatio
 whole_complex g = record { re = g.re; im = g.im; denominator = pos 1 }
 
--- (R, I, D) + (r, i, d) = (R d + r D, I d + i D, D d)
-abbrev pub add_complex : ComplexRatio → ComplexRatio → ComplexRatio
-add_complex x y = record {
+-- x + y, as (R, I, D) + (r, i, d) = (R d + r D, I d + i D, D d)
+infixl 6 ◌+ᶜ◌ ◌-ᶜ◌
+abbrev pub ◌+ᶜ◌ : ComplexRatio → ComplexRatio → ComplexRatio
+x +ᶜ y = record {
   re = x.re *ℤ y.denominator +ℤ y.re *ℤ x.denominator;
   im = x.im *ℤ y.denominator +ℤ y.im *ℤ x.denominator;
   denominator = x.denominator *ℤ y.denominator;
@@ -61,12 +62,13 @@ abbrev pub neg_complex : ComplexRatio → ComplexRatio
 neg_complex x = record { re = neg_ℤ x.re; im = neg_ℤ x.im; denominator = x.denominator }
 
 -- x - y
-abbrev pub sub_complex : ComplexRatio → ComplexRatio → ComplexRatio
-sub_complex x y = add_complex x (neg_complex y)
+abbrev pub ◌-ᶜ◌ : ComplexRatio → ComplexRatio → ComplexRatio
+x -ᶜ y = x +ᶜ neg_complex y
 
 -- x y
-abbrev pub mul_complex : ComplexRatio → ComplexRatio → ComplexRatio
-mul_complex x y = record {
+infixl 7 ◌*ᶜ◌
+abbrev pub ◌*ᶜ◌ : ComplexRatio → ComplexRatio → ComplexRatio
+x *ᶜ y = record {
   re = x.re *ℤ y.re -ℤ x.im *ℤ y.im;
   im = x.re *ℤ y.im +ℤ x.im *ℤ y.re;
   denominator = x.denominator *ℤ y.denominator;
@@ -76,8 +78,18 @@ mul_complex x y = record {
 abbrev pub over_complex : ComplexRatio → ℤ → ComplexRatio
 over_complex x n = record { re = x.re; im = x.im; denominator = x.denominator *ℤ n }
 
--- x and y are one number, by cross multiplication
+-- 1/g, as the conjugate over the norm, for g other than 0
+abbrev pub reciprocal : Gaussian → ComplexRatio
+reciprocal g = record { re = g.re; im = neg_ℤ g.im; denominator = norm_gaussian g }
+
+-- 1/x for x = (R + i I)/D, as D times 1/(R + i I)
+abbrev pub invert : ComplexRatio → ComplexRatio
+invert x = whole_complex (gaussian x.denominator (pos 0)) *ᶜ reciprocal (gaussian x.re x.im)
+
+-- x and y are fractions of one number, by cross multiplication
 pub record SameComplex (x y : ComplexRatio) : Type 0 where
+  pub left_fraction : pos 0 <ℤ x.denominator
+  pub right_fraction : pos 0 <ℤ y.denominator
   pub re : x.re *ℤ y.denominator ≡ y.re *ℤ x.denominator
   pub im : x.im *ℤ y.denominator ≡ y.im *ℤ x.denominator
 

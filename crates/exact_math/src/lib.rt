@@ -5,6 +5,8 @@
 //! complex numbers with rational parts, sums, binomials and the bridges from the definitions to them.
 #![tactic(auto)]
 
+ghost use Rattle.exact_math.specs.Orders.{OrderBounds};
+ghost use Rattle.exact_math.specs.Rounding.{FloorIsGreatest, CeilIsLeast};
 ghost use Rattle.exact_math.specs.TruncatedKernel.{KernelIdentity, KernelSlopeIdentity};
 
 /// The finite identity of the truncated kernel and its derivative by `x`, for all complex fractions `x` and `y` and every order `P` from
@@ -15,4 +17,17 @@ ghost use Rattle.exact_math.specs.TruncatedKernel.{KernelIdentity, KernelSlopeId
 pub fn kernel_identity()
     ensures identity { KernelIdentity }
     ensures slope { KernelSlopeIdentity }
+{}
+
+/// Rounding by a whole number `n` from 1 on: `m n <= z` exactly where `m <= floor_div z n`, and `z <= m n` exactly where
+/// `ceil_div z n <= m`. So the first is the greatest whole number that is at most `z/n`, and the second the least that is at least
+/// `z/n`, whatever the signs.
+pub fn rounding()
+    ensures floor { FloorIsGreatest }
+    ensures ceil { CeilIsLeast }
+{}
+
+/// Each order of expansion that the program offers is from 2 to 32: a dipole needs 2, and rows, powers and tails serve up to 32.
+pub fn order_bounds()
+    ensures { OrderBounds }
 {}

@@ -4,21 +4,22 @@ use Rattle.exact_math.specs.Contains.{Contains}
 use Rattle.exact_math.specs.Ends.{Ends, BoxEnds, neg_ends}
 use Rattle.exact_math.specs.Ratio.{Ratio, ComplexRatio, re_part, im_part, neg_ratio}
 use Rattle.exact_math.specs.Rounding.{floor_div, ceil_div}
+use Rattle.exact_math.specs.Units.{unit}
 use Rattle.points.specs.declared.Mode.{Mode}
 use Rattle.points.specs.declared.Mode.TheVariants.{Field, Velocity}
 
 -- an end in units of 2^-40 as a count of 10^-12, rounded down, and rounded up
 abbrev pub count_below : ℤ → ℤ
-count_below n = floor_div (pos (10 ^ 12) *ℤ n) (pos (2 ^ 40))
+count_below n = floor_div (pos (10 ^ 12) *ℤ n) unit
 
 abbrev pub count_above : ℤ → ℤ
-count_above n = ceil_div (pos (10 ^ 12) *ℤ n) (pos (2 ^ 40))
+count_above n = ceil_div (pos (10 ^ 12) *ℤ n) unit
 
 -- a count that was rounded down is at most 10^12 x, and one that was rounded up at least, for each fraction x on that side of the end
 abbrev pub KeepsBound : Bool → ℤ → ℤ → Type 0
-KeepsBound false n count = (x : Ratio) → pos 0 <ℤ x.denominator → (n *ℤ x.denominator) ≤ℤ (pos (2 ^ 40) *ℤ x.numerator)
+KeepsBound false n count = (x : Ratio) → pos 0 <ℤ x.denominator → (n *ℤ x.denominator) ≤ℤ (unit *ℤ x.numerator)
     → (count *ℤ x.denominator) ≤ℤ (pos (10 ^ 12) *ℤ x.numerator)
-KeepsBound true n count = (x : Ratio) → pos 0 <ℤ x.denominator → (pos (2 ^ 40) *ℤ x.numerator) ≤ℤ (n *ℤ x.denominator)
+KeepsBound true n count = (x : Ratio) → pos 0 <ℤ x.denominator → (unit *ℤ x.numerator) ≤ℤ (n *ℤ x.denominator)
     → (pos (10 ^ 12) *ℤ x.numerator) ≤ℤ (count *ℤ x.denominator)
 
 -- the counts of both ends of an interval

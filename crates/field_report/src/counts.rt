@@ -4,15 +4,14 @@ ghost use Rattle.exact_math.specs.Contains.{Contains};
 ghost use Rattle.exact_math.specs.Ratio.{Ratio, neg_ratio};
 ghost use Rattle.exact_math.specs.Rounding.{floor_div};
 ghost use Rattle.exact_math.specs.Within.{Within};
+ghost use Rattle.exact_math.specs.Units.{unit};
 ghost use Rattle.fixed_interval.specs.Interval.{IntervalWithin, ends_of};
 ghost use Rattle.field_report.specs.Counts.{second_ends, count_below, count_above, KeepsBound};
 
+use complex_box::UNIT_BITS;
 use fixed_interval::Interval;
 use line_text::ONE;
 use points::Mode;
-
-/// The bits of the unit of boxes.
-const UNIT_BITS: u32 = 40;
 
 /// `10^12 n / 2^40` rounded down, or rounded up where `up` is set: the count of an end `n` of a box.
 ///
@@ -48,7 +47,7 @@ fn count_up(n: i128) -> i128
 // `z / 2^40` rounded down.
 fn in_units(z: i128) -> i128
     requires { Within (10 ^ 12 * 2 ^ 84) z }
-    ensures value { result ≡ floor_div z (pos (2 ^ 40)) }
+    ensures value { result ≡ floor_div z unit }
     ensures size { Within (2 ^ 84) result }
 {
     z >> UNIT_BITS
@@ -69,7 +68,7 @@ impl CountEnds {
         requires { IntervalWithin (2 ^ 84) i }
         ensures lo { result.lo ≡ count_below i.lo }
         ensures hi { result.hi ≡ count_above i.hi }
-        ensures contains { (x : Ratio) → Contains (pos (2 ^ 40)) i.lo i.hi x → Contains (pos (10 ^ 12)) result.lo result.hi x }
+        ensures contains { (x : Ratio) → Contains unit i.lo i.hi x → Contains (pos (10 ^ 12)) result.lo result.hi x }
     {
         CountEnds {
             lo: count_down(i.lo),

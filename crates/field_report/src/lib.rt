@@ -13,6 +13,3 @@ pub use ends::{write_end, write_head};
 pub use line::write_target;
 pub use line_text::FrontText;
 pub use report::write_report;
-
-#[cfg(test)]
-mod tests;

@@ -1,8 +1,8 @@
 //! The lines of targets.
-ghost use Rattle.std.specs.Prelude.{◌≡◌, ◌+◌, ◌^◌, ◌≤◌, ◌++◌, codes, length, pos};
-ghost use Rattle.complex_box.specs.Box.{BoxWithin, box_ends};
-ghost use Rattle.exact_math.specs.Ends.{BoxEndsContain};
+ghost use Rattle.std.specs.Prelude.{◌≡◌, ◌+◌, ◌^◌, ◌≤◌, ◌++◌, codes, length};
+ghost use Rattle.complex_box.specs.Box.{BoxWithin, box_ends, BoxContains};
 ghost use Rattle.exact_math.specs.Ratio.{ComplexRatio};
+ghost use Rattle.exact_math.specs.Units.{unit};
 ghost use Rattle.field_report.specs.Counts.{CountsContain, target_counts};
 ghost use Rattle.line_text.specs.Decimals.{decimal_text};
 ghost use Rattle.field_report.specs.Report.{first_word, second_word, line_of, target_line};
@@ -35,7 +35,7 @@ pub fn write_target<S: Sink>(
 ) -> Result<(), WriteFault>
     requires { BoxWithin (2 ^ 84) v }
     ensures bytes { Writes result (S.held sink.old) (S.held sink.new) (target_line mode (record { x = x; y = y; counts = target_counts mode (box_ends v) })) }
-    ensures contains { (z : ComplexRatio) → BoxEndsContain (pos (2 ^ 40)) (box_ends v) z → CountsContain mode (target_counts mode (box_ends v)) z }
+    ensures contains { (z : ComplexRatio) → BoxContains unit v z → CountsContain mode (target_counts mode (box_ends v)) z }
     ensures cause { HasCause (S.faults sink.old) (S.faults sink.new) result }
 {
     let first = CountEnds::of(v.re);

@@ -6,6 +6,7 @@ use Rattle.std.proofs.lemmas.Int.{ints}
 use Rattle.exact_math.specs.Ends.{BoxEndsWithin, add_box}
 use Rattle.exact_math.specs.Gaussian.{Gaussian}
 use Rattle.exact_math.specs.Within.{Within}
+use Rattle.exact_math.proofs.Orders.{order_bounds}
 use Rattle.complex_box.proofs.Sizes.{box_wider, add_box_within, widen_box_within}
 use Rattle.cell_name.specs.Square.{Square, side}
 use Rattle.cell_name.proofs.Cells.{Touches-sym}
@@ -20,13 +21,13 @@ use Rattle.quadtree.specs.Tree.{IsLeaf}
 use Rattle.quadtree.proofs.Distinct.{Contains-filter}
 use Rattle.row_recursions.specs.Rows.{multipole_value}
 use Rattle.row_recursions.proofs.Geometry.{held_places, far_places}
-use Rattle.row_recursions.proofs.RowSizes.{local_value_within, multipole_value_within, order_small, power_positive}
+use Rattle.row_recursions.proofs.RowSizes.{local_value_within, multipole_value_within, power_positive}
 use Rattle.soundness.specs.Computed.{total_box}
 use Rattle.soundness.specs.Squares.{offset}
-use Rattle.tree_field.specs.Field.{sources_in, targets, multipole_row, leaf_at, local_row, single_radius, local_value_at, multipole_values_at, pairs_at, radius_in, box_in, target_box}
+use Rattle.tree_field.specs.Field.{sources_in, targets, multipole_row, leaf_at, local_row, single_radius_in, local_value_at, multipole_values_at, pairs_at, radius_in, box_in, target_box}
 use Rattle.tree_field.specs.Lists.{TreeLists}
 use Rattle.tree_field.proofs.Leaves.{leaf_is, leaf_holds}
-use Rattle.tree_field.proofs.Members.{All-from_members}
+use Rattle.quadtree.proofs.Lists.{All-from_members}
 use Rattle.field_sizes.proofs.CellSources.{IsHeld}
 use Rattle.field_sizes.proofs.CellWeights.{weight64_in}
 use Rattle.field_sizes.proofs.EntrySums.{total_box-entries, sum_by-entries}
@@ -44,7 +45,7 @@ values_of : (P w : ℕ) → P * (2 ^ 40 * w) ≤ P * 2 ^ 40 * w
 values_of P w = omega arith
 
 -- all parts of a box together
-all_parts : (P w : ℕ) → P ≤ 24 → w ≤ 2 ^ 32 → P * 2 ^ 78 + (P * 2 ^ 40 * w + 2 ^ 40 * w) + (2 ^ 78 + 2 ^ 40 * w) ≤ 2 ^ 84
+all_parts : (P w : ℕ) → P ≤ 32 → w ≤ 2 ^ 32 → P * 2 ^ 78 + (P * 2 ^ 40 * w + 2 ^ 40 * w) + (2 ^ 78 + 2 ^ 40 * w) ≤ 2 ^ 84
 all_parts P w h light =
     let a = mul-le-mul_right (2 ^ 40 * w) h in
     omega (arith, a, h, light)
@@ -79,11 +80,11 @@ module _ (apart : EntriesShareNoSource) (points : List Point) (cap P : ℕ) (lis
     radius-within : radius_in points cap P lists b ≤ 2 ^ 78 + 2 ^ 40 * total_weight points
     radius-within =
         let a = local_radius-light apart points cap P lists few limited b leaf.in_tree in
-        let s = sum_by-entries apart points cap lists limited W b leaf.in_tree P (2 ^ 40) (λ c. single_radius points P (side c) c) few (λ c. single_radius-within points P c c) in
+        let s = sum_by-entries apart points cap lists limited W b leaf.in_tree P (2 ^ 40) (λ c. single_radius_in points P (side c) c) few (λ c. single_radius-within points P c c) in
         omega (arith, a, s)
 
-    pub box_in-light : P ≤ 24 → BoxEndsWithin (2 ^ 84) (box_in points cap P lists b z)
-    box_in-light order = box_wider (P * 2 ^ 78 + (P * 2 ^ 40 * total_weight points + 2 ^ 40 * total_weight points) + (2 ^ 78 + 2 ^ 40 * total_weight points)) (2 ^ 84) _ (all_parts P (total_weight points) order limited.light)
+    pub box_in-light : BoxEndsWithin (2 ^ 84) (box_in points cap P lists b z)
+    box_in-light = box_wider (P * 2 ^ 78 + (P * 2 ^ 40 * total_weight points + 2 ^ 40 * total_weight points) + (2 ^ 78 + 2 ^ 40 * total_weight points)) (2 ^ 84) _ (all_parts P (total_weight points) few limited.light)
         (widen_box_within (P * 2 ^ 78 + (P * 2 ^ 40 * total_weight points + 2 ^ 40 * total_weight points)) (2 ^ 78 + 2 ^ 40 * total_weight points)
         (add_box (local_value_at points cap P lists b z) (add_box (multipole_values_at points cap P lists b z) (pairs_at points cap P lists b z))) (pos (radius_in points cap P lists b))
         (add_box_within (P * 2 ^ 78) (P * 2 ^ 40 * total_weight points + 2 ^ 40 * total_weight points) (local_value_at points cap P lists b z) (add_box (multipole_values_at points cap P lists b z) (pairs_at points cap P lists b z)) local_value-light
@@ -92,9 +93,9 @@ module _ (apart : EntriesShareNoSource) (points : List Point) (cap P : ℕ) (lis
 
 pub box_sizes : EntriesShareNoSource → BoxSizes
 box_sizes apart points cap P lists order limited =
-    let few = order_small P order in
+    let few = order_bounds P order in
     All-from_members (λ t. BoxEndsWithin (2 ^ 84) (target_box points cap P lists 16 (place t))) (targets points) (λ t h.
     let listed = (Contains-filter _ points t h).0 in
     let are = limited.lists_are.cells_are in
     box_in-light apart points cap P lists (omega arith) limited (leaf_at points cap 16 (place t)) t
-    (leaf_is 16 points cap lists.cells (omega arith) limited.in_grid are t listed) (leaf_holds 16 points cap lists.cells (omega arith) limited.in_grid are t listed) few)
+    (leaf_is 16 points cap lists.cells (omega arith) limited.in_grid are t listed) (leaf_holds 16 points cap lists.cells (omega arith) limited.in_grid are t listed))

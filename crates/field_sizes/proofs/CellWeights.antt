@@ -7,18 +7,17 @@ use Rattle.std.proofs.lemmas.List.Sums.{sum_by-le-sum_by}
 use Rattle.cell_name.specs.Square.{Square, child, Holds, holds_test}
 use Rattle.cell_name.proofs.Cells.{Holds-parent}
 use Rattle.cell_name.proofs.HoldsTest.{Holds-from_test, test-from_Holds}
-use Rattle.cell_name.proofs.Quarters.{lies_in_one_child}
+use Rattle.cell_name.proofs.Quarters.{lies_in_one_child, IsQuarter, quarters_are, quarters_differ}
 use Rattle.points.specs.Points.{is_source}
 use Rattle.points.specs.Limits.{weight64, total_weight}
 use Rattle.points.specs.declared.Point.{Point}
-use Rattle.quadtree.specs.Splitting.{quarters}
+use Rattle.cell_name.specs.Quarters.{quarters}
 use Rattle.quadtree.proofs.Distinct.{Contains-filter}
-use Rattle.quadtree.proofs.TreeCells.{IsQuarter, quarters_are, quarters_differ}
 use Rattle.row_recursions.specs.Sources.{source_of}
-use Rattle.row_recursions.proofs.Points.{source_weight-light}
+use Rattle.row_recursions.proofs.Points.{weight-le-weight64}
 use Rattle.truncation.specs.Entries.{weight}
 use Rattle.tree_field.specs.Field.{is_source_in, sources_in}
-use Rattle.tree_field.proofs.Members.{All-from_members, AllPairs-both, filter-filter}
+use Rattle.quadtree.proofs.Lists.{All-from_members, AllPairs-both, filter-filter}
 use Rattle.tree_field.proofs.Sums.{sum_by-same}
 use Rattle.field_sizes.proofs.CellSources.{sum_by-filter}
 use Rattle.field_sizes.proofs.Disjoint.{sum_by-disjoint}
@@ -92,7 +91,7 @@ abbrev pub weight_at : ℕ → Point → ℕ
 weight_at P p = weight P (source_of p)
 
 pub weight_at-light : (P : ℕ) (points : List Point) → P ≤ 32 → sum_by (weight_at P) points ≤ total_weight points
-weight_at-light P points few = sum_by-le-sum_by (weight_at P) weight64 points (λ p. source_weight-light P p few)
+weight_at-light P points few = sum_by-le-sum_by (weight_at P) weight64 points (λ p. weight-le-weight64 P p few)
 
 pub weight_sizes : WeightSizes
 weight_sizes points P c few =

@@ -4,7 +4,7 @@ use Rattle.std.specs.Prelude.{All, sum_by}
 use Rattle.std.proofs.Math.Nat.{mul-le-mul_right}
 use Rattle.std.proofs.lemmas.List.Elements.{All-weaker}
 use Rattle.exact_math.specs.Ends.{BoxEndsWithin, add_box}
-use Rattle.complex_box.proofs.Sizes.{box_wider, add_box_within}
+use Rattle.complex_box.proofs.Sizes.{box_wider, add_box_within, zero_within}
 use Rattle.kernel_table.specs.Kernel.{IsKernelDistance, kernel_entry}
 use Rattle.cell_name.specs.Square.{Square, side, parent}
 use Rattle.cell_name.proofs.Cells.{Touches-sym}
@@ -13,6 +13,7 @@ use Rattle.letters.specs.declared.Letter.TheVariants.{V, X}
 use Rattle.points.specs.declared.Point.{Point}
 use Rattle.points.specs.Limits.{weight64, total_weight}
 use Rattle.exact_math.specs.Sizes.{abs_gaussian}
+use Rattle.exact_math.proofs.Orders.{order_bounds}
 use Rattle.points.specs.Points.{place, pole, dipole}
 use Rattle.quadtree.specs.Tree.{IsTreeCell}
 use Rattle.quadtree.proofs.Parents.{IsTreeCell-parent}
@@ -20,7 +21,7 @@ use Rattle.row_recursions.specs.Rows.{converted, shifted_down}
 use Rattle.row_recursions.specs.Sizes.{RowWithin}
 use Rattle.row_recursions.proofs.ConvertedSizes.{converted_within}
 use Rattle.row_recursions.proofs.Geometry.{pairs_of_cells, far_places}
-use Rattle.row_recursions.proofs.RowSizes.{zero_within, far_source_within, shifted_down_within, order_small, power_positive}
+use Rattle.row_recursions.proofs.RowSizes.{far_source_within, shifted_down_within, power_positive}
 use Rattle.soundness.specs.Computed.{total_row, far_coefficients_in}
 use Rattle.soundness.specs.Squares.{offset, quadrant, sides_between, IsFarFrom}
 use Rattle.tree_field.specs.Field.{sources_in, multipole_row, converted_rows, far_rows, local_row}
@@ -98,7 +99,7 @@ module _ (apart : EntriesShareNoSource) (points : List Point) (cap P : ℕ) (lis
 
 pub row_sizes : EntriesShareNoSource → RowSizes
 row_sizes apart points cap P lists order limited c in_tree =
-    let few = order_small P order in
+    let few = order_bounds P order in
     record {
       multipole = wider P (2 ^ 72) (2 ^ 74) (multipole_row points cap c) (omega arith) (multipole_row-light P points cap c (omega arith) (omega (arith, in_tree.level_in_grid, in_tree.of_grid)) limited.light);
       local = wider P (2 ^ 78) (2 ^ 82) (local_row points cap P lists c) (omega arith) (local_row-light apart points cap P lists (omega arith) limited c in_tree);

@@ -10,8 +10,8 @@ use Rattle.points.specs.declared.Point.{Point}
 use Rattle.points.specs.Limits.{weight64, total_weight}
 use Rattle.exact_math.specs.Sizes.{abs_gaussian}
 use Rattle.points.specs.Points.{place, pole, dipole}
-use Rattle.quadtree.specs.Splitting.{quarters}
-use Rattle.quadtree.proofs.TreeCells.{IsQuarter, quarters_are}
+use Rattle.cell_name.specs.Quarters.{quarters}
+use Rattle.cell_name.proofs.Quarters.{IsQuarter, quarters_are}
 use Rattle.row_recursions.specs.Rows.{shifted_up}
 use Rattle.row_recursions.specs.Sizes.{RowWithin}
 use Rattle.row_recursions.proofs.Geometry.{held_places}
@@ -19,8 +19,9 @@ use Rattle.row_recursions.proofs.RowSizes.{source_moment_within, shifted_up_with
 use Rattle.row_recursions.proofs.Turns.{unit_quadrant}
 use Rattle.soundness.specs.Computed.{total_row, moments_in}
 use Rattle.soundness.specs.Squares.{offset, quadrant}
-use Rattle.truncation.specs.Places.{GaussianWithin}
-use Rattle.tree_field.specs.Field.{sources_in, has_source, leaf_row, is_over, multipole_above, multipole_row}
+use Rattle.exact_math.specs.Within.{GaussianWithin}
+use Rattle.quadtree.specs.Tree.{is_over}
+use Rattle.tree_field.specs.Field.{sources_in, has_source, leaf_row, multipole_above, multipole_row}
 use Rattle.field_sizes.proofs.CellSources.{IsHeld, sources_held, sum_by-filter}
 use Rattle.field_sizes.proofs.CellWeights.{weight64_in, weight64_in-light, quarters_weight}
 use Rattle.field_sizes.proofs.RowTotals.{total_row-within, wider, sum_by-times}

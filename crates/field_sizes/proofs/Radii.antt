@@ -1,38 +1,34 @@
 -- How large the radii of the field are: a level adds at most a multiple of the weight of all points.
-use Rattle.std.proofs.Common.{ℕ, ◌≡◌, ◌+◌, ◌-◌, ◌*◌, ◌^◌, ◌<◌, ◌≤◌, zero, suc, List, refl, arith}
+use Rattle.std.specs.Int.{div_ceil}
+use Rattle.std.proofs.Common.{ℕ, ◌≡◌, ◌+◌, ◌-◌, ◌*◌, ◌^◌, ◌≤◌, zero, suc, List, refl, arith}
 use Rattle.std.specs.Prelude.{sum_by}
-use Rattle.std.proofs.Math.Nat.{mul-le-mul_left, mul-le-mul_right, div-lt_iff_lt-mul}
+use Rattle.std.proofs.Math.Nat.{mul-le-mul_left, mul-le-mul_right}
 use Rattle.cell_name.specs.Square.{Square, side, parent}
 use Rattle.letters.specs.declared.Letter.TheVariants.{V, X}
 use Rattle.points.specs.declared.Point.{Point}
 use Rattle.points.specs.Limits.{total_weight}
 use Rattle.quadtree.specs.Tree.{IsTreeCell}
 use Rattle.quadtree.proofs.Parents.{IsTreeCell-parent}
-use Rattle.row_recursions.proofs.RowSizes.{order_small, power_positive}
-use Rattle.truncation.specs.Tails.{ceiling, pair_tail, single_tail}
-use Rattle.truncation.proofs.Tails.{pair_tail_le, single_tail_le}
-use Rattle.tree_field.specs.Field.{weight_in, pair_radius, single_radius, local_radius}
+use Rattle.row_recursions.proofs.RowSizes.{power_positive}
+use Rattle.truncation.specs.Tails.{pair_tail, single_tail}
+use Rattle.truncation.proofs.Tails.{pair_tail_le, single_tail_le, div_ceil-le}
+use Rattle.tree_field.specs.Field.{weight_in, pair_radius_in, single_radius_in, local_radius}
 use Rattle.tree_field.specs.Lists.{TreeLists}
 use Rattle.tree_field.proofs.LocalRows.{local_radius-root, local_radius-below}
 use Rattle.field_sizes.proofs.EntrySums.{sum_by-entries}
 use Rattle.field_sizes.specs.Sizes.{EntriesShareNoSource, IsLimited, RadiusSizes}
+use Rattle.exact_math.proofs.Orders.{order_bounds}
 
-ceiling_le : (a s : ℕ) → 1 ≤ s → ceiling a s ≤ a
-ceiling_le a s h =
-    let m : a * 1 ≤ a * s = mul-le-mul_left a h in
-    let l : ceiling a s < a + 1 = (div-lt_iff_lt-mul {k = s} {x = a + (s - 1)} {y = a + 1} h).1 (omega (arith, m)) in
-    omega (arith, l)
-
-loses : (w t m s : ℕ) → 1 ≤ s → t ≤ m → ceiling (w * t) s ≤ m * w
+loses : (w t m s : ℕ) → 1 ≤ s → t ≤ m → div_ceil (w * t) s ≤ m * w
 loses w t m s h le =
-    let a = ceiling_le (w * t) s h in
+    let a = div_ceil-le (w * t) s h in
     let b = mul-le-mul_left w le in
     omega (arith, a, b)
 
-pub pair_radius-within : (points : List Point) (P : ℕ) (b c : Square) → pair_radius points P (side b) c ≤ 2 ^ 41 * weight_in points P c
+pub pair_radius-within : (points : List Point) (P : ℕ) (b c : Square) → pair_radius_in points P (side b) c ≤ 2 ^ 41 * weight_in points P c
 pair_radius-within points P b c = loses (weight_in points P c) (pair_tail P) (2 ^ 41) (side b) (power_positive (b.grid - b.level)) (pair_tail_le P)
 
-pub single_radius-within : (points : List Point) (P : ℕ) (b c : Square) → single_radius points P (side b) c ≤ 2 ^ 40 * weight_in points P c
+pub single_radius-within : (points : List Point) (P : ℕ) (b c : Square) → single_radius_in points P (side b) c ≤ 2 ^ 40 * weight_in points P c
 single_radius-within points P b c = loses (weight_in points P c) (single_tail P) (2 ^ 40) (side b) (power_positive (b.grid - b.level)) (single_tail_le P)
 
 -- ---- levels
@@ -49,11 +45,11 @@ module _ (apart : EntriesShareNoSource) (points : List Point) (cap P : ℕ) (lis
   abbrev from_far : ℕ
   from_far = 2 ^ 40 * total_weight points
 
-  pairs_lose : (b : Square) → IsTreeCell 16 points cap b → sum_by (pair_radius points P (side b)) (lists.entries V b) ≤ from_pairs
-  pairs_lose b in_tree = sum_by-entries apart points cap lists limited V b in_tree P (2 ^ 41) (pair_radius points P (side b)) few (pair_radius-within points P b)
+  pairs_lose : (b : Square) → IsTreeCell 16 points cap b → sum_by (pair_radius_in points P (side b)) (lists.entries V b) ≤ from_pairs
+  pairs_lose b in_tree = sum_by-entries apart points cap lists limited V b in_tree P (2 ^ 41) (pair_radius_in points P (side b)) few (pair_radius-within points P b)
 
-  far_lose : (b : Square) → IsTreeCell 16 points cap b → sum_by (single_radius points P (side b)) (lists.entries X b) ≤ from_far
-  far_lose b in_tree = sum_by-entries apart points cap lists limited X b in_tree P (2 ^ 40) (single_radius points P (side b)) few (single_radius-within points P b)
+  far_lose : (b : Square) → IsTreeCell 16 points cap b → sum_by (single_radius_in points P (side b)) (lists.entries X b) ≤ from_far
+  far_lose b in_tree = sum_by-entries apart points cap lists limited X b in_tree P (2 ^ 40) (single_radius_in points P (side b)) few (single_radius-within points P b)
 
   level_within : (n : ℕ) (b : Square) → b.level ≡ n → IsTreeCell 16 points cap b → local_radius points cap P lists b ≤ n * (from_pairs + from_far)
   level_within zero b e in_tree = let r = local_radius-root points cap P lists b e in omega (arith, r)
@@ -68,6 +64,6 @@ module _ (apart : EntriesShareNoSource) (points : List Point) (cap P : ℕ) (lis
 
 pub radius_sizes : EntriesShareNoSource → RadiusSizes
 radius_sizes apart points cap P lists order limited c in_tree =
-    let few = order_small P order in
+    let few = order_bounds P order in
     let h = local_radius-light apart points cap P lists (omega arith) limited c in_tree in
     omega (arith, h)

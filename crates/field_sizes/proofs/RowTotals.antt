@@ -4,9 +4,8 @@ use Rattle.std.specs.Prelude.{All, fold, sum_by}
 use Rattle.std.proofs.lemmas.List.Elements.{All-tail}
 use Rattle.std.proofs.lemmas.List.Sums.{sum_by-cons}
 use Rattle.exact_math.specs.Ends.{BoxEnds, BoxEndsWithin, zero_box, add_box}
-use Rattle.complex_box.proofs.Sizes.{box_wider, add_box_within}
+use Rattle.complex_box.proofs.Sizes.{box_wider, add_box_within, zero_within}
 use Rattle.row_recursions.specs.Sizes.{RowWithin}
-use Rattle.row_recursions.proofs.RowSizes.{zero_within}
 use Rattle.soundness.specs.Computed.{total_box, total_row}
 
 -- from a box on

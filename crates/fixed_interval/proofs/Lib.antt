@@ -1,3 +1,4 @@
 pub mod Division
+pub mod Ends
 pub mod Order
 pub mod Sizes

@@ -1,8 +1,8 @@
 //! Intervals of whole ends with directed rounding.
 //!
-//! An interval counts units of its caller's choice. One rule holds for every call: whatever fractions the
-//! arguments contain, the result contains the exact result. Sums and products are exact; a quotient rounds its
-//! lower end down and its upper end up.
+//! An interval counts units of its caller's choice. One rule holds for every call but `take`, which undoes `add`:
+//! whatever fractions the arguments contain, the result contains the exact result in the same unit, and a product in
+//! the product of the units. Sums and products are exact; a quotient rounds its lower end down and its upper end up.
 #![tactic(auto)]
 
 ghost use Rattle.std.specs.Prelude.{ℕ, ◌^◌, ℤ, ◌≤ℤ◌};
@@ -10,8 +10,6 @@ ghost use Rattle.exact_math.specs.Within.{Within};
 
 mod products;
 mod rounding;
-#[cfg(test)]
-mod tests;
 
 use products::{high_product, low_product};
 pub use rounding::{ceil_shift, floor_shift};
@@ -28,13 +26,11 @@ pub struct Interval {
 }
 
 impl Interval {
-    ghost use Rattle.std.specs.Prelude.{◌≡◌, ◌<◌, pos, neg_ℤ, ◌+ℤ◌, ◌-ℤ◌, ◌*ℤ◌, IsTrue, ◌↔◌};
-    ghost use Rattle.std.specs.Int.{int_min, int_max};
+    ghost use Rattle.std.specs.Prelude.{◌≡◌, ◌<◌, pos, neg_ℤ, ◌*ℤ◌, IsTrue, ◌↔◌};
     ghost use Rattle.exact_math.specs.Contains.{Contains};
-    ghost use Rattle.exact_math.specs.Ends.{EndsWithin, add_ends, sub_ends, scale_ends, times_ends, widen_ends, least, greatest};
+    ghost use Rattle.exact_math.specs.Ends.{EndsWithin, EndsInside, add_ends, take_ends, neg_ends, sub_ends, scale_ends, times_ends, quot_ends, widen_ends};
     ghost use Rattle.exact_math.specs.Ratio.{Ratio, whole_ratio, add_ratio, neg_ratio, sub_ratio, mul_ratio, over_ratio};
-    ghost use Rattle.exact_math.specs.Rounding.{floor_div, ceil_div};
-    ghost use Rattle.fixed_interval.specs.Interval.{ends_of, IntervalContains};
+    ghost use Rattle.fixed_interval.specs.Interval.{ends_of, IntervalContains, AreEnds};
     ghost use Rattle.fixed_interval.specs.declared.Interval.{Interval};
 
     /// `[n, n]`. Condition: `n` is at most 2^126 in size.
@@ -42,7 +38,7 @@ impl Interval {
         requires { Within (2 ^ 126) n }
         ensures lo { result.lo ≡ n }
         ensures hi { result.hi ≡ n }
-        ensures contains { IntervalContains result (whole_ratio n) }
+        ensures contains { IntervalContains (pos 1) result (whole_ratio n) }
     {
         Interval { lo: n, hi: n }
     }
@@ -54,7 +50,7 @@ impl Interval {
         requires high_end { Within (2 ^ 126) hi }
         ensures lo { result.lo ≡ lo }
         ensures hi { result.hi ≡ hi }
-        ensures contains { (x : Ratio) → Contains (pos 1) lo hi x → IntervalContains result x }
+        ensures contains { (u : ℤ) (x : Ratio) → Contains u lo hi x → IntervalContains u result x }
     {
         Interval { lo, hi }
     }
@@ -63,9 +59,8 @@ impl Interval {
     #[inline]
     pub fn add(self, o: Interval) -> Interval
         requires { EndsWithin (2 ^ 126) (add_ends (ends_of self) (ends_of o)) }
-        ensures lo { result.lo ≡ self.lo +ℤ o.lo }
-        ensures hi { result.hi ≡ self.hi +ℤ o.hi }
-        ensures contains { (x y : Ratio) → IntervalContains self x → IntervalContains o y → IntervalContains result (add_ratio x y) }
+        ensures ends { ends_of result ≡ add_ends (ends_of self) (ends_of o) }
+        ensures contains { (u : ℤ) (x y : Ratio) → IntervalContains u self x → IntervalContains u o y → IntervalContains u result (add_ratio x y) }
     {
         Interval {
             lo: self.lo + o.lo,
@@ -74,15 +69,12 @@ impl Interval {
     }
 
     /// Takes a part away from a sum: lower end minus lower end, upper end minus upper end. It undoes `add`.
-    /// Conditions: the result has `lo <= hi`, and both its ends are at most 2^126 in size.
+    /// Condition: this leaves the ends of an interval.
     #[inline]
     pub fn take(self, o: Interval) -> Interval
-        requires ordered { (self.lo -ℤ o.lo) ≤ℤ (self.hi -ℤ o.hi) }
-        requires low_end { Within (2 ^ 126) (self.lo -ℤ o.lo) }
-        requires high_end { Within (2 ^ 126) (self.hi -ℤ o.hi) }
-        ensures lo { result.lo ≡ self.lo -ℤ o.lo }
-        ensures hi { result.hi ≡ self.hi -ℤ o.hi }
-        ensures undoes { (part : Interval) → self.lo ≡ part.lo +ℤ o.lo → self.hi ≡ part.hi +ℤ o.hi → (result.lo ≡ part.lo) × (result.hi ≡ part.hi) }
+        requires { AreEnds (take_ends (ends_of self) (ends_of o)) }
+        ensures ends { ends_of result ≡ take_ends (ends_of self) (ends_of o) }
+        ensures undoes { (rest : Interval) → ends_of self ≡ add_ends (ends_of rest) (ends_of o) → ends_of result ≡ ends_of rest }
     {
         Interval {
             lo: self.lo - o.lo,
@@ -94,9 +86,8 @@ impl Interval {
     #[inline]
     pub fn sub(self, o: Interval) -> Interval
         requires { EndsWithin (2 ^ 126) (sub_ends (ends_of self) (ends_of o)) }
-        ensures lo { result.lo ≡ self.lo -ℤ o.hi }
-        ensures hi { result.hi ≡ self.hi -ℤ o.lo }
-        ensures contains { (x y : Ratio) → IntervalContains self x → IntervalContains o y → IntervalContains result (sub_ratio x y) }
+        ensures ends { ends_of result ≡ sub_ends (ends_of self) (ends_of o) }
+        ensures contains { (u : ℤ) (x y : Ratio) → IntervalContains u self x → IntervalContains u o y → IntervalContains u result (sub_ratio x y) }
     {
         Interval {
             lo: self.lo - o.hi,
@@ -107,9 +98,8 @@ impl Interval {
     /// `[-hi, -lo]`.
     #[inline]
     pub fn neg(self) -> Interval
-        ensures lo { result.lo ≡ neg_ℤ self.hi }
-        ensures hi { result.hi ≡ neg_ℤ self.lo }
-        ensures contains { (x : Ratio) → IntervalContains self x → IntervalContains result (neg_ratio x) }
+        ensures ends { ends_of result ≡ neg_ends (ends_of self) }
+        ensures contains { (u : ℤ) (x : Ratio) → IntervalContains u self x → IntervalContains u result (neg_ratio x) }
     {
         Interval {
             lo: -self.hi,
@@ -120,10 +110,9 @@ impl Interval {
     /// The products of both ends with `k`, in order. Condition: both are at most 2^126 in size.
     #[inline]
     pub fn scale(self, k: i128) -> Interval
-        requires { EndsWithin (2 ^ 126) (scale_ends k (ends_of self)) }
-        ensures lo { result.lo ≡ int_min (self.lo *ℤ k) (self.hi *ℤ k) }
-        ensures hi { result.hi ≡ int_max (self.lo *ℤ k) (self.hi *ℤ k) }
-        ensures contains { (x : Ratio) → IntervalContains self x → IntervalContains result (mul_ratio (whole_ratio k) x) }
+        requires { EndsWithin (2 ^ 126) (scale_ends (ends_of self) k) }
+        ensures ends { ends_of result ≡ scale_ends (ends_of self) k }
+        ensures contains { (u : ℤ) (x : Ratio) → IntervalContains u self x → IntervalContains u result (mul_ratio (whole_ratio k) x) }
     {
         Interval {
             lo: low_product(self.lo, self.hi, k),
@@ -138,9 +127,8 @@ impl Interval {
     #[inline]
     pub fn times(self, o: Interval) -> Interval
         requires { EndsWithin (2 ^ 126) (times_ends (ends_of self) (ends_of o)) }
-        ensures lo { result.lo ≡ least (self.lo *ℤ o.lo) (self.lo *ℤ o.hi) (self.hi *ℤ o.lo) (self.hi *ℤ o.hi) }
-        ensures hi { result.hi ≡ greatest (self.lo *ℤ o.lo) (self.lo *ℤ o.hi) (self.hi *ℤ o.lo) (self.hi *ℤ o.hi) }
-        ensures contains { (x y : Ratio) → IntervalContains self x → IntervalContains o y → IntervalContains result (mul_ratio x y) }
+        ensures ends { ends_of result ≡ times_ends (ends_of self) (ends_of o) }
+        ensures contains { (u v : ℤ) (x y : Ratio) → IntervalContains u self x → IntervalContains v o y → IntervalContains (u *ℤ v) result (mul_ratio x y) }
     {
         if self.lo >= 0 {
             return Interval {
@@ -167,9 +155,8 @@ impl Interval {
     /// One division serves both ends where the interval lies between two neighbouring multiples of `n`.
     pub fn quot(self, n: i128) -> Interval
         requires { pos 1 ≤ℤ n }
-        ensures lo { result.lo ≡ floor_div self.lo n }
-        ensures hi { result.hi ≡ ceil_div self.hi n }
-        ensures contains { (x : Ratio) → IntervalContains self x → IntervalContains result (over_ratio x n) }
+        ensures ends { ends_of result ≡ quot_ends (ends_of self) n }
+        ensures contains { (u : ℤ) (x : Ratio) → IntervalContains u self x → IntervalContains u result (over_ratio x n) }
     {
         let lo = floor_quot(self.lo, n);
         let hi = ceil_near(self.hi, n, self.lo, lo);
@@ -180,9 +167,8 @@ impl Interval {
     #[inline]
     pub fn quot_shift(self, k: u32) -> Interval
         requires { k < 127 }
-        ensures lo { result.lo ≡ floor_div self.lo (pos (2 ^ k)) }
-        ensures hi { result.hi ≡ ceil_div self.hi (pos (2 ^ k)) }
-        ensures contains { (x : Ratio) → IntervalContains self x → IntervalContains result (over_ratio x (pos (2 ^ k))) }
+        ensures ends { ends_of result ≡ quot_ends (ends_of self) (pos (2 ^ k)) }
+        ensures contains { (u : ℤ) (x : Ratio) → IntervalContains u self x → IntervalContains u result (over_ratio x (pos (2 ^ k))) }
     {
         let lo = floor_shift(self.lo, k);
         let hi = ceil_shift(self.hi, k);
@@ -195,9 +181,8 @@ impl Interval {
     pub fn widen(self, r: i128) -> Interval
         requires radius { pos 0 ≤ℤ r }
         requires fits { EndsWithin (2 ^ 126) (widen_ends (ends_of self) r) }
-        ensures lo { result.lo ≡ self.lo -ℤ r }
-        ensures hi { result.hi ≡ self.hi +ℤ r }
-        ensures contains { (x y : Ratio) → IntervalContains self x → Contains (pos 1) (neg_ℤ r) r (sub_ratio y x) → IntervalContains result y }
+        ensures ends { ends_of result ≡ widen_ends (ends_of self) r }
+        ensures contains { (u : ℤ) (x y : Ratio) → IntervalContains u self x → Contains u (neg_ℤ r) r (sub_ratio y x) → IntervalContains u result y }
     {
         Interval {
             lo: self.lo - r,
@@ -208,8 +193,8 @@ impl Interval {
     /// True exactly where `outer.lo <= lo` and `hi <= outer.hi`.
     #[inline]
     pub fn inside(self, outer: Interval) -> bool
-        ensures exactly { IsTrue result ↔ ((outer.lo ≤ℤ self.lo) × (self.hi ≤ℤ outer.hi)) }
-        ensures contains { IsTrue result → (x : Ratio) → IntervalContains self x → IntervalContains outer x }
+        ensures exactly { IsTrue result ↔ EndsInside (ends_of self) (ends_of outer) }
+        ensures contains { IsTrue result → (u : ℤ) (x : Ratio) → IntervalContains u self x → IntervalContains u outer x }
     {
         outer.lo <= self.lo && self.hi <= outer.hi
     }

@@ -1,11 +1,12 @@
 -- A report is certified: the printed counts contain the exact direct sums, and one entry accounts for each target and source.
-use Rattle.std.proofs.Common.{◌≡◌, refl, subst, arith, Some, None, IfSome, ℕ, ◌≤◌, List, [], ◌∷◌, map, pos, ◌^◌, inl, inr}
+use Rattle.std.proofs.Common.{◌≡◌, refl, subst, arith, Some, None, IfSome, ℕ, List, [], ◌∷◌, map, pos, ◌^◌}
 use Rattle.std.proofs.lemmas.List.Elements.{recursion_from_All}
 use Rattle.std.specs.Io.KnownBytes.{Appends, Consumes}
 use Rattle.std.specs.List.{AllZip, AllByRecursion}
 use Rattle.std.specs.declared.option.Option.{Option}
 use Rattle.exact_math.specs.Ends.{BoxEndsContain}
 use Rattle.exact_math.specs.Orders.{IsOrder}
+use Rattle.exact_math.proofs.Orders.{order_bounds}
 use Rattle.field_report.proofs.Bounds.{CountsContain-box}
 use Rattle.field_report.specs.FieldText.{field_line}
 use Rattle.near_field.specs.DirectSum.{direct_sum}
@@ -14,7 +15,6 @@ use Rattle.points.specs.declared.Mode.{Mode}
 use Rattle.points.specs.declared.Point.{Point}
 use Rattle.quadtree.proofs.Limits.{in_grid}
 use Rattle.quadtree.specs.Tree.{AreInGrid}
-use Rattle.row_recursions.proofs.RowSizes.{order_least}
 use Rattle.tree_field.proofs.Whole.{field_contains}
 use Rattle.tree_field.proofs.Work.{translations_are_few}
 use Rattle.tree_field.specs.Field.{targets, target_box}
@@ -34,7 +34,7 @@ lines_contain mode points cap P lists (t ∷ some) h =
 pub certified : (order cap : ℕ) (input out : List ℕ) → IsOrder order → IsReported order cap input out → IsCertified order cap input out
 certified order cap input out is_order s =
     let inside : AreInGrid 16 s.points = in_grid s.points s.spelled.limits.range in
-    let boxes = field_contains 16 s.points cap order s.lists (omega arith) (order_least order is_order) inside s.lists_are in
+    let boxes = field_contains 16 s.points cap order s.lists (omega arith) (order_bounds order is_order).0 inside s.lists_are in
     record {
       mode = s.mode;
       points = s.points;

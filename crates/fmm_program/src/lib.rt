@@ -2,17 +2,12 @@
 #![tactic(auto)]
 
 mod commands;
+mod orders;
 mod refusals;
-#[cfg(test)]
-mod sample_tests;
 mod samples;
 mod solve;
 mod status;
-#[cfg(test)]
-mod tests;
 mod top;
-#[cfg(test)]
-mod tree_tests;
 mod words;
 
 pub use commands::{Opening, plan};

@@ -6,8 +6,8 @@ ghost use Rattle.fmm_program.specs.Answers.{DepthEnds, RefusalEnds, crowded_line
 
 use crate::status::Status;
 use cell_name::Cell;
-use line_text::FrontText;
 use io_ports::{Sink, put};
+use line_text::FrontText;
 use particle_text::TextKind;
 use solve_phase::SolveFault;
 

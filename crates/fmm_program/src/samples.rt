@@ -7,12 +7,13 @@ ghost use Rattle.point_sample.specs.Sample.{sample_list};
 ghost use Rattle.fmm_program.specs.SampleAnswers.{SampleEnds};
 ghost use Rattle.fmm_program.specs.Samples.{IsSample, IsNoSample};
 
+use crate::orders::at_order;
 use crate::refusals::refuse_depth;
 use crate::status::Status;
 use crate::words::{Words, capacity_of, number_in, order_of};
 use io_ports::Sink;
-use points::Points;
 use point_sample::sample_points;
+use points::Points;
 use sample_summary::write_summary;
 use std::alloc::Global;
 
@@ -87,10 +88,5 @@ pub(crate) fn sample<O: Sink>(alloc: Global, command: SampleCommand, out: &mut O
     let Ok(points) = sample_points(alloc, seed, command.count) else {
         return Status::Memory;
     };
-    match command.order {
-        4 => summarize::<4, O>(alloc, seed, &points, cap, out),
-        8 => summarize::<8, O>(alloc, seed, &points, cap, out),
-        16 => summarize::<16, O>(alloc, seed, &points, cap, out),
-        _ => summarize::<24, O>(alloc, seed, &points, cap, out),
-    }
+    at_order!(command.order, summarize, O, alloc, seed, &points, cap, out)
 }

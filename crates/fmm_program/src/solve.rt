@@ -8,6 +8,7 @@ ghost use Rattle.points.specs.Limits.{WithinLimits};
 ghost use Rattle.particle_text.specs.Text.{Spells};
 ghost use Rattle.fmm_program.specs.Answers.{IsSolveStatus, SolveEnds, most_input};
 
+use crate::orders::at_order;
 use crate::refusals::{refuse, refuse_depth, refuse_text};
 use crate::status::Status;
 use field_report::write_report;
@@ -59,12 +60,7 @@ fn answer_text<O: Sink>(alloc: Global, order: u32, cap: u32, bytes: &[u8], out: 
         Err(ParseFault::Memory) => return Status::Memory,
         Err(ParseFault::Text { line, what }) => return refuse_text(line, what, out),
     };
-    match order {
-        4 => answer_points::<4, O>(alloc, &points, cap, out),
-        8 => answer_points::<8, O>(alloc, &points, cap, out),
-        16 => answer_points::<16, O>(alloc, &points, cap, out),
-        _ => answer_points::<24, O>(alloc, &points, cap, out),
-    }
+    at_order!(order, answer_points, O, alloc, &points, cap, out)
 }
 
 /// Reads the points to their end, and writes the report of their field or the line that refuses them.

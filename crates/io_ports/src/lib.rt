@@ -18,6 +18,3 @@ pub use sinks::{BrokenSink, DropSink, MemSink};
 pub use sources::{BrokenSource, MemSource, SureSource};
 pub use std_ports::{ReadSource, WriteSink};
 pub use transfer::{put, read_all};
-
-#[cfg(test)]
-mod tests;

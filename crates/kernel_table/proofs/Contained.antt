@@ -7,16 +7,15 @@ use lib.Signed.{◌<ℤ◌, ◌≤ℤ◌}
 use borrow.Author.Differences.{ints}
 use Rattle.exact_math.specs.Contains.{Contains}
 use Rattle.exact_math.specs.Ends.{BoxEnds, point_box, scale_box, quot_box, gquot_box, BoxEndsContain}
-use Rattle.exact_math.specs.Gaussian.{Gaussian, norm_gaussian}
-use Rattle.exact_math.specs.Ratio.{Ratio, over_ratio, ComplexRatio, over_complex, mul_complex}
-use Rattle.exact_math.specs.Sums.{count, pow_complex}
+use Rattle.exact_math.specs.Gaussian.{Gaussian, norm_gaussian, conj, scale_gaussian}
+use Rattle.exact_math.specs.Ratio.{Ratio, over_ratio, ComplexRatio, over_complex, ◌*ᶜ◌, reciprocal}
+use Rattle.exact_math.specs.Sums.{pow_complex, natural_complex}
 use Rattle.exact_math.proofs.Ring.{int_ring}
 use Rattle.exact_math.proofs.RingTactic.{int_quotes, ring2, ring3, ring5}
 use Rattle.exact_math.proofs.Integers.{*-cancel_≤}
 use Rattle.exact_math.specs.Binomials.{choose}
 use Rattle.exact_math.proofs.EndsBridges.{BoxEndsContain-point, BoxEndsContain-quot, BoxEndsContain-gquot, BoxEndsContain-scale, BoxEndsContain-neg}
-use Rattle.kernel_table.specs.Kernel.{conj_multiple, kernel_power, kernel_entry, alternate_box, alternate_complex, kernel_fraction}
-use Rattle.truncation.specs.CutTerms.{reciprocal}
+use Rattle.kernel_table.specs.Kernel.{kernel_power, kernel_entry, alternate_box, alternate_complex, kernel_fraction}
 use Rattle.kernel_table.proofs.PowersOfTwo.{two_power, power_positive, power_add}
 
 -- another fraction in another unit, with the same multiple
@@ -43,9 +42,9 @@ unscaled v m {lo} {hi} {x} m>0 d>0 h = record {
 
 module _ (e : Gaussian) (positive : pos 1 ≤ℤ norm_gaussian e) where
   -- what is counted in units of 1/u is divided by e in units of 1/(2 u)
-  divided : {u : ℤ} {b : BoxEnds} {x : ComplexRatio} → BoxEndsContain u b x → BoxEndsContain (pos 2 *ℤ u) (gquot_box b (conj_multiple 2 e) (norm_gaussian e)) (mul_complex (reciprocal e) x)
+  divided : {u : ℤ} {b : BoxEnds} {x : ComplexRatio} → BoxEndsContain u b x → BoxEndsContain (pos 2 *ℤ u) (gquot_box b (conj (scale_gaussian 2 e)) (norm_gaussian e)) (reciprocal e *ᶜ x)
   divided {u} {b} {x} h =
-      let k = BoxEndsContain-gquot h (conj_multiple 2 e) (norm_gaussian e) positive in
+      let k = BoxEndsContain-gquot h (conj (scale_gaussian 2 e)) (norm_gaussian e) positive in
       record { re = rescaled k.re (under x.denominator (norm_gaussian e)) (re_is u e.re e.im x.re x.im); im = rescaled k.im (under x.denominator (norm_gaussian e)) (im_is u e.re e.im x.re x.im) }
     where
       under : (d n : ℤ) → pos 1 *ℤ d *ℤ n ≡ n *ℤ d
@@ -75,7 +74,7 @@ module _ (e : Gaussian) (positive : pos 1 ≤ℤ norm_gaussian e) where
   pub kernel_power_contains : (n : ℕ) → BoxEndsContain (pos (2 ^ (60 + n))) (kernel_power e n) (pow_complex (reciprocal e) (suc n))
   unfolding kernel_power
   kernel_power_contains zero = first
-  kernel_power_contains (suc n) = subst (λ u. BoxEndsContain u (gquot_box (kernel_power e n) (conj_multiple 2 e) (norm_gaussian e)) (mul_complex (reciprocal e) (pow_complex (reciprocal e) (suc n)))) unit
+  kernel_power_contains (suc n) = subst (λ u. BoxEndsContain u (gquot_box (kernel_power e n) (conj (scale_gaussian 2 e)) (norm_gaussian e)) (reciprocal e *ᶜ pow_complex (reciprocal e) (suc n))) unit
       (divided (kernel_power_contains n))
     where
       unit : pos 2 *ℤ pos (2 ^ (60 + n)) ≡ pos (2 ^ (60 + suc n))
@@ -87,7 +86,7 @@ module _ (e : Gaussian) (positive : pos 1 ≤ℤ norm_gaussian e) where
 
   -- C(k + l, k)/e^(k + l + 1)
   abbrev unsigned_fraction : ℕ → ℕ → ComplexRatio
-  unsigned_fraction k l = mul_complex (count (choose (k + l) k)) (pow_complex (reciprocal e) (suc (k + l)))
+  unsigned_fraction k l = natural_complex (choose (k + l) k) *ᶜ pow_complex (reciprocal e) (suc (k + l))
 
   module _ (k l : ℕ) where
     -- the last rounding divides by this
@@ -97,14 +96,14 @@ module _ (e : Gaussian) (positive : pos 1 ≤ℤ norm_gaussian e) where
     divisor>0 : pos 0 <ℤ divisor
     divisor>0 = let h = power_positive (k + l + 20) in omega (arith, ints)
 
-    scaled : BoxEndsContain (pos (2 ^ 40) *ℤ divisor) (scale_box (pos (choose (k + l) k)) (kernel_power e (k + l))) (unsigned_fraction k l)
-    scaled = subst (λ u. BoxEndsContain u (scale_box (pos (choose (k + l) k)) (kernel_power e (k + l))) (unsigned_fraction k l)) unit
+    scaled : BoxEndsContain (pos (2 ^ 40) *ℤ divisor) (scale_box (kernel_power e (k + l)) (pos (choose (k + l) k))) (unsigned_fraction k l)
+    scaled = subst (λ u. BoxEndsContain u (scale_box (kernel_power e (k + l)) (pos (choose (k + l) k))) (unsigned_fraction k l)) unit
         (BoxEndsContain-scale (kernel_power_contains (k + l)) (pos (choose (k + l) k)))
       where
         unit : pos (2 ^ (60 + (k + l))) ≡ pos (2 ^ 40) *ℤ divisor
         unit = ap pos (ap (λ n. 2 ^ n) {x = 60 + (k + l)} {y = 40 + (k + l + 20)} (omega arith) ∙ power_add 40 (k + l + 20))
 
-    quotient : BoxEndsContain (pos (2 ^ 40) *ℤ divisor) (quot_box (scale_box (pos (choose (k + l) k)) (kernel_power e (k + l))) divisor) (over_complex (unsigned_fraction k l) divisor)
+    quotient : BoxEndsContain (pos (2 ^ 40) *ℤ divisor) (quot_box (scale_box (kernel_power e (k + l)) (pos (choose (k + l) k))) divisor) (over_complex (unsigned_fraction k l) divisor)
     quotient = let h = divisor>0 in BoxEndsContain-quot scaled divisor (omega (arith, ints, h))
 
     -- the entry contains the exact kernel in units of 2^-40

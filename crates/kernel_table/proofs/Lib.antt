@@ -1,6 +1,8 @@
+mod FarDistances
 mod PowersOfTwo
 mod Chosen
 pub mod Contained
+pub mod Entries
 pub mod Widths
 pub mod Sizes
 mod Norms

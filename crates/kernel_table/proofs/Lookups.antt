@@ -1,24 +1,20 @@
 -- What a table holds at the place of an entry.
 use mathlib.Core.Path.{◌≡◌, sym, ap, ap₂, subst, ◌∙◌}
-use Prim.Native.Nat.{ℕ, ◌+◌, ◌-◌, ◌*◌, ◌/◌, ◌%◌, ◌^◌, ◌≤◌, ◌<◌}
+use Prim.Native.Nat.{ℕ, ◌+◌, ◌-◌, ◌*◌, ◌/◌, ◌%◌, ◌^◌, ◌<◌}
 use native.Mathlib.Omega.{arith}
 use lib.IntN.{ℤ, pos}
 use Rattle.std.proofs.Common.{List, length, get_or, take, drop}
-use Rattle.std.proofs.lemmas.Int.{ints}
 use Rattle.std.proofs.lemmas.List.{get_or-take, get_or-drop, length-take-le, length-drop}
-use Rattle.exact_math.specs.Ends.{BoxEnds, BoxEndsWithin, BoxEndsContain, scale_box, quot_box, BoxEndsNarrow}
+use Rattle.exact_math.specs.Ends.{BoxEnds, scale_box, quot_box}
 use Rattle.exact_math.specs.Binomials.{choose}
 use Rattle.exact_math.specs.Gaussian.{Gaussian}
 use Rattle.exact_math.specs.Orders.{IsOrder}
+use Rattle.exact_math.proofs.Orders.{order_bounds}
 use Rattle.complex_box.specs.Box.{box_ends}
 use Rattle.complex_box.specs.declared.CBox.{CBox}
-use Rattle.kernel_table.specs.Kernel.{IsKernelDistance, kernel_power, kernel_entry, alternate_box, kernel_fraction}
-use Rattle.kernel_table.specs.Table.{distance_at, IsKernelTable, IsKernelColumn}
-use Rattle.kernel_table.proofs.Contained.{kernel_entry_contains}
-use Rattle.kernel_table.proofs.Norms.{squares}
-use Rattle.kernel_table.proofs.Places.{Place, place, place-next, place-below, column-below, order_bounds}
-use Rattle.kernel_table.proofs.Sizes.{kernel_entry_within}
-use Rattle.kernel_table.proofs.Widths.{kernel_entry_narrow}
+use Rattle.kernel_table.specs.Kernel.{kernel_power, kernel_entry, alternate_box, IsKernelColumn}
+use Rattle.kernel_table.specs.Table.{distance_at, IsKernelTable}
+use Rattle.kernel_table.proofs.Places.{Place, place, place-next, place-below, column-below}
 
 -- the entry that a place names
 pub entry-at : (P n k l i : ℕ) → Place P n k l i → kernel_entry (distance_at (i / P / P)) (i % P) (i / P % P) ≡ kernel_entry (distance_at n) k l
@@ -32,19 +28,6 @@ pub found : (P n k l : ℕ) (table : List CBox) (e : Gaussian) → IsKernelTable
 found P n k l table e holds len n<40 is k<P l<P other =
     holds ((n * P + l) * P + k) other (let b = place-below P n k l n<40 k<P l<P in omega (arith, b, len))
     ∙ entry-at P n k l _ (place P n k l k<P l<P) ∙ ap (λ d. kernel_entry d k l) is
-
--- what is known of the box of an entry
-pub record Known (e : Gaussian) (k l : ℕ) (b : BoxEnds) : Type 0 where
-  pub contains : BoxEndsContain (pos (2 ^ 40)) b (kernel_fraction e k l)
-  pub narrow : BoxEndsNarrow 2 b
-  pub within : BoxEndsWithin (2 ^ 39 + 1) b
-
-pub known : (e : Gaussian) (k l : ℕ) → IsKernelDistance e → k + l ≤ 62 → {b : BoxEnds} → b ≡ kernel_entry e k l → Known e k l b
-known e k l h small is = subst (Known e k l) (sym is) (record {
-  contains = kernel_entry_contains e (let s = squares e h in let n = s.norm_low in omega (arith, ints, n)) k l;
-  narrow = kernel_entry_narrow e h k l small;
-  within = kernel_entry_within e h k l small;
-})
 
 -- the entries of one l stand side by side
 pub found_column : (P n l : ℕ) (table xs : List CBox) (e : Gaussian) → IsKernelTable P table → length table ≡ 40 * (P * P) → n < 40 → distance_at n ≡ e → l < P → xs ≡ table
@@ -61,9 +44,9 @@ found_column P n l table xs e holds len n<40 is l<P same =
 
 -- an entry from a power and a binomial
 pub entry-from : (e : Gaussian) (k l : ℕ) (power : BoxEnds) (ways : ℤ) → power ≡ kernel_power e (k + l) → ways ≡ pos (choose (k + l) k)
-    → alternate_box l (quot_box (scale_box ways power) (pos (2 ^ (k + l + 20)))) ≡ kernel_entry e k l
+    → alternate_box l (quot_box (scale_box power ways) (pos (2 ^ (k + l + 20)))) ≡ kernel_entry e k l
 unfolding kernel_entry
-entry-from e k l power ways p w = ap₂ (λ b n. alternate_box l (quot_box (scale_box n b) (pos (2 ^ (k + l + 20))))) p w
+entry-from e k l power ways p w = ap₂ (λ b n. alternate_box l (quot_box (scale_box b n) (pos (2 ^ (k + l + 20))))) p w
 
 -- the next entry of the distance n, where those of the distances before it stand already
 pub next_entry : (P n i j : ℕ) → IsOrder P → i < P * P → j ≡ n * (P * P) + i → {b : BoxEnds} → b ≡ kernel_entry (distance_at n) (i % P) (i / P)

@@ -2,16 +2,8 @@
 use mathlib.Core.Path.{◌≡◌, sym, ap, ◌∙◌}
 use Prim.Native.Nat.{ℕ, suc, ◌+◌, ◌*◌, ◌/◌, ◌%◌, ◌≤◌, ◌<◌}
 use native.Mathlib.Omega.{arith}
-use Rattle.std.proofs.Common.{inl, inr}
 use Rattle.std.proofs.Math.Nat.{mul-le-mul_right, div-add-mod, mod-lt, lt_of_not-le, mul-le-mul_left}
 use Rattle.std.proofs.lemmas.Nat.{div-mul-add}
-use Rattle.exact_math.specs.Orders.{IsOrder}
-
-pub order_bounds : (P : ℕ) → IsOrder P → (1 ≤ P) × (P ≤ 32)
-order_bounds P (inl e) = (omega arith, omega arith)
-order_bounds P (inr (inl e)) = (omega arith, omega arith)
-order_bounds P (inr (inr (inl e))) = (omega arith, omega arith)
-order_bounds P (inr (inr (inr e))) = (omega arith, omega arith)
 
 -- the remainder of a P + k
 pub mod-mul-add : (a P k : ℕ) → k < P → (a * P + k) % P ≡ k

@@ -9,7 +9,7 @@ use Rattle.std.proofs.lemmas.Int.{ints, clamps}
 use Rattle.exact_math.specs.Contains.{Contains}
 use Rattle.exact_math.specs.Ends.{Ends, BoxEnds, add_ends, sub_ends, neg_ends, scale_ends, scale_box, quot_ends, EndsWithin, BoxEndsWithin, EndsNarrow}
 use Rattle.exact_math.specs.Gaussian.{Gaussian, norm_gaussian}
-use Rattle.exact_math.specs.Ratio.{Ratio, ComplexRatio, mul_complex}
+use Rattle.exact_math.specs.Ratio.{Ratio, ComplexRatio, ◌*ᶜ◌, reciprocal}
 use Rattle.exact_math.specs.Rounding.{floor_div}
 use Rattle.exact_math.specs.Sums.{pow_complex}
 use Rattle.exact_math.specs.Within.{Within}
@@ -18,21 +18,18 @@ use Rattle.exact_math.proofs.RingTactic.{int_quotes, ring2, ring3, ring5}
 use Rattle.exact_math.proofs.Integers as Z
 use Rattle.exact_math.specs.Binomials.{choose}
 use Rattle.exact_math.proofs.Enclosures.{floor_div_le}
+use Rattle.exact_math.proofs.GaussianSizes.{norm_count-is}
+use Rattle.exact_math.proofs.Integers.{square_nonneg}
 use Rattle.complex_box.specs.Box.{GscaleFits}
 use Rattle.kernel_table.specs.Kernel.{IsKernelDistance, kernel_power, kernel_entry, alternate_box}
-use Rattle.truncation.specs.CutTerms.{reciprocal}
 use Rattle.kernel_table.proofs.Contained.{kernel_power_contains}
 use Rattle.kernel_table.proofs.PowersOfTwo.{two_power, power_positive, power_add, choose_le}
-use Rattle.kernel_table.proofs.Widths.{norm_count-is, norm_count≥4, widths, widths_le, kernel_power_narrow, floor_div_gt, at_most}
+use Rattle.kernel_table.proofs.Widths.{norm_count≥4, widths, widths_le, kernel_power_narrow, floor_div_gt, at_most}
 
 times_neg : (c d : ℤ) → c *ℤ neg_ℤ d ≡ neg_ℤ (c *ℤ d)
 times_neg c d = ring2 int_ring c d (λ c d. search int_quotes depth 9) tt
 
 -- ---- roots
-square_nonneg : (a : ℤ) → pos 0 ≤ℤ (a *ℤ a)
-square_nonneg (pos n) = omega (arith, ints)
-square_nonneg (negsuc n) = omega (arith, ints)
-
 pub count_root_le : (a b : ℕ) → a * a ≤ b * b → a ≤ b
 count_root_le a b h =
     let l : a < suc b = lt_of_not-le (λ k. let m = mul-le-mul k k in absurd (omega arith)) in
@@ -64,7 +61,7 @@ step_le n s d n≥4 h =
     (Z.≤-trans a (subst (λ z. z ≤ℤ (d *ℤ d *ℤ (n *ℤ n))) (Z.*-comm (d *ℤ d) (pos 4 *ℤ n)) b))
 
 -- dividing by e shrinks by 2 at least
-shrunk-step : (e : Gaussian) → pos 4 ≤ℤ norm_gaussian e → {c : ℤ} {x : ComplexRatio} → Shrunk c x → Shrunk (pos 2 *ℤ c) (mul_complex (reciprocal e) x)
+shrunk-step : (e : Gaussian) → pos 4 ≤ℤ norm_gaussian e → {c : ℤ} {x : ComplexRatio} → Shrunk c x → Shrunk (pos 2 *ℤ c) (reciprocal e *ᶜ x)
 shrunk-step e n≥4 {c} {x} h = record {
   positive = Z.*-positive _ _ (omega (arith, ints, n≥4)) h.positive;
   square = subst (λ z. z ≤ℤ (norm_gaussian e *ℤ x.denominator *ℤ (norm_gaussian e *ℤ x.denominator))) (product_is c e.re e.im x.re x.im)
@@ -77,7 +74,7 @@ shrunk-step e n≥4 {c} {x} h = record {
 
 pub shrunk : (e : Gaussian) → pos 4 ≤ℤ norm_gaussian e → (m : ℕ) → Shrunk (pos (2 ^ m)) (pow_complex (reciprocal e) m)
 shrunk e n≥4 zero = record { positive = omega (arith, ints); square = omega (arith, ints) }
-shrunk e n≥4 (suc m) = subst (λ c. Shrunk c (mul_complex (reciprocal e) (pow_complex (reciprocal e) m))) (ap pos (sym (two_power m))) (shrunk-step e n≥4 (shrunk e n≥4 m))
+shrunk e n≥4 (suc m) = subst (λ c. Shrunk c (reciprocal e *ᶜ pow_complex (reciprocal e) m)) (ap pos (sym (two_power m))) (shrunk-step e n≥4 (shrunk e n≥4 m))
 
 -- ---- the powers
 -- ends that contain a number of at most n units, at most w apart, are at most n + w in size
@@ -132,7 +129,7 @@ pub power-fits : (e : Gaussian) → IsKernelDistance e → (n : ℕ) → n ≤ 6
 power-fits e h n small = let w = kernel_power_within e h n small in record { re = within-more (omega arith) w.re; im = within-more (omega arith) w.im }
 
 -- ---- the entries
-within-scale : (n c : ℕ) {i : Ends} → EndsWithin n i → EndsWithin (c * n) (scale_ends (pos c) i)
+within-scale : (n c : ℕ) {i : Ends} → EndsWithin n i → EndsWithin (c * n) (scale_ends i (pos c))
 within-scale n c {i} h =
     let c≥0 : pos 0 ≤ℤ pos c = omega (arith, ints) in
     let e : pos c *ℤ neg_ℤ (pos n) ≡ neg_ℤ (pos (c * n)) = times_neg (pos c) (pos n) in
@@ -146,10 +143,10 @@ within-scale n c {i} h =
     }
 
 -- the same for a factor of either sign
-pub within-factor : (n c : ℕ) (k : ℤ) {i : Ends} → Within c k → EndsWithin n i → EndsWithin (c * n) (scale_ends k i)
+pub within-factor : (n c : ℕ) (k : ℤ) {i : Ends} → Within c k → EndsWithin n i → EndsWithin (c * n) (scale_ends i k)
 within-factor n c (pos k) {i} small h = let l : k ≤ c = omega (arith, ints, small.below) in within-more (mul-le-mul_right n l) (within-scale n k h)
 within-factor n c (negsuc k) {i} small h =
-    let s : EndsWithin (suc k * n) (scale_ends (pos (suc k)) i) = within-scale n (suc k) h in
+    let s : EndsWithin (suc k * n) (scale_ends i (pos (suc k))) = within-scale n (suc k) h in
     let l = turned i.lo in
     let m = turned i.hi in
     let o : suc k ≤ c = omega (arith, ints, small.above) in
@@ -189,7 +186,7 @@ gscale-fits {b} {g} w x y =
     }
 
 -- the product of a power with a binomial coefficient fits
-pub scale-fits : {b : BoxEnds} {k : ℤ} → BoxEndsWithin (2 ^ 60) b → pos 0 ≤ℤ k → k ≤ℤ pos (2 ^ 62) → BoxEndsWithin (2 ^ 126) (scale_box k b)
+pub scale-fits : {b : BoxEnds} {k : ℤ} → BoxEndsWithin (2 ^ 60) b → pos 0 ≤ℤ k → k ≤ℤ pos (2 ^ 62) → BoxEndsWithin (2 ^ 126) (scale_box b k)
 scale-fits {b} {k} w h l =
     let small : Within (2 ^ 62) k = record { above = omega (arith, ints, h); below = l } in
     record { re = within-more (omega arith) (within-factor (2 ^ 60) (2 ^ 62) k small w.re); im = within-more (omega arith) (within-factor (2 ^ 60) (2 ^ 62) k small w.im) }
@@ -232,5 +229,5 @@ kernel_entry_within e h k l small =
         let p = power_add (k + l) 20 in
         omega arith
 
-    part : {i : Ends} → EndsWithin (2 ^ 59 + 2 ^ 20) i → EndsWithin (2 ^ 39 + 1) (quot_ends (scale_ends (pos (choose (k + l) k)) i) (pos (2 ^ (k + l + 20))))
+    part : {i : Ends} → EndsWithin (2 ^ 59 + 2 ^ 20) i → EndsWithin (2 ^ 39 + 1) (quot_ends (scale_ends i (pos (choose (k + l) k))) (pos (2 ^ (k + l + 20))))
     part {i} w = within-quot (2 ^ 39 + 1) (2 ^ (k + l + 20)) (power_positive (k + l + 20)) (within-more room (within-scale (2 ^ 59 + 2 ^ 20) (choose (k + l) k) w))

@@ -1,7 +1,7 @@
 -- The widths of the kernel's powers and entries.
-use mathlib.Core.Path.{◌≡◌, sym, ap₂, subst, subst₂}
+use mathlib.Core.Path.{◌≡◌, sym, subst, subst₂}
 use mathlib.Core.Logic.{◌⊎◌, inl, inr, ⊎_elim}
-use Prim.Native.Nat.{ℕ, zero, suc, ◌+◌, ◌-◌, ◌*◌, ◌/◌, ◌^◌, ◌≤◌, ◌<◌, max}
+use Prim.Native.Nat.{ℕ, zero, suc, ◌+◌, ◌-◌, ◌*◌, ◌/◌, ◌^◌, ◌≤◌, ◌<◌}
 use native.Mathlib.Nat.{lt_of_not-le, mul-le-mul_left, mul-le-mul_right, mul-le-mul}
 use native.Mathlib.Omega.{arith}
 use lib.IntN.{ℤ, pos, negsuc, neg_ℤ, ◌+ℤ◌, ◌-ℤ◌, ◌*ℤ◌}
@@ -12,6 +12,7 @@ use Rattle.std.specs.Prelude.{unsigned_abs}
 use Rattle.exact_math.specs.Ends.{Ends, BoxEnds, point_ends, add_ends, neg_ends, sub_ends, scale_ends, quot_ends, EndsNarrow, BoxEndsNarrow}
 use Rattle.exact_math.specs.Gaussian.{Gaussian, norm_gaussian}
 use Rattle.exact_math.specs.Rounding.{floor_div, ceil_div}
+use Rattle.exact_math.proofs.GaussianSizes.{norm_count, norm_count-is}
 use Rattle.exact_math.proofs.Ring.{int_ring}
 use Rattle.exact_math.proofs.RingTactic.{int_quotes, ring2, ring3}
 use Rattle.exact_math.proofs.Integers as Z
@@ -37,7 +38,7 @@ narrow-neg {i} {a} h = record { ordered = omega (arith, ints, h.ordered); width 
 apart_times : (n : ℕ) (lo hi : ℤ) → pos n *ℤ (hi -ℤ lo) ≡ hi *ℤ pos n -ℤ lo *ℤ pos n
 apart_times n lo hi = ring3 int_ring (pos n) hi lo (λ n h l. search int_quotes depth 9) tt
 
-pub narrow-scale : (k : ℤ) {i : Ends} {w : ℕ} → EndsNarrow w i → EndsNarrow (unsigned_abs k * w) (scale_ends k i)
+pub narrow-scale : (k : ℤ) {i : Ends} {w : ℕ} → EndsNarrow w i → EndsNarrow (unsigned_abs k * w) (scale_ends i k)
 narrow-scale (pos n) {i} {w} h =
     let p : pos 0 ≤ℤ pos n = omega (arith, ints) in
     let e = apart_times n i.lo i.hi in
@@ -100,17 +101,6 @@ pub widths : ℕ → ℕ
 widths zero = 2
 widths (suc n) = next_width (widths n)
 
--- norm e, as a natural number
-abbrev pub norm_count : Gaussian → ℕ
-norm_count e = unsigned_abs e.re * unsigned_abs e.re + unsigned_abs e.im * unsigned_abs e.im
-
-pub square_abs : (a : ℤ) → pos (unsigned_abs a * unsigned_abs a) ≡ a *ℤ a
-square_abs (pos n) = omega (arith, ints)
-square_abs (negsuc n) = omega (arith, ints)
-
-pub norm_count-is : (e : Gaussian) → pos (norm_count e) ≡ norm_gaussian e
-norm_count-is e = ap₂ ◌+ℤ◌ (square_abs e.re) (square_abs e.im)
-
 -- 10 (|x| + |y|) <= 6 (x^2 + y^2) where one is at least 2: the factor 6/5 is met at 2 + i
 six_fifths : (x y : ℕ) → 2 ≤ x → 10 * (x + y) ≤ 6 * (x * x + y * y)
 six_fifths zero y h = absurd (omega arith)
@@ -119,21 +109,16 @@ six_fifths (suc (suc x)) zero h = omega arith
 six_fifths (suc (suc x)) (suc zero) h = omega arith
 six_fifths (suc (suc x)) (suc (suc y)) h = omega arith
 
-some_part : (x y : ℕ) → 2 ≤ max x y → (2 ≤ x) ⊎ (2 ≤ y)
-some_part zero y h = inr (omega arith)
-some_part (suc zero) y h = inr (omega arith)
-some_part (suc (suc x)) y h = inl (omega arith)
-
 pub greater_norm : (e : Gaussian) → IsKernelDistance e → 10 * (unsigned_abs e.re + unsigned_abs e.im) ≤ 6 * norm_count e
 greater_norm e h = ⊎_elim (six_fifths (unsigned_abs e.re) (unsigned_abs e.im))
     (λ k. turned (unsigned_abs e.re) (unsigned_abs e.im) (six_fifths (unsigned_abs e.im) (unsigned_abs e.re) k))
-    (some_part (unsigned_abs e.re) (unsigned_abs e.im) h.apart)
+    h.apart
   where
     turned : (x y : ℕ) → 10 * (y + x) ≤ 6 * (y * y + x * x) → 10 * (x + y) ≤ 6 * (x * x + y * y)
     turned x y h = omega arith
 
 pub norm_count≥4 : (e : Gaussian) → IsKernelDistance e → 4 ≤ norm_count e
-norm_count≥4 e h = squares (unsigned_abs e.re) (unsigned_abs e.im) (some_part (unsigned_abs e.re) (unsigned_abs e.im) h.apart)
+norm_count≥4 e h = squares (unsigned_abs e.re) (unsigned_abs e.im) h.apart
   where
     square : (x : ℕ) → 2 ≤ x → 4 ≤ x * x
     square x h = mul-le-mul h h

@@ -1,4 +1,3 @@
--- What contracts rest on: the kernel's definition, how narrow its boxes are, and how its table lies in memory.
-pub mod Entries
+-- What contracts rest on: the kernel, exact and rounded, and how its table lies in memory.
 pub mod Kernel
 pub mod Table

@@ -1,4 +1,4 @@
--- How the kernel's table lies in memory.
+-- How the kernel's table lies in memory: words of the functions that make it and look it up. What callers cite stands in Kernel.antt.
 use Rattle.std.specs.Prelude.{ℕ, ◌≡◌, ◌+◌, ◌-◌, ◌/◌, ◌%◌, ◌<◌, List, length, slice_index_or, nat_lt, if◌then◌else◌, ℤ, pos, ◌-ℤ◌}
 use Rattle.exact_math.specs.Binomials.{choose}
 use Rattle.exact_math.specs.Gaussian.{Gaussian, gaussian}
@@ -24,9 +24,5 @@ AreWays P ways = (i : ℕ) (other : ℤ) → i < length ways → slice_index_or 
 
 -- at each distance in turn, for each l in turn, the entries over k: the entry (k, l) of the distance n has the index (n P + l) P + k
 abbrev pub IsKernelTable : ℕ → List CBox → Type 0
-IsKernelTable P table = (i : ℕ) (other : CBox) → i < length table → box_ends (slice_index_or table i other) ≡ kernel_entry (distance_at (i / P / P)) (i % P) (i / P % P)
-
--- the entries of one l, with k from 0 to P - 1
-pub record IsKernelColumn (P : ℕ) (e : Gaussian) (l : ℕ) (column : List CBox) : Type 0 where
-  pub whole : length column ≡ P
-  pub entries : (k : ℕ) (other : CBox) → k < P → box_ends (slice_index_or column k other) ≡ kernel_entry e k l
+IsKernelTable P table = (i : ℕ) (other : CBox) → i < length table
+    → box_ends (slice_index_or table i other) ≡ kernel_entry (distance_at (i / P / P)) (i % P) (i / P % P)

@@ -7,12 +7,18 @@
 //! product and one shift. So an entry is at most 2 wide, and contains the exact kernel.
 #![tactic(auto)]
 
+ghost use Rattle.kernel_table.specs.Kernel.{KernelEntries};
+
 mod binomials;
 mod distances;
 mod powers;
 mod table;
-#[cfg(test)]
-mod tests;
 
 pub use binomials::binomial;
 pub use table::Kernel;
+
+/// Each entry of the rounded kernel, at each of the 40 distances and for `k + l <= 62`, contains the exact one, is at most 2 wide
+/// and at most 2^39 + 1 in size, in units of 2^-40. Nothing here runs.
+pub fn kernel_entries()
+    ensures { KernelEntries }
+{}

@@ -1,9 +1,9 @@
 //! The powers of the kernel at one distance, and an entry from a power.
 ghost use Rattle.std.specs.Prelude.{◌≡◌, ◌+◌, ◌^◌, ◌≤◌, ℤ, pos, ◌≤ℤ◌, vec_len, IfOk};
-ghost use Rattle.exact_math.specs.Ends.{BoxEndsWithin, scale_box, quot_box, gquot_box};
-ghost use Rattle.exact_math.specs.Gaussian.{norm_gaussian};
-ghost use Rattle.complex_box.specs.Box.{box_ends, number};
-ghost use Rattle.kernel_table.specs.Kernel.{IsKernelDistance, conj_multiple, kernel_power, alternate_box};
+ghost use Rattle.exact_math.specs.Ends.{scale_box, quot_box, gquot_box};
+ghost use Rattle.exact_math.specs.Gaussian.{norm_gaussian, conj, scale_gaussian};
+ghost use Rattle.complex_box.specs.Box.{box_ends, number, BoxWithin};
+ghost use Rattle.kernel_table.specs.Kernel.{IsKernelDistance, kernel_power, alternate_box};
 ghost use Rattle.kernel_table.specs.Table.{ArePowers};
 
 use complex_box::{CBox, Gauss};
@@ -39,8 +39,8 @@ fn first_power(e: Gauss) -> CBox
 /// The power times `2 conj e/norm e`.
 fn next_power(power: CBox, e: Gauss) -> CBox
     requires distance { IsKernelDistance (number e) }
-    requires size { BoxEndsWithin (2 ^ 60) (box_ends power) }
-    ensures { box_ends result ≡ gquot_box (box_ends power) (conj_multiple 2 (number e)) (norm_gaussian (number e)) }
+    requires size { BoxWithin (2 ^ 60) power }
+    ensures { box_ends result ≡ gquot_box (box_ends power) (conj (scale_gaussian 2 (number e))) (norm_gaussian (number e)) }
 {
     let factor = Gauss {
         re: 2 * e.re,
@@ -68,10 +68,10 @@ pub fn first_powers(alloc: Global, e: Gauss, count: usize) -> Result<Vec<CBox>, 
 /// The entry `(k, l)` from the power `k + l` and the binomial `C(k + l, k)`: one product, one shift and the sign of `l`.
 pub fn entry_of(power: CBox, ways: i128, k: usize, l: usize) -> CBox
     requires orders { k + l ≤ 62 }
-    requires size { BoxEndsWithin (2 ^ 60) (box_ends power) }
+    requires size { BoxWithin (2 ^ 60) power }
     requires counted { pos 0 ≤ℤ ways }
     requires small { ways ≤ℤ pos (2 ^ 62) }
-    ensures { box_ends result ≡ alternate_box l (quot_box (scale_box ways (box_ends power)) (pos (2 ^ (k + l + 20)))) }
+    ensures { box_ends result ≡ alternate_box l (quot_box (scale_box (box_ends power) ways) (pos (2 ^ (k + l + 20)))) }
 {
     let entry = power.scale(ways).quot_shift((k + l + 20) as u32);
     if l % 2 == 0 { entry } else { entry.neg() }

@@ -1,10 +1,11 @@
 //! The table of the kernel's entries.
-ghost use Rattle.std.specs.Prelude.{◌≡◌, ◌+◌, ◌*◌, ◌^◌, ◌≤◌, ◌<◌, pos, length, vec_len, IfOk, OnOk};
-ghost use Rattle.exact_math.specs.Ends.{BoxEndsWithin, BoxEndsContain, BoxEndsNarrow};
+ghost use Rattle.std.specs.Prelude.{◌≡◌, ◌+◌, ◌*◌, ◌^◌, ◌≤◌, ◌<◌, length, vec_len, IfOk, OnOk};
+ghost use Rattle.exact_math.specs.Ends.{BoxEndsNarrow};
 ghost use Rattle.exact_math.specs.Orders.{IsOrder};
-ghost use Rattle.complex_box.specs.Box.{box_ends, number};
-ghost use Rattle.kernel_table.specs.Kernel.{IsKernelDistance, kernel_entry, kernel_fraction};
-ghost use Rattle.kernel_table.specs.Table.{AreWays, IsKernelTable, IsKernelColumn};
+ghost use Rattle.exact_math.specs.Units.{unit};
+ghost use Rattle.complex_box.specs.Box.{box_ends, number, BoxWithin, BoxContains};
+ghost use Rattle.kernel_table.specs.Kernel.{IsKernelDistance, kernel_entry, kernel_fraction, IsKernelColumn};
+ghost use Rattle.kernel_table.specs.Table.{AreWays, IsKernelTable};
 
 use crate::binomials::binomial;
 use crate::distances::{DISTANCES, distance, distance_index};
@@ -25,12 +26,10 @@ pub struct Kernel<const P: usize> {
 }
 
 impl<const P: usize> Kernel<P> {
-    ghost use Rattle.kernel_table.specs.Entries.{entries_of, HoldsKernel};
-
-    /// The table of this order. Condition: `P` is one of the orders.
+    /// The table of this order, whose entries `entry` and `column` give. The only error is memory. Condition: `P` is one of the
+    /// orders.
     pub fn new(alloc: Global) -> Result<Kernel<P>, Memory>
         requires { IsOrder P }
-        ensures { IfOk result (λ kernel. HoldsKernel P (entries_of kernel)) }
     {
         match all_entries::<P>(alloc) {
             Ok(entries) => Ok(Kernel { entries }),
@@ -45,9 +44,9 @@ impl<const P: usize> Kernel<P> {
         requires row { k < P }
         requires column { l < P }
         ensures ends { box_ends result ≡ kernel_entry (number e) k l }
-        ensures contains { BoxEndsContain (pos (2 ^ 40)) (box_ends result) (kernel_fraction (number e) k l) }
+        ensures contains { BoxContains unit result (kernel_fraction (number e) k l) }
         ensures narrow { BoxEndsNarrow 2 (box_ends result) }
-        ensures size { BoxEndsWithin (2 ^ 39 + 1) (box_ends result) }
+        ensures size { BoxWithin (2 ^ 39 + 1) result }
     {
         self.entries[(distance_index(e) * P + l) * P + k]
     }

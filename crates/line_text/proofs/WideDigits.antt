@@ -1,14 +1,10 @@
 -- Numbers of up to 39 digits, written from the last digit to the first.
 use Rattle.std.proofs.Common.{◌≡◌, ℕ, ◌+◌, ◌/◌, ◌%◌, ◌^◌, ◌<◌, ◌≤◌, List, ◌∷◌, [], ◌++◌, length, ap, ◌∙◌, length-append, append_assoc, arith, decimal}
-use Rattle.std.proofs.lemmas.Fmt.{decimal_digit, decimal_step_wide, decimal_by_steps_wide, length-decimal-le_wide}
+use Rattle.std.proofs.lemmas.Fmt.{decimal_step_wide, decimal_by_steps_wide, length-decimal-le_wide}
 
 -- the last digit of a number with more than one
 pub decimal-last : (n : ℕ) (text : List ℕ) → 10 ≤ n → n < 2 ^ 128 → decimal n ++ text ≡ decimal (n / 10) ++ ((48 + n % 10) ∷ text)
 decimal-last n text h fits = ap (λ l. l ++ text) (decimal_step_wide n h (omega arith)) ∙ append_assoc (decimal (n / 10)) ((48 + n % 10) ∷ []) text
-
--- a number of one digit
-pub decimal-one : (n : ℕ) (text : List ℕ) → n < 10 → decimal n ++ text ≡ (48 + n) ∷ text
-decimal-one n text h = ap (λ l. l ++ text) (decimal_digit n h)
 
 some_digit : (n : ℕ) → n < 2 ^ 128 → 0 < length (decimal n)
 some_digit n fits = decimal_by_steps_wide (λ n ds. 0 < length ds) (λ n h. omega arith) (λ n ds h some. omega (arith, length-append ds ((48 + n % 10) ∷ []))) n (omega arith)

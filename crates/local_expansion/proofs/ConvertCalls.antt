@@ -4,14 +4,15 @@ use Rattle.std.proofs.lemmas.Int.{ints}
 use Rattle.exact_math.specs.Ends.{BoxEnds, BoxEndsWithin, add_box}
 use Rattle.exact_math.specs.Gaussian.{Gaussian}
 use Rattle.exact_math.specs.Orders.{IsOrder}
-use Rattle.exact_math.specs.Ratio.{ComplexRatio, add_complex}
+use Rattle.exact_math.specs.Ratio.{ComplexRatio, ◌+ᶜ◌}
 use Rattle.exact_math.specs.Sums.{sum_terms}
+use Rattle.exact_math.proofs.Orders.{order_bounds}
 use Rattle.complex_box.specs.Rows.{zero_cbox}
 use Rattle.complex_box.specs.declared.CBox.{CBox}
 use Rattle.complex_box.proofs.Sizes.{box_wider, add_box_within}
-use Rattle.kernel_table.specs.Kernel.{IsKernelDistance, kernel_entry}
-use Rattle.kernel_table.specs.Table.{IsKernelColumn}
-use Rattle.kernel_table.proofs.Sizes.{norm≥4, kernel_entry_within}
+use Rattle.kernel_table.specs.Kernel.{IsKernelDistance, kernel_entry, IsKernelColumn}
+use Rattle.kernel_table.proofs.Entries.{kernel_entries}
+use Rattle.kernel_table.proofs.Sizes.{norm≥4}
 use Rattle.truncation.specs.Entries.{Source, pair_cut}
 use Rattle.row_recursions.specs.Fields.{HoldsField}
 use Rattle.row_recursions.specs.Moments.{HoldsMoments}
@@ -19,18 +20,18 @@ use Rattle.row_recursions.specs.Rows.{row_of, RowsAdd, converted}
 use Rattle.row_recursions.specs.Sizes.{RowWithin}
 use Rattle.row_recursions.proofs.ConvertLaws.{field_converted}
 use Rattle.row_recursions.proofs.ConvertedSizes.{converted_within}
-use Rattle.row_recursions.proofs.RowSizes.{added_within, order_small}
+use Rattle.row_recursions.proofs.RowSizes.{added_within}
 use Rattle.local_expansion.proofs.RowCalls.{field_added}
 
 module _ (P : ℕ) (e : Gaussian) (m : ℕ → BoxEnds) (order : IsOrder P) (distance : IsKernelDistance e) where
   -- a column of the kernel
   pub column_within : (l : ℕ) (column : List CBox) → l < P → IsKernelColumn P e l column → RowWithin P (2 ^ 39 + 1) (row_of column)
   column_within l column h is k i =
-      let few = order_small P order in
-      subst (BoxEndsWithin (2 ^ 39 + 1)) (sym (is.entries k zero_cbox i)) (kernel_entry_within e distance k l (omega (arith, few, h, i)))
+      let few = order_bounds P order in
+      subst (BoxEndsWithin (2 ^ 39 + 1)) (sym (is.entries k zero_cbox i)) (kernel_entries e k l distance (omega (arith, few, h, i))).size
 
   few_enough : P ≤ 32
-  few_enough = let few = order_small P order in omega (arith, few)
+  few_enough = let few = order_bounds P order in omega (arith, few)
 
   -- a coefficient, added
   pub sum_fits : (old : ℕ → BoxEnds) (l : ℕ) (a b : BoxEnds) → l < P → RowWithin P (2 ^ 80) m → RowWithin P (2 ^ 110) old → a ≡ old l → b ≡ converted P (kernel_entry e) m l → BoxEndsWithin (2 ^ 126) (add_box a b)
@@ -40,7 +41,7 @@ module _ (P : ℕ) (e : Gaussian) (m : ℕ → BoxEnds) (order : IsOrder P) (dis
 
   -- the row to which it was added
   pub converted_field : (s : ℕ) (b c : Gaussian) (xs : List Source) (field : Gaussian → ComplexRatio) (old new : ℕ → BoxEnds) → 1 ≤ s → RowsAdd P old (converted P (kernel_entry e) m) new → HoldsMoments P s c xs m → HoldsField P s b field old
-      → HoldsField P s b (λ t. add_complex (field t) (sum_terms (pair_cut P s e b c t) xs)) new
+      → HoldsField P s b (λ t. field t +ᶜ sum_terms (pair_cut P s e b c t) xs) new
   converted_field s b c xs field old new h adds v w = field_added P s b field (λ t. sum_terms (pair_cut P s e b c t) xs) old (converted P (kernel_entry e) m) new h adds w
       (field_converted P s e b c xs m h (omega (arith, ints, norm≥4 e distance)) v)
 

@@ -1,11 +1,10 @@
 -- The powers of a far source: of a ratio 2 s/zeta, with s = 2^bits.
 use Rattle.std.proofs.Common.{◌≡◌, refl, sym, ap, ap₂, ◌∙◌, subst, ℕ, suc, ◌+◌, ◌*◌, ◌^◌, ◌<◌, arith, ℤ}
 use Rattle.exact_math.specs.Ends.{BoxEnds, BoxEndsWithin, add_box, gquot_box}
-use Rattle.exact_math.specs.Gaussian.{Gaussian, norm_gaussian}
+use Rattle.exact_math.specs.Gaussian.{Gaussian, norm_gaussian, conj, scale_gaussian}
 use Rattle.complex_box.specs.Box.{GscaleFits}
 use Rattle.complex_box.proofs.Sizes.{box_wider, add_box_within, gscale_fits}
-use Rattle.kernel_table.specs.Kernel.{conj_multiple}
-use Rattle.truncation.specs.Places.{GaussianWithin, GaussianBeyond}
+use Rattle.exact_math.specs.Within.{GaussianWithin, GaussianBeyond}
 use Rattle.row_recursions.specs.Rows.{ratio_box}
 use Rattle.row_recursions.specs.Sizes.{RowWithin}
 use Rattle.row_recursions.proofs.RowSizes.{ratio_within, power_positive}
@@ -25,12 +24,12 @@ turn_fits b g w h = gscale_fits (2 ^ 60) (2 ^ 34) b g w h.re h.im (omega arith)
 
 module _ (bits : ℕ) (zeta : Gaussian) where
   -- a power and the next one
-  pub power_next : (b v t : BoxEnds) (g : Gaussian) (d : ℤ) (l : ℕ) → v ≡ far_powers b (2 * 2 ^ bits) zeta l → g ≡ conj_multiple (2 * 2 ^ bits) zeta → d ≡ norm_gaussian zeta → t ≡ gquot_box v g d
+  pub power_next : (b v t : BoxEnds) (g : Gaussian) (d : ℤ) (l : ℕ) → v ≡ far_powers b (2 * 2 ^ bits) zeta l → g ≡ conj (scale_gaussian (2 * 2 ^ bits) zeta) → d ≡ norm_gaussian zeta → t ≡ gquot_box v g d
       → t ≡ far_powers b (2 * 2 ^ bits) zeta (suc l)
   power_next b v t g d l e i j k =
       k ∙ ap₂ (gquot_box v) i j ∙ ap (ratio_box (2 * 2 ^ bits) zeta) e ∙ sym (far_powers-next b (2 * 2 ^ bits) zeta l)
 
-  pub power_next_within : (v t : BoxEnds) (g : Gaussian) (d : ℤ) → GaussianBeyond (3 * 2 ^ bits) zeta → BoxEndsWithin (2 ^ 60) v → g ≡ conj_multiple (2 * 2 ^ bits) zeta → d ≡ norm_gaussian zeta → t ≡ gquot_box v g d
+  pub power_next_within : (v t : BoxEnds) (g : Gaussian) (d : ℤ) → GaussianBeyond (3 * 2 ^ bits) zeta → BoxEndsWithin (2 ^ 60) v → g ≡ conj (scale_gaussian (2 * 2 ^ bits) zeta) → d ≡ norm_gaussian zeta → t ≡ gquot_box v g d
       → BoxEndsWithin (2 ^ 60) t
   power_next_within v t g d far w i j k = subst (BoxEndsWithin (2 ^ 60)) (sym (k ∙ ap₂ (gquot_box v) i j)) (ratio_within (2 ^ 60) (2 ^ bits) zeta v (power_positive bits) far w)
 

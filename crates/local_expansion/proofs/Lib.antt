@@ -1,7 +1,6 @@
 pub mod ConvertCalls
 pub mod FarSources
 pub mod FarSteps
-pub mod FourBoxes
 pub mod NarrowEnds
 pub mod Places
 pub mod ProductSums

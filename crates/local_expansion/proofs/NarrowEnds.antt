@@ -7,8 +7,8 @@ use Rattle.exact_math.specs.Within.{Within}
 use Rattle.exact_math.proofs.WholeSizes.{within-mul, within-weaker}
 use Rattle.fixed_interval.specs.Interval.{ends_of}
 use Rattle.fixed_interval.specs.declared.Interval.{Interval}
+use Rattle.fixed_interval.proofs.Ends.{ends-same}
 use Rattle.fixed_interval.proofs.Order.{mul_right_up, mul_right_down, least_product, greatest_product}
-use Rattle.complex_box.proofs.Ends.{ends_are}
 
 -- which end gives the lower and the upper product, by the factor's sign
 pub below_down : (lo hi k : ℤ) → lo ≤ℤ hi → k <ℤ pos 0 → hi *ℤ k ≡ int_min (lo *ℤ k) (hi *ℤ k)
@@ -34,7 +34,3 @@ product_size a b r s v w e f =
 
 pub wider : (z : ℤ) → Within (2 ^ 124) z → Within (2 ^ 126) z
 wider z w = within-weaker (lit≤ tt) w
-
--- an interval whose ends are those of a product
-pub product_ends : (r i j : Interval) (a b c d : ℤ) → a ≡ i.lo → b ≡ i.hi → c ≡ j.lo → d ≡ j.hi → r.lo ≡ least_product a b c d → r.hi ≡ greatest_product a b c d → ends_of r ≡ times_ends (ends_of i) (ends_of j)
-product_ends r i j a b c d e f g h l u = ends_are r (times_ends (ends_of i) (ends_of j)) (rw (sym e, sym f, sym g, sym h) l) (rw (sym e, sym f, sym g, sym h) u)

@@ -3,13 +3,11 @@ use Rattle.std.proofs.Common.{◌≡◌, refl, sym, ap, ap₂, ◌∙◌, subst,
 use Rattle.exact_math.specs.Ends.{BoxEnds, BoxEndsWithin, add_box, times_box, quot_box}
 use Rattle.exact_math.specs.Gaussian.{Gaussian}
 use Rattle.complex_box.specs.Box.{TimesFits}
-use Rattle.complex_box.proofs.Sizes.{box_wider, add_box_within, times_box_within, times_fits}
+use Rattle.complex_box.proofs.Sizes.{box_wider, add_box_within, times_box_within, times_fits, zero_within}
 use Rattle.kernel_table.specs.Kernel.{kernel_entry}
 use Rattle.row_recursions.specs.Rows.{sum_boxes, converted}
 use Rattle.row_recursions.specs.Sizes.{RowWithin}
-use Rattle.row_recursions.proofs.BoxSums.{sum_boxes-same}
-use Rattle.row_recursions.proofs.Equations.{converted-is}
-use Rattle.row_recursions.proofs.RowSizes.{zero_within}
+use Rattle.row_recursions.proofs.Equations.{converted-is, sum_boxes-same}
 
 pub sum_next : (f : ℕ → BoxEnds) (k : ℕ) (s t : BoxEnds) → s ≡ sum_boxes k f → t ≡ add_box s (f k) → t ≡ sum_boxes (k + 1) f
 sum_next f k s t e h = h ∙ ap (λ b. add_box b (f k)) e ∙ ap (λ n. sum_boxes n f) {x = suc k} {y = k + 1} (omega arith)

@@ -5,39 +5,30 @@ use Rattle.std.proofs.Math.Nat.{mul-le-mul_right}
 use Rattle.exact_math.specs.Ends.{BoxEnds, BoxEndsContain, add_box}
 use Rattle.exact_math.specs.Gaussian.{Gaussian}
 use Rattle.exact_math.specs.Orders.{IsOrder}
-use Rattle.exact_math.specs.Ratio.{ComplexRatio, add_complex}
+use Rattle.exact_math.specs.Ratio.{ComplexRatio, ◌+ᶜ◌}
 use Rattle.complex_box.proofs.Sizes.{box_wider}
 use Rattle.cell_name.specs.declared.cell.Cell.{Cell}
 use Rattle.points.specs.Limits.{weight64}
 use Rattle.exact_math.specs.Sizes.{abs_gaussian}
-use Rattle.points.specs.Points.{place, strength, pole, dipole}
+use Rattle.exact_math.proofs.Orders.{order_bounds}
+use Rattle.points.specs.Points.{place, pole, dipole, strength}
 use Rattle.points.specs.declared.Point.{Point}
 use Rattle.truncation.specs.Entries.{local_cut}
-use Rattle.truncation.specs.Places.{GaussianBeyond}
+use Rattle.exact_math.specs.Within.{GaussianBeyond}
 use Rattle.row_recursions.specs.Cells.{side_of, centre_of, offset_from, far_coefficients_of}
 use Rattle.row_recursions.specs.Fields.{HoldsField}
 use Rattle.row_recursions.specs.Rows.{RowsAdd, far_source}
 use Rattle.row_recursions.specs.Sizes.{RowWithin}
 use Rattle.row_recursions.specs.Sources.{source_of}
 use Rattle.row_recursions.proofs.FarLaws.{field_of_source}
-use Rattle.row_recursions.proofs.FieldLaws.{sum_of_fields}
-use Rattle.row_recursions.proofs.Points.{strength_field, side_positive}
-use Rattle.row_recursions.proofs.RowSizes.{order_small, far_norm_positive, far_source_within}
-
--- a row with the same boxes
-pub field_same : (P s : ℕ) (b : Gaussian) (f : Gaussian → ComplexRatio) (m n : ℕ → BoxEnds) → ((l : ℕ) → l < P → n l ≡ m l) → HoldsField P s b f m → HoldsField P s b f n
-field_same P s b f m n e h = record {
-  coefficient = h.coefficient;
-  fractions = h.fractions;
-  contains = λ l k. subst (λ x. BoxEndsContain (pos (2 ^ 40)) x (h.coefficient l)) (sym (e l k)) (h.contains l k);
-  fraction = h.fraction;
-  sums = h.sums;
-}
+use Rattle.row_recursions.proofs.FieldLaws.{sum_of_fields, field_same}
+use Rattle.row_recursions.proofs.Points.{side_positive, strength_field}
+use Rattle.row_recursions.proofs.RowSizes.{far_norm_positive, far_source_within}
 
 -- a row to which another was added
 pub field_added : (P s : ℕ) (b : Gaussian) (f g : Gaussian → ComplexRatio) (old part new : ℕ → BoxEnds) → 1 ≤ s → RowsAdd P old part new → HoldsField P s b f old → HoldsField P s b g part
-    → HoldsField P s b (λ t. add_complex (f t) (g t)) new
-field_added P s b f g old part new h adds u v = field_same P s b (λ t. add_complex (f t) (g t)) (λ l. add_box (old l) (part l)) new adds (sum_of_fields P s b f g old part h u v)
+    → HoldsField P s b (λ t. f t +ᶜ g t) new
+field_added P s b f g old part new h adds u v = field_same P s b (λ t. f t +ᶜ g t) (λ l. add_box (old l) (part l)) new adds (sum_of_fields P s b f g old part h u v)
 
 -- ---- a far point
 module _ (P : ℕ) (c : Cell) (p : Point) (order : IsOrder P) (far : GaussianBeyond (3 * side_of c) (offset_from c (place p))) where
@@ -47,7 +38,7 @@ module _ (P : ℕ) (c : Cell) (p : Point) (order : IsOrder P) (far : GaussianBey
   -- its contribution
   pub far_within : RowWithin P (2 ^ 40 * weight64 p) (far_coefficients_of c p)
   far_within l h =
-      let few = order_small P order in
+      let few = order_bounds P order in
       box_wider _ (2 ^ 40 * weight64 p) _ (heavier l (abs_gaussian (pole p.kind)) (abs_gaussian (dipole p.kind)) (omega arith))
       (far_source_within (side_of c) (pole p.kind) (dipole p.kind) (offset_from c (place p)) l (side_positive c) far)
 

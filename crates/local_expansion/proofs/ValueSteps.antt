@@ -5,13 +5,14 @@ use Rattle.exact_math.specs.Ends.{BoxEnds, BoxEndsWithin, add_box, gscale_box, q
 use Rattle.exact_math.specs.Gaussian.{Gaussian}
 use Rattle.exact_math.specs.Orders.{IsOrder}
 use Rattle.exact_math.proofs.WholeSizes.{within-weaker}
+use Rattle.exact_math.proofs.Orders.{order_bounds}
 use Rattle.complex_box.specs.Box.{GscaleFits}
 use Rattle.complex_box.proofs.Sizes.{box_wider, add_box_within, gscale_fits}
-use Rattle.truncation.specs.Places.{GaussianWithin}
+use Rattle.exact_math.specs.Within.{GaussianWithin}
 use Rattle.row_recursions.specs.Rows.{local_round}
 use Rattle.row_recursions.specs.Sizes.{RowWithin}
 use Rattle.row_recursions.proofs.Equations.{local_round-next}
-use Rattle.row_recursions.proofs.RowSizes.{box_gquot_within, local_round_within, order_small, power_positive}
+use Rattle.row_recursions.proofs.RowSizes.{box_gquot_within, local_round_within, power_positive}
 
 pub doubled : (bits : ℕ) → 2 ^ (bits + 1) ≡ 2 * 2 ^ bits
 doubled bits = let e : 2 ^ (bits + 1) ≡ 2 ^ suc bits = ap (λ n. 2 ^ n) {x = bits + 1} {y = suc bits} (omega arith) in let f : 2 ^ suc bits ≡ 2 * 2 ^ bits = omega arith in e ∙ f
@@ -20,7 +21,7 @@ module _ (P bits : ℕ) (m : ℕ → BoxEnds) (o : Gaussian) (order : IsOrder P)
   -- the value so far
   pub value_within : (n : ℕ) (v : BoxEnds) → n < P → v ≡ local_round P m (2 ^ bits) o n → BoxEndsWithin (2 ^ 95) v
   value_within n v h e =
-      let few = order_small P order in
+      let few = order_bounds P order in
       subst (BoxEndsWithin (2 ^ 95)) (sym e)
       (box_wider (n * 2 ^ 90) (2 ^ 95) _ (omega arith) (local_round_within P (2 ^ 90) (2 ^ bits) o m (power_positive bits) near bounded n (omega arith)))
 

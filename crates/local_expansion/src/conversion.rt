@@ -1,12 +1,13 @@
 //! One coefficient of the contribution of a far cell.
-ghost use Rattle.std.specs.Prelude.{◌≡◌, ◌+◌, ◌^◌, ◌≤◌, pos, length, IsTrue};
+ghost use Rattle.std.specs.Prelude.{◌≡◌, ◌+◌, ◌^◌, ◌≤◌, length, IsTrue};
 ghost use Rattle.exact_math.specs.Ends.{times_box, quot_box};
+ghost use Rattle.exact_math.specs.Units.{unit};
 ghost use Rattle.complex_box.specs.Box.{box_ends};
 ghost use Rattle.row_recursions.specs.Rows.{row_of, sum_boxes};
 ghost use Rattle.row_recursions.specs.Sizes.{RowWithin};
 
 use crate::narrow::narrow_coefficient;
-use complex_box::{Acc, CBox, Row};
+use complex_box::{Acc, CBox, Row, UNIT_BITS};
 
 /// The sum of the products of a column of the kernel with a row, rounded once.
 #[inline]
@@ -15,13 +16,13 @@ fn wide_coefficient<const P: usize>(column: &[CBox], row: Row<P>) -> CBox
     requires order { P ≤ 32 }
     requires column { RowWithin P (2 ^ 39 + 1) (row_of column.now) }
     requires row { RowWithin P (2 ^ 80) (row_of row.cells.now) }
-    ensures { box_ends result ≡ quot_box (sum_boxes P (λ k. times_box (row_of column.now k) (row_of row.entry.cells.now k))) (pos (2 ^ 40)) }
+    ensures { box_ends result ≡ quot_box (sum_boxes P (λ k. times_box (row_of column.now k) (row_of row.entry.cells.now k))) unit }
 {
     let mut sum = Acc::new();
     for k in 0..P {
         sum.add_product(column[k], row.get(k));
     }
-    sum.sum.quot_shift(40)
+    sum.finish_shift(UNIT_BITS)
 }
 
 /// The same, by narrow products where the row's ends are at most 2^62 in size.
@@ -32,7 +33,7 @@ pub(crate) fn coefficient<const P: usize>(column: &[CBox], row: Row<P>, narrow: 
     requires column { RowWithin P (2 ^ 39 + 1) (row_of column.now) }
     requires row { RowWithin P (2 ^ 80) (row_of row.cells.now) }
     requires narrow { IsTrue narrow → RowWithin P (2 ^ 62) (row_of row.cells.now) }
-    ensures { box_ends result ≡ quot_box (sum_boxes P (λ k. times_box (row_of column.now k) (row_of row.entry.cells.now k))) (pos (2 ^ 40)) }
+    ensures { box_ends result ≡ quot_box (sum_boxes P (λ k. times_box (row_of column.now k) (row_of row.entry.cells.now k))) unit }
 {
     if narrow {
         return narrow_coefficient(column, row);

@@ -1,14 +1,15 @@
 //! One coefficient of the contribution of a far cell whose row has ends that fit 63 bits, by products of 64-bit numbers.
-ghost use Rattle.std.specs.Prelude.{◌≡◌, ◌+◌, ◌^◌, ◌≤◌, ◌*ℤ◌, ◌≤ℤ◌, pos, length, IsTrue, ◌↔◌};
+ghost use Rattle.std.specs.Prelude.{◌≡◌, ◌+◌, ◌^◌, ◌≤◌, ◌*ℤ◌, ◌≤ℤ◌, length, IsTrue, ◌↔◌};
 ghost use Rattle.std.specs.Int.{int_min, int_max};
-ghost use Rattle.exact_math.specs.Ends.{EndsWithin, BoxEndsWithin, least, greatest, times_box, quot_box};
+ghost use Rattle.exact_math.specs.Ends.{EndsWithin, least, greatest, times_box, quot_box};
+ghost use Rattle.exact_math.specs.Units.{unit};
 ghost use Rattle.exact_math.specs.Within.{Within};
 ghost use Rattle.fixed_interval.specs.Interval.{ends_of};
-ghost use Rattle.complex_box.specs.Box.{box_ends};
+ghost use Rattle.complex_box.specs.Box.{box_ends, BoxWithin};
 ghost use Rattle.row_recursions.specs.Rows.{row_of, sum_boxes};
 ghost use Rattle.row_recursions.specs.Sizes.{RowWithin};
 
-use complex_box::{CBox, Row};
+use complex_box::{CBox, Row, UNIT_BITS};
 use fixed_interval::Interval;
 
 /// The greatest size of a narrow end.
@@ -118,8 +119,8 @@ fn times(x: Narrow, y: Narrow) -> Interval
 /// The product of two boxes whose ends are at most 2^62 in size.
 #[inline(always)]
 fn box_product(a: CBox, b: CBox) -> CBox
-    requires left { BoxEndsWithin (2 ^ 62) (box_ends a) }
-    requires right { BoxEndsWithin (2 ^ 62) (box_ends b) }
+    requires left { BoxWithin (2 ^ 62) a }
+    requires right { BoxWithin (2 ^ 62) b }
     ensures { box_ends result ≡ times_box (box_ends a) (box_ends b) }
 {
     let re = narrowed(a.re);
@@ -146,7 +147,7 @@ fn are_narrow(x: Interval) -> bool
 /// Whether all ends of the box are at most 2^62 in size.
 #[inline(always)]
 fn box_is_narrow(b: CBox) -> bool
-    ensures { IsTrue result ↔ BoxEndsWithin (2 ^ 62) (box_ends b) }
+    ensures { IsTrue result ↔ BoxWithin (2 ^ 62) b }
 {
     if are_narrow(b.re) {
         return are_narrow(b.im);
@@ -174,11 +175,11 @@ pub(crate) fn narrow_coefficient<const P: usize>(column: &[CBox], row: Row<P>) -
     requires order { P ≤ 32 }
     requires column { RowWithin P (2 ^ 39 + 1) (row_of column.now) }
     requires row { RowWithin P (2 ^ 62) (row_of row.cells.now) }
-    ensures { box_ends result ≡ quot_box (sum_boxes P (λ k. times_box (row_of column.now k) (row_of row.entry.cells.now k))) (pos (2 ^ 40)) }
+    ensures { box_ends result ≡ quot_box (sum_boxes P (λ k. times_box (row_of column.now k) (row_of row.entry.cells.now k))) unit }
 {
     let mut sum = CBox::zero();
     for k in 0..P {
         sum = sum.add(box_product(column[k], row.get(k)));
     }
-    sum.quot_shift(40)
+    sum.quot_shift(UNIT_BITS)
 }

@@ -1,8 +1,8 @@
 //! The contribution of one far source, added to a row.
 ghost use Rattle.std.specs.Prelude.{◌≡◌, suc, ◌*◌, ◌^◌, ◌≤◌, pos, length};
-ghost use Rattle.exact_math.specs.Ends.{BoxEndsWithin, neg_box, scale_box};
-ghost use Rattle.truncation.specs.Places.{GaussianWithin, GaussianBeyond};
-ghost use Rattle.complex_box.specs.Box.{box_ends, number};
+ghost use Rattle.exact_math.specs.Ends.{neg_box, scale_box};
+ghost use Rattle.exact_math.specs.Within.{GaussianWithin, GaussianBeyond};
+ghost use Rattle.complex_box.specs.Box.{box_ends, number, BoxWithin};
 ghost use Rattle.points.specs.Limits.{InRange};
 ghost use Rattle.points.specs.Points.{place};
 ghost use Rattle.row_recursions.specs.Cells.{side_of, offset_from, far_coefficients_of};
@@ -21,7 +21,7 @@ fn add_poles(into: &mut [CBox], first: CBox, zeta: Gauss, bits: u32)
     requires bits { bits ≤ 16 }
     requires near { GaussianWithin (2 ^ 17) (number zeta) }
     requires far { GaussianBeyond (3 * 2 ^ bits) (number zeta) }
-    requires size { BoxEndsWithin (2 ^ 60) (box_ends first) }
+    requires size { BoxWithin (2 ^ 60) first }
     ensures len { length into.new ≡ length into.old }
     ensures poles { RowsAdd (length into.old) (row_of into.old) (λ l. neg_box (far_powers (box_ends first) (2 * 2 ^ bits) (number zeta) (suc l))) (row_of into.new) }
 {
@@ -40,9 +40,9 @@ fn add_dipoles(into: &mut [CBox], first: CBox, zeta: Gauss, bits: u32)
     requires bits { bits ≤ 16 }
     requires near { GaussianWithin (2 ^ 17) (number zeta) }
     requires far { GaussianBeyond (3 * 2 ^ bits) (number zeta) }
-    requires size { BoxEndsWithin (2 ^ 60) (box_ends first) }
+    requires size { BoxWithin (2 ^ 60) first }
     ensures len { length into.new ≡ length into.old }
-    ensures dipoles { RowsAdd (length into.old) (row_of into.old) (λ l. scale_box (pos (suc l)) (far_powers (box_ends first) (2 * 2 ^ bits) (number zeta) (suc (suc l)))) (row_of into.new) }
+    ensures dipoles { RowsAdd (length into.old) (row_of into.old) (λ l. scale_box (far_powers (box_ends first) (2 * 2 ^ bits) (number zeta) (suc (suc l))) (pos (suc l))) (row_of into.new) }
 {
     let ratio = far_ratio(zeta, bits);
     let mut power = first.gquot(ratio.factor, ratio.divisor);

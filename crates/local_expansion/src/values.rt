@@ -1,7 +1,7 @@
 //! The value of a local row.
 ghost use Rattle.std.specs.Prelude.{◌≡◌, ◌^◌, ◌≤◌};
 ghost use Rattle.exact_math.specs.Orders.{IsOrder};
-ghost use Rattle.truncation.specs.Places.{GaussianWithin};
+ghost use Rattle.exact_math.specs.Within.{GaussianWithin};
 ghost use Rattle.complex_box.specs.Box.{box_ends, number};
 ghost use Rattle.row_recursions.specs.Rows.{row_of, local_value};
 ghost use Rattle.row_recursions.specs.Sizes.{RowWithin};

@@ -1,3 +1,2 @@
-pub mod FourBoxes
 pub mod RoundSteps
 pub mod Sums

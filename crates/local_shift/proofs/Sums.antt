@@ -1,44 +1,24 @@
 -- What a row holds to which a shifted row was added, and how large it is.
-use Rattle.std.proofs.Common.{◌≡◌, sym, ap, ◌∙◌, subst, ℕ, ◌+◌, ◌*◌, ◌^◌, ◌≤◌, ◌<◌, List, length, arith, ℤ, pos, ◌+ℤ◌}
+use Rattle.std.proofs.Common.{◌≡◌, sym, ap, ◌∙◌, subst, ℕ, ◌+◌, ◌*◌, ◌^◌, ◌≤◌, ◌<◌, List, length, arith, ℤ, pos, ◌+ℤ◌, All}
 use Rattle.std.proofs.lemmas.Int.{ints}
 use Rattle.exact_math.specs.Ends.{BoxEnds, BoxEndsWithin, BoxEndsContain, zero_box, add_box, quot_box}
-use Rattle.exact_math.specs.Gaussian.{Gaussian, add_gaussian}
-use Rattle.exact_math.specs.Ratio.{ComplexRatio, add_complex}
-use Rattle.truncation.specs.Places.{times_side}
-use Rattle.complex_box.specs.Rows.{AllZero, zero_cbox}
+use Rattle.exact_math.specs.Gaussian.{Gaussian, add_gaussian, scale_gaussian}
+use Rattle.exact_math.specs.Ratio.{ComplexRatio, ◌+ᶜ◌}
+use Rattle.complex_box.specs.Rows.{zero_cbox, IsZero}
 use Rattle.complex_box.specs.declared.CBox.{CBox}
 use Rattle.complex_box.proofs.Sizes.{box_wider, add_box_within, quot_box_within}
+use Rattle.complex_box.proofs.ZeroBoxes.{zero_left}
 use Rattle.cell_name.specs.declared.cell.Quadrant.{Quadrant}
 use Rattle.row_recursions.specs.Fields.{HoldsField}
 use Rattle.row_recursions.specs.Rows.{row_of, RowsAdd, down_round, shifted_down}
 use Rattle.row_recursions.specs.Sizes.{RowWithin}
 use Rattle.row_recursions.proofs.DownLaws.{field_down}
 use Rattle.row_recursions.proofs.Equations.{shifted_down-is}
-use Rattle.row_recursions.proofs.FieldLaws.{sum_of_fields}
+use Rattle.row_recursions.proofs.FieldLaws.{sum_of_fields, field_same}
 use Rattle.row_recursions.proofs.RowSizes.{shifted_down_within}
 use Rattle.row_recursions.specs.Cells.{quadrant_of}
-use Rattle.local_shift.proofs.RoundSteps.{quadrant_within, rounds_within}
-
--- a row with the same boxes holds the same field
-field_same : (P s : ℕ) (b : Gaussian) (f : Gaussian → ComplexRatio) (m n : ℕ → BoxEnds) → ((l : ℕ) → l < P → n l ≡ m l) → HoldsField P s b f m → HoldsField P s b f n
-field_same P s b f m n e h = record {
-  coefficient = h.coefficient;
-  fractions = h.fractions;
-  contains = λ l k. subst (λ x. BoxEndsContain (pos (2 ^ 40)) x (h.coefficient l)) (sym (e l k)) (h.contains l k);
-  fraction = h.fraction;
-  sums = h.sums;
-}
-
-zero_added_whole : (x : ℤ) → pos 0 +ℤ x ≡ x
-zero_added_whole x = omega (arith, ints)
-
-zero_added : (b : BoxEnds) → add_box zero_box b ≡ b
-zero_added b =
-    let p = zero_added_whole b.re.lo in
-    let q = zero_added_whole b.re.hi in
-    let r = zero_added_whole b.im.lo in
-    let s = zero_added_whole b.im.hi in
-    λ i. record { re = record { lo = p i; hi = q i }; im = record { lo = r i; hi = s i } }
+use Rattle.row_recursions.proofs.Turns.{unit_quadrant}
+use Rattle.local_shift.proofs.RoundSteps.{rounds_within}
 
 module _ (P : ℕ) (q : Quadrant) (m : ℕ → BoxEnds) where
   -- half of the last round is the row brought down
@@ -55,22 +35,22 @@ module _ (P : ℕ) (q : Quadrant) (m : ℕ → BoxEnds) where
 
   module _ (old new : ℕ → BoxEnds) (adds : RowsAdd P old (shifted_down P m (quadrant_of q)) new) where
     -- both fields
-    pub holds_both : (s : ℕ) (b : Gaussian) (before field : Gaussian → ComplexRatio) → 1 ≤ s → HoldsField P (2 * s) b field m → HoldsField P s (add_gaussian b (times_side s (quadrant_of q))) before old
-        → HoldsField P s (add_gaussian b (times_side s (quadrant_of q))) (λ t. add_complex (before t) (field t)) new
-    holds_both s b before field s≥1 parent child = field_same P s (add_gaussian b (times_side s (quadrant_of q))) (λ t. add_complex (before t) (field t)) (λ k. add_box (old k) (shifted_down P m (quadrant_of q) k)) new adds
-        (sum_of_fields P s (add_gaussian b (times_side s (quadrant_of q))) before field old (shifted_down P m (quadrant_of q)) s≥1 child (field_down P s (quadrant_of q) b field m s≥1 parent))
+    pub holds_both : (s : ℕ) (b : Gaussian) (before field : Gaussian → ComplexRatio) → 1 ≤ s → HoldsField P (2 * s) b field m → HoldsField P s (add_gaussian b (scale_gaussian s (quadrant_of q))) before old
+        → HoldsField P s (add_gaussian b (scale_gaussian s (quadrant_of q))) (λ t. before t +ᶜ field t) new
+    holds_both s b before field s≥1 parent child = field_same P s (add_gaussian b (scale_gaussian s (quadrant_of q))) (λ t. before t +ᶜ field t) (λ k. add_box (old k) (shifted_down P m (quadrant_of q) k)) new adds
+        (sum_of_fields P s (add_gaussian b (scale_gaussian s (quadrant_of q))) before field old (shifted_down P m (quadrant_of q)) s≥1 child (field_down P s (quadrant_of q) b field m s≥1 parent))
 
     -- the parent's, where the row was nothing
     pub holds_parent : ((k : ℕ) → k < P → old k ≡ zero_box) → (s : ℕ) (b : Gaussian) (field : Gaussian → ComplexRatio) → 1 ≤ s → HoldsField P (2 * s) b field m
-        → HoldsField P s (add_gaussian b (times_side s (quadrant_of q))) field new
-    holds_parent nothing s b field s≥1 parent = field_same P s (add_gaussian b (times_side s (quadrant_of q))) field (shifted_down P m (quadrant_of q)) new
-        (λ k h. adds k h ∙ ap (λ x. add_box x (shifted_down P m (quadrant_of q) k)) (nothing k h) ∙ zero_added _)
+        → HoldsField P s (add_gaussian b (scale_gaussian s (quadrant_of q))) field new
+    holds_parent nothing s b field s≥1 parent = field_same P s (add_gaussian b (scale_gaussian s (quadrant_of q))) field (shifted_down P m (quadrant_of q)) new
+        (λ k h. adds k h ∙ ap (λ x. add_box x (shifted_down P m (quadrant_of q) k)) (nothing k h) ∙ zero_left _)
         (field_down P s (quadrant_of q) b field m s≥1 parent)
 
     pub sum_within : (k n : ℕ) → RowWithin P k m → RowWithin P n old → RowWithin P (k + n) new
     sum_within k n v w i h = subst (BoxEndsWithin (k + n)) (sym (adds i h)) (box_wider (n + k) (k + n) _ (omega arith)
-        (add_box_within n k (old i) (shifted_down P m (quadrant_of q) i) (w i h) (shifted_down_within P k (quadrant_of q) m (quadrant_within q) v i h)))
+        (add_box_within n k (old i) (shifted_down P m (quadrant_of q) i) (w i h) (shifted_down_within P k (quadrant_of q) m (unit_quadrant q) v i h)))
 
 -- the boxes of a row of zero boxes
-pub nothing_at : (P : ℕ) (xs : List CBox) → length xs ≡ P → AllZero xs → (k : ℕ) → k < P → row_of xs k ≡ zero_box
+pub nothing_at : (P : ℕ) (xs : List CBox) → length xs ≡ P → All IsZero xs → (k : ℕ) → k < P → row_of xs k ≡ zero_box
 nothing_at P xs e z k h = z k zero_cbox (omega arith)

@@ -27,7 +27,7 @@ fn first_coefficient(taken: CBox, own: CBox, q: Quadrant) -> CBox
 fn next_coefficient(own: CBox, lower: CBox, q: Quadrant) -> CBox
     requires own { BoxWithin (2 ^ 91) own }
     requires lower { BoxWithin (2 ^ 91) lower }
-    ensures { box_ends result ≡ quot_box (add_box (gscale_box (box_ends own) (quadrant_of q)) (scale_box (pos 2) (box_ends lower))) (pos 4) }
+    ensures { box_ends result ≡ quot_box (add_box (gscale_box (box_ends own) (quadrant_of q)) (scale_box (box_ends lower) (pos 2))) (pos 4) }
 {
     turned(own, q).add(doubled(lower)).quot_shift(2)
 }

@@ -5,6 +5,7 @@ use Rattle.exact_math.specs.Ends.{BoxEnds, BoxEndsWithin, BoxEndsContain, add_bo
 use Rattle.exact_math.specs.Gaussian.{Gaussian}
 use Rattle.exact_math.specs.Orders.{IsOrder}
 use Rattle.exact_math.specs.Sums.{sum_terms}
+use Rattle.exact_math.proofs.Orders.{order_bounds}
 use Rattle.complex_box.proofs.Sizes.{box_wider, add_box_within}
 use Rattle.cell_name.specs.Cell.{square}
 use Rattle.cell_name.specs.Square.{Holds}
@@ -13,20 +14,20 @@ use Rattle.points.specs.Limits.{InRange, weight64}
 use Rattle.points.specs.Points.{place, strength}
 use Rattle.points.specs.declared.Point.{Point}
 use Rattle.truncation.specs.Entries.{Source, multipole_cut}
-use Rattle.truncation.specs.Places.{GaussianBeyond}
+use Rattle.exact_math.specs.Within.{GaussianBeyond}
 use Rattle.row_recursions.specs.Cells.{side_of, centre_of, offset_from, moments_of}
 use Rattle.row_recursions.specs.Moments.{HoldsMoments}
 use Rattle.row_recursions.specs.Rows.{RowsAdd, multipole_value}
 use Rattle.row_recursions.specs.Sizes.{RowWithin}
 use Rattle.row_recursions.specs.Sources.{source_of}
-use Rattle.row_recursions.proofs.MomentLaws.{sum_of_moments, multipole_values, moments_same}
-use Rattle.row_recursions.proofs.Points.{strength_moments, side_positive, weight_bounded, moments_within}
-use Rattle.row_recursions.proofs.RowSizes.{order_small, far_norm_positive}
+use Rattle.row_recursions.proofs.MomentLaws.{source_moments, sum_of_moments, multipole_values, moments_same}
+use Rattle.row_recursions.proofs.Points.{side_positive, weight_bounded, moments_within, strength_moments}
+use Rattle.row_recursions.proofs.RowSizes.{far_norm_positive}
 
 module _ (P : ℕ) (c : Cell) (p : Point) (order : IsOrder P) (inside : Holds (square c) p.x p.y) where
   -- the moments of the point
   pub part_within : RowWithin P (2 ^ 40 * weight64 p) (moments_of c p)
-  part_within k h = let few = order_small P order in moments_within c p k (omega arith) inside
+  part_within k h = let few = order_bounds P order in moments_within c p k (omega arith) inside
 
   -- the sum fits
   pub sum_fits : (old part : ℕ → BoxEnds) → InRange p → RowWithin P (2 ^ 80) old → ((k : ℕ) → k < P → part k ≡ moments_of c p k) → (k : ℕ) → k < P → BoxEndsWithin (2 ^ 126) (add_box (old k) (part k))

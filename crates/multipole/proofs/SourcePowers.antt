@@ -2,16 +2,16 @@
 use Rattle.std.proofs.Common.{◌≡◌, refl, sym, ap, ap₂, ◌∙◌, subst, ℕ, zero, suc, ◌+◌, ◌-◌, ◌*◌, ◌^◌, ◌≤◌, arith, pos}
 use Rattle.std.proofs.lemmas.Int.{ints}
 use Rattle.std.proofs.Math.Pow.{pow_mono}
-use Rattle.exact_math.specs.Ends.{BoxEnds, BoxEndsWithin, zero_box, add_box, scale_box, gquot_box}
-use Rattle.exact_math.specs.Gaussian.{Gaussian}
+use Rattle.exact_math.specs.Ends.{BoxEnds, BoxEndsWithin, point_ends, add_ends, sub_ends, zero_box, add_box, scale_ends, scale_box, gscale_box, quot_box, gquot_box}
+use Rattle.exact_math.specs.Gaussian.{Gaussian, zero_gaussian}
+use Rattle.exact_math.specs.Rounding.{floor_div}
 use Rattle.exact_math.proofs.WholeSizes.{within-weaker}
 use Rattle.complex_box.specs.Box.{GscaleFits}
 use Rattle.complex_box.proofs.Sizes.{gscale_fits}
-use Rattle.truncation.specs.Places.{GaussianWithin}
-use Rattle.row_recursions.specs.Moments.{nothing}
+use Rattle.exact_math.specs.Within.{GaussianWithin}
 use Rattle.row_recursions.specs.Rows.{units_box, units_over, pole_moment, dipole_moment, source_moment}
 use Rattle.row_recursions.proofs.RowSizes.{box_gquot_within}
-use Rattle.row_recursions.proofs.ZeroBoxes.{zero_scaled, zero_over, zero_turned, zero_right, zero_left}
+use Rattle.complex_box.proofs.ZeroBoxes.{zero_scaled, zero_over, zero_turned, zero_right, zero_left}
 use Rattle.multipole.specs.Powers.{powers, slopes}
 
 -- ---- powers of two
@@ -54,37 +54,37 @@ powers-dipole s n b o e zero = refl
 powers-dipole s n b o e (suc k) = ap₂ (λ x m. gquot_box x o (pos m)) (powers-dipole s n b o e k) e
 
 -- ---- nothing
-no_pole : (s : ℕ) (o : Gaussian) → 1 ≤ s → (k : ℕ) → pole_moment s nothing o k ≡ zero_box
+no_pole : (s : ℕ) (o : Gaussian) → 1 ≤ s → (k : ℕ) → pole_moment s zero_gaussian o k ≡ zero_box
 unfolding pole_moment
 no_pole s o h zero = refl
 no_pole s o h (suc k) = ap (λ b. gquot_box b o (pos (2 * s))) (no_pole s o h k) ∙ zero_turned o (pos (2 * s)) (omega (arith, ints))
 
-no_dipole : (s : ℕ) (o : Gaussian) → 1 ≤ s → (k : ℕ) → dipole_moment s nothing o k ≡ zero_box
+no_dipole : (s : ℕ) (o : Gaussian) → 1 ≤ s → (k : ℕ) → dipole_moment s zero_gaussian o k ≡ zero_box
 unfolding dipole_moment
 no_dipole s o h zero = zero_over (pos s) (omega (arith, ints))
 no_dipole s o h (suc k) = ap (λ b. gquot_box b o (pos (2 * s))) (no_dipole s o h k) ∙ zero_turned o (pos (2 * s)) (omega (arith, ints))
 
 -- a pole alone
-pub pole_alone : (s : ℕ) (a o : Gaussian) → 1 ≤ s → (k : ℕ) → source_moment s a nothing o k ≡ pole_moment s a o k
+pub pole_alone : (s : ℕ) (a o : Gaussian) → 1 ≤ s → (k : ℕ) → source_moment s a zero_gaussian o k ≡ pole_moment s a o k
 unfolding source_moment
 pole_alone s a o h zero = refl
-pole_alone s a o h (suc k) = ap (λ b. add_box (pole_moment s a o (suc k)) (scale_box (pos (suc k)) b)) (no_dipole s o h k) ∙ ap (add_box (pole_moment s a o (suc k))) (zero_scaled (pos (suc k))) ∙ zero_right _
+pole_alone s a o h (suc k) = ap (λ b. add_box (pole_moment s a o (suc k)) (scale_box b (pos (suc k)))) (no_dipole s o h k) ∙ ap (add_box (pole_moment s a o (suc k))) (zero_scaled (pos (suc k))) ∙ zero_right _
 
 -- a dipole alone
-pub dipole_alone : (s n : ℕ) (b o : Gaussian) → 1 ≤ s → 2 ^ n ≡ 2 * s → (k : ℕ) → source_moment s nothing b o k ≡ slopes (units_over b s) o n k
+pub dipole_alone : (s n : ℕ) (b o : Gaussian) → 1 ≤ s → 2 ^ n ≡ 2 * s → (k : ℕ) → source_moment s zero_gaussian b o k ≡ slopes (units_over b s) o n k
 unfolding source_moment
 dipole_alone s n b o h e zero = no_pole s o h zero
 dipole_alone s n b o h e (suc k) =
-    ap (λ x. add_box x (scale_box (pos (suc k)) (dipole_moment s b o k))) (no_pole s o h (suc k)) ∙ zero_left _ ∙ ap (scale_box (pos (suc k))) (sym (powers-dipole s n b o e k))
+    ap (λ x. add_box x (scale_box (dipole_moment s b o k) (pos (suc k)))) (no_pole s o h (suc k)) ∙ zero_left _ ∙ ap (λ (b : BoxEnds). scale_box b (pos (suc k))) (sym (powers-dipole s n b o e k))
 
 -- neither
-pub none_alone : (s : ℕ) (o : Gaussian) → 1 ≤ s → (k : ℕ) → source_moment s nothing nothing o k ≡ zero_box
-none_alone s o h k = pole_alone s nothing o h k ∙ no_pole s o h k
+pub none_alone : (s : ℕ) (o : Gaussian) → 1 ≤ s → (k : ℕ) → source_moment s zero_gaussian zero_gaussian o k ≡ zero_box
+none_alone s o h k = pole_alone s zero_gaussian o h k ∙ no_pole s o h k
 
 -- the slope after k powers
-pub slopes-next : (b : BoxEnds) (o : Gaussian) (n k : ℕ) → 1 ≤ k → slopes b o n k ≡ scale_box (pos k) (powers b o n (k - 1))
+pub slopes-next : (b : BoxEnds) (o : Gaussian) (n k : ℕ) → 1 ≤ k → slopes b o n k ≡ scale_box (powers b o n (k - 1)) (pos k)
 slopes-next b o n zero h = absurd (omega arith)
-slopes-next b o n (suc k) h = ap (λ i. scale_box (pos (suc k)) (powers b o n i)) {x = k} {y = suc k - 1} (omega arith)
+slopes-next b o n (suc k) h = ap (λ i. scale_box (powers b o n i) (pos (suc k))) {x = k} {y = suc k - 1} (omega arith)
 
 -- ---- a place in a cell whose side is 2^n
 pub near_next : (n s : ℕ) (o x : Gaussian) → 2 ^ n ≡ s → x ≡ o → GaussianWithin s o → GaussianWithin (2 ^ (n + 1 - 1)) x
@@ -94,8 +94,8 @@ pub doubled_side : (n s : ℕ) → 2 ^ n ≡ s → 2 ^ (n + 1) ≡ 2 * s
 doubled_side n s e = let f : 2 ^ suc n ≡ 2 * 2 ^ n = omega arith in let g : 2 ^ (n + 1) ≡ 2 ^ suc n = ap (λ k. 2 ^ k) {x = n + 1} {y = suc n} (omega arith) in omega arith
 
 -- ---- what the rows hold, of a cell of side 2^n
-pub pole_moments : (s n : ℕ) (a o x : Gaussian) (first : BoxEnds) (k : ℕ) → 1 ≤ s → 2 ^ n ≡ s → x ≡ o → first ≡ units_box a → powers first x (n + 1) k ≡ source_moment s a nothing o k
+pub pole_moments : (s n : ℕ) (a o x : Gaussian) (first : BoxEnds) (k : ℕ) → 1 ≤ s → 2 ^ n ≡ s → x ≡ o → first ≡ units_box a → powers first x (n + 1) k ≡ source_moment s a zero_gaussian o k
 pole_moments s n a o x first k h e f g = ap₂ (λ b z. powers b z (n + 1) k) g f ∙ powers-pole s (n + 1) a o (doubled_side n s e) k ∙ sym (pole_alone s a o h k)
 
-pub dipole_moments : (s n : ℕ) (b o x : Gaussian) (first : BoxEnds) (k : ℕ) → 1 ≤ s → 2 ^ n ≡ s → x ≡ o → first ≡ units_over b s → slopes first x (n + 1) k ≡ source_moment s nothing b o k
+pub dipole_moments : (s n : ℕ) (b o x : Gaussian) (first : BoxEnds) (k : ℕ) → 1 ≤ s → 2 ^ n ≡ s → x ≡ o → first ≡ units_over b s → slopes first x (n + 1) k ≡ source_moment s zero_gaussian b o k
 dipole_moments s n b o x first k h e f g = ap₂ (λ c z. slopes c z (n + 1) k) g f ∙ sym (dipole_alone s (n + 1) b o h (doubled_side n s e) k)

@@ -1,22 +1,22 @@
 -- The steps of a multipole row's value: of a row m of P boxes that are at most 2^80 in size, in a cell of side 2^bits, at a far place.
 use Rattle.std.proofs.Common.{◌≡◌, sym, ap, ap₂, ◌∙◌, subst, ℕ, ◌+◌, ◌-◌, ◌*◌, ◌^◌, ◌<◌, arith, ℤ}
 use Rattle.exact_math.specs.Ends.{BoxEnds, BoxEndsWithin, add_box, gquot_box}
-use Rattle.exact_math.specs.Gaussian.{Gaussian, norm_gaussian}
+use Rattle.exact_math.specs.Gaussian.{Gaussian, norm_gaussian, conj, scale_gaussian}
 use Rattle.exact_math.specs.Orders.{IsOrder}
+use Rattle.exact_math.proofs.Orders.{order_bounds}
 use Rattle.complex_box.specs.Box.{GscaleFits}
 use Rattle.complex_box.proofs.Sizes.{box_wider, add_box_within, gscale_fits}
-use Rattle.kernel_table.specs.Kernel.{conj_multiple}
-use Rattle.truncation.specs.Places.{GaussianWithin, GaussianBeyond}
+use Rattle.exact_math.specs.Within.{GaussianWithin, GaussianBeyond}
 use Rattle.row_recursions.specs.Rows.{multipole_round}
 use Rattle.row_recursions.specs.Sizes.{RowWithin}
 use Rattle.row_recursions.proofs.Equations.{multipole_round-next}
-use Rattle.row_recursions.proofs.RowSizes.{multipole_round_within, order_small, power_positive}
+use Rattle.row_recursions.proofs.RowSizes.{multipole_round_within, power_positive}
 
 module _ (P bits : ℕ) (m : ℕ → BoxEnds) (zeta : Gaussian) (order : IsOrder P) (far : GaussianBeyond (3 * 2 ^ bits) zeta) (bounded : RowWithin P (2 ^ 80) m) where
   -- what is added to the value before
   pub sum_within : (n : ℕ) (v r : BoxEnds) → n < P → v ≡ multipole_round P m (2 ^ bits) zeta n → r ≡ m (P - 1 - n) → BoxEndsWithin (2 ^ 86) (add_box v r)
   sum_within n v r h e f =
-      let few = order_small P order in
+      let few = order_bounds P order in
       subst (BoxEndsWithin (2 ^ 86)) (sym (ap₂ add_box e f))
       (box_wider (n * 2 ^ 80 + 2 ^ 80) (2 ^ 86) _ (omega arith)
       (add_box_within (n * 2 ^ 80) (2 ^ 80) (multipole_round P m (2 ^ bits) zeta n) (m (P - 1 - n))
@@ -31,6 +31,6 @@ module _ (P bits : ℕ) (m : ℕ → BoxEnds) (zeta : Gaussian) (order : IsOrder
 
   -- one step
   pub value_next : (n : ℕ) (v r t w : BoxEnds) (g : Gaussian) (d : ℤ) → v ≡ multipole_round P m (2 ^ bits) zeta n → r ≡ m (P - 1 - n) → t ≡ add_box v r
-      → g ≡ conj_multiple (2 * 2 ^ bits) zeta → d ≡ norm_gaussian zeta → w ≡ gquot_box t g d → w ≡ multipole_round P m (2 ^ bits) zeta (n + 1)
+      → g ≡ conj (scale_gaussian (2 * 2 ^ bits) zeta) → d ≡ norm_gaussian zeta → w ≡ gquot_box t g d → w ≡ multipole_round P m (2 ^ bits) zeta (n + 1)
   value_next n v r t w g d e f i j k l =
-      l ∙ ap₂ (gquot_box t) j k ∙ ap (λ b. gquot_box b (conj_multiple (2 * 2 ^ bits) zeta) (norm_gaussian zeta)) (i ∙ ap₂ add_box e f) ∙ sym (multipole_round-next P m (2 ^ bits) zeta n)
+      l ∙ ap₂ (gquot_box t) j k ∙ ap (λ b. gquot_box b (conj (scale_gaussian (2 * 2 ^ bits) zeta)) (norm_gaussian zeta)) (i ∙ ap₂ add_box e f) ∙ sym (multipole_round-next P m (2 ^ bits) zeta n)

@@ -11,4 +11,4 @@ powers b o n (suc k) = gquot_box (powers b o n k) o (pos (2 ^ n))
 -- nothing, and then k times the power before
 abbrev pub slopes : BoxEnds → Gaussian → ℕ → ℕ → BoxEnds
 slopes b o n zero = zero_box
-slopes b o n (suc k) = scale_box (pos (suc k)) (powers b o n k)
+slopes b o n (suc k) = scale_box (powers b o n k) (pos (suc k))

@@ -5,14 +5,14 @@
 //! is exact as long as no rounding falls into it, and what is taken away again leaves the row as it was.
 #![tactic(auto)]
 
-ghost use Rattle.std.specs.Prelude.{◌≡◌, ℕ, ◌+◌, ◌*◌, ◌^◌, pos, length, List, [], ◌∷◌, ◌++◌};
-ghost use Rattle.exact_math.specs.Ends.{BoxEndsContain, BoxEndsWithin};
+ghost use Rattle.std.specs.Prelude.{◌≡◌, ℕ, ◌+◌, ◌*◌, ◌^◌, length, List, [], ◌∷◌, ◌++◌};
 ghost use Rattle.exact_math.specs.Gaussian.{gaussian};
 ghost use Rattle.exact_math.specs.Orders.{IsOrder};
 ghost use Rattle.exact_math.specs.Sums.{sum_terms};
+ghost use Rattle.exact_math.specs.Units.{unit};
 ghost use Rattle.truncation.specs.Entries.{Source, multipole_cut};
-ghost use Rattle.truncation.specs.Places.{GaussianBeyond};
-ghost use Rattle.complex_box.specs.Box.{box_ends};
+ghost use Rattle.exact_math.specs.Within.{GaussianBeyond};
+ghost use Rattle.complex_box.specs.Box.{box_ends, BoxWithin, BoxContains};
 ghost use Rattle.cell_name.specs.Cell.{square};
 ghost use Rattle.cell_name.specs.Square.{Holds};
 ghost use Rattle.points.specs.Limits.{InGrid, InRange, weight64};
@@ -23,8 +23,6 @@ ghost use Rattle.row_recursions.specs.Sizes.{RowWithin};
 ghost use Rattle.row_recursions.specs.Sources.{source_of};
 
 mod moments;
-#[cfg(test)]
-mod tests;
 mod values;
 
 use cell_name::Cell;
@@ -80,8 +78,8 @@ pub fn at_multipole<const P: usize>(row: Row<P>, cell: Cell, x: i64, y: i64) -> 
     requires far { GaussianBeyond (3 * side_of cell) (offset_from cell (gaussian x y)) }
     requires size { RowWithin P (2 ^ 80) (row_of row.cells.now) }
     ensures ends { box_ends result ≡ multipole_value P (row_of row.entry.cells.now) (side_of cell) (offset_from cell (gaussian x y)) }
-    ensures contains { (xs : List Source) → HoldsMoments P (side_of cell) (centre_of cell) xs (row_of row.entry.cells.now) → BoxEndsContain (pos (2 ^ 40)) (box_ends result) (sum_terms (multipole_cut P (centre_of cell) (gaussian x y)) xs) }
-    ensures size { (n : ℕ) → RowWithin P n (row_of row.entry.cells.now) → BoxEndsWithin (P * n) (box_ends result) }
+    ensures contains { (xs : List Source) → HoldsMoments P (side_of cell) (centre_of cell) xs (row_of row.entry.cells.now) → BoxContains unit result (sum_terms (multipole_cut P (centre_of cell) (gaussian x y)) xs) }
+    ensures size { (n : ℕ) → RowWithin P n (row_of row.entry.cells.now) → BoxWithin (P * n) result }
 {
     value_at(row, offset(cell, x, y), side_bits(cell))
 }

@@ -1,8 +1,8 @@
 //! The moments of one source, into a row.
 ghost use Rattle.std.specs.Prelude.{◌≡◌, ℕ, ◌-◌, ◌^◌, ◌≤◌, ◌<◌, pos, length};
-ghost use Rattle.exact_math.specs.Ends.{BoxEndsWithin, gquot_box};
-ghost use Rattle.truncation.specs.Places.{GaussianWithin};
-ghost use Rattle.complex_box.specs.Box.{box_ends, number};
+ghost use Rattle.exact_math.specs.Ends.{gquot_box};
+ghost use Rattle.exact_math.specs.Within.{GaussianWithin};
+ghost use Rattle.complex_box.specs.Box.{box_ends, number, BoxWithin};
 ghost use Rattle.cell_name.specs.Cell.{square};
 ghost use Rattle.cell_name.specs.Square.{Holds};
 ghost use Rattle.points.specs.Limits.{InRange};
@@ -21,9 +21,9 @@ fn next_power(power: CBox, o: Gauss, shift: u32) -> CBox
     requires positive { 1 ≤ shift }
     requires small { shift ≤ 17 }
     requires near { GaussianWithin (2 ^ (shift - 1)) (number o) }
-    requires size { BoxEndsWithin (2 ^ 60) (box_ends power) }
+    requires size { BoxWithin (2 ^ 60) power }
     ensures ends { box_ends result ≡ gquot_box (box_ends power) (number o) (pos (2 ^ shift)) }
-    ensures size { BoxEndsWithin (2 ^ 60) (box_ends result) }
+    ensures size { BoxWithin (2 ^ 60) result }
 {
     power.gscale(o).quot_shift(shift)
 }
@@ -33,7 +33,7 @@ fn fill_powers(row: &mut [CBox], first: CBox, o: Gauss, shift: u32)
     requires positive { 1 ≤ shift }
     requires small { shift ≤ 17 }
     requires near { GaussianWithin (2 ^ (shift - 1)) (number o) }
-    requires size { BoxEndsWithin (2 ^ 60) (box_ends first) }
+    requires size { BoxWithin (2 ^ 60) first }
     ensures len { length row.new ≡ length row.old }
     ensures powers { (k : ℕ) → k < length row.old → row_of row.new k ≡ powers (box_ends first) (number o) shift k }
 {
@@ -50,7 +50,7 @@ fn fill_slopes(row: &mut [CBox], first: CBox, o: Gauss, shift: u32)
     requires positive { 1 ≤ shift }
     requires small { shift ≤ 17 }
     requires near { GaussianWithin (2 ^ (shift - 1)) (number o) }
-    requires size { BoxEndsWithin (2 ^ 60) (box_ends first) }
+    requires size { BoxWithin (2 ^ 60) first }
     ensures len { length row.new ≡ length row.old }
     ensures slopes { (k : ℕ) → k < length row.old → row_of row.new k ≡ slopes (box_ends first) (number o) shift k }
 {

@@ -1,7 +1,7 @@
 //! The value of a multipole row.
 ghost use Rattle.std.specs.Prelude.{◌≡◌, ◌*◌, ◌^◌, ◌≤◌};
 ghost use Rattle.exact_math.specs.Orders.{IsOrder};
-ghost use Rattle.truncation.specs.Places.{GaussianWithin, GaussianBeyond};
+ghost use Rattle.exact_math.specs.Within.{GaussianWithin, GaussianBeyond};
 ghost use Rattle.complex_box.specs.Box.{box_ends, number};
 ghost use Rattle.row_recursions.specs.Rows.{row_of, multipole_value};
 ghost use Rattle.row_recursions.specs.Sizes.{RowWithin};

@@ -6,7 +6,7 @@ use Rattle.exact_math.specs.Gaussian.{Gaussian}
 use Rattle.complex_box.specs.Box.{box_ends}
 use Rattle.complex_box.specs.declared.CBox.{CBox}
 use Rattle.complex_box.proofs.Sizes.{box_wider, add_box_within}
-use Rattle.truncation.specs.Places.{GaussianWithin}
+use Rattle.exact_math.specs.Within.{GaussianWithin}
 use Rattle.row_recursions.specs.Rows.{row_of, up_round, shifted_up}
 use Rattle.row_recursions.specs.Sizes.{RowWithin}
 use Rattle.row_recursions.proofs.Equations.{up_round-zero, up_round-next, shifted_up-is}
@@ -26,7 +26,7 @@ pub record WithinRound (P : ℕ) (m : ℕ → BoxEnds) (q : Gaussian) (r i : ℕ
 
 -- one entry of the next round
 abbrev pub up_step : BoxEnds → BoxEnds → Gaussian → BoxEnds
-up_step next here q = quot_box (add_box (scale_box (pos 2) next) (gscale_box here q)) (pos 4)
+up_step next here q = quot_box (add_box (scale_box next (pos 2)) (gscale_box here q)) (pos 4)
 
 module _ (P : ℕ) (m : ℕ → BoxEnds) (q : Gaussian) where
   pub start : (row : List CBox) → ((j : ℕ) → row_of row j ≡ m j) → BeforeRound P m q 0 row

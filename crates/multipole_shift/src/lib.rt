@@ -7,8 +7,6 @@
 mod add;
 mod rounds;
 mod take;
-#[cfg(test)]
-mod tests;
 
 pub use add::shift_up;
 pub use take::take_up;

@@ -1,7 +1,7 @@
 //! The rounds of the shift up, in place.
 ghost use Rattle.std.specs.Prelude.{◌≡◌, ℕ, ◌^◌, ◌<◌, ◌≤◌, pos, length};
-ghost use Rattle.exact_math.specs.Ends.{BoxEndsWithin, add_box, scale_box, gscale_box, quot_box};
-ghost use Rattle.complex_box.specs.Box.{box_ends};
+ghost use Rattle.exact_math.specs.Ends.{add_box, scale_box, gscale_box, quot_box};
+ghost use Rattle.complex_box.specs.Box.{box_ends, BoxWithin};
 ghost use Rattle.row_recursions.specs.Cells.{quadrant_of};
 ghost use Rattle.row_recursions.specs.Rows.{row_of, shifted_up};
 ghost use Rattle.row_recursions.specs.Sizes.{RowWithin};
@@ -13,9 +13,9 @@ use row_recursions::{doubled, turned};
 /// A quarter of twice the next coefficient and the quadrant times this one, rounded outward.
 #[inline]
 fn step(next: CBox, here: CBox, q: Quadrant) -> CBox
-    requires next { BoxEndsWithin (2 ^ 80) (box_ends next) }
-    requires here { BoxEndsWithin (2 ^ 80) (box_ends here) }
-    ensures { box_ends result ≡ quot_box (add_box (scale_box (pos 2) (box_ends next)) (gscale_box (box_ends here) (quadrant_of q))) (pos 4) }
+    requires next { BoxWithin (2 ^ 80) next }
+    requires here { BoxWithin (2 ^ 80) here }
+    ensures { box_ends result ≡ quot_box (add_box (scale_box (box_ends next) (pos 2)) (gscale_box (box_ends here) (quadrant_of q))) (pos 4) }
 {
     doubled(next).add(turned(here, q)).quot_shift(2)
 }

@@ -1,5 +1,5 @@
 -- The box of a pair contains the term of the pair.
-use Rattle.std.proofs.Common.{◌≡◌, zero, suc, ◌^◌, refl, sym, ap, ◌∙◌, arith, ℤ, pos, negsuc, ◌-ℤ◌, ◌*ℤ◌, ◌<ℤ◌, ◌≤ℤ◌, Bool, true, false, not, ◌&&◌}
+use Rattle.std.proofs.Common.{◌≡◌, zero, suc, ◌^◌, refl, sym, ap, ◌∙◌, arith, ℤ, pos, negsuc, ◌-ℤ◌, ◌*ℤ◌, ◌<ℤ◌, Bool, true, false, not, ◌&&◌}
 use Rattle.std.proofs.lemmas.Int.{ints}
 use Rattle.std.proofs.lemmas.Bool.{false≢true}
 use Rattle.std.proofs.lemmas.Bool.Decides.{Decides-int_eq}
@@ -7,7 +7,7 @@ use Rattle.std.specs.Ordering.{int_eq}
 use Rattle.exact_math.specs.Ends.{BoxEndsContain}
 use Rattle.exact_math.specs.Gaussian.{Gaussian, gaussian, sub_gaussian, norm_gaussian}
 use Rattle.exact_math.specs.Ratio.{ComplexRatio, re_part, im_part}
-use Rattle.exact_math.proofs.Integers.{*-positive, *-nonneg}
+use Rattle.exact_math.proofs.Integers.{*-positive, square_nonneg}
 use Rattle.exact_math.proofs.Bridges.{contains-rounded}
 use Rattle.points.specs.Points.{place, strength, is_source}
 use Rattle.points.specs.declared.Point.{Point}
@@ -17,10 +17,6 @@ use Rattle.near_field.specs.DirectSum.{acts_on}
 use Rattle.near_field.specs.Pair.{is_at, strength_term, term_of, outward, pair_box}
 
 -- ---- the denominators are above 0
-pub square_nonneg : (x : ℤ) → pos 0 ≤ℤ (x *ℤ x)
-square_nonneg (pos n) = *-nonneg (pos n) (pos n) (omega (arith, ints)) (omega (arith, ints))
-square_nonneg (negsuc n) = omega (arith, ints)
-
 square_positive : (x : ℤ) → (x ≡ pos 0 → ⊥) → pos 0 <ℤ (x *ℤ x)
 square_positive (pos zero) h = absurd (h refl)
 square_positive (pos (suc n)) h = *-positive (pos (suc n)) (pos (suc n)) (omega (arith, ints)) (omega (arith, ints))

@@ -8,13 +8,15 @@ use Rattle.exact_math.specs.Ratio.{ComplexRatio}
 use Rattle.exact_math.specs.Rounding.{floor_div, ceil_div}
 use Rattle.exact_math.specs.Within.{Within}
 use Rattle.exact_math.specs.Terms.{pole_term, dipole_term}
-use Rattle.exact_math.proofs.Integers.{*-mono_left, *-nonneg, *-comm, *-cancel_≤}
+use Rattle.exact_math.proofs.Integers.{*-mono_left, *-comm, *-cancel_≤, square_nonneg}
 use Rattle.exact_math.proofs.Enclosures.{floor_div_le, ceil_div_ge}
 use Rattle.exact_math.proofs.Ring.{int_ring}
 use Rattle.exact_math.proofs.RingTactic.{int_quotes, ring1, ring2, ring3, ring4}
-use Rattle.exact_math.proofs.WholeSizes.{within-floor, within-ceil, floor_near}
+use Rattle.exact_math.proofs.RoundedQuotients.{floor_near}
+use Rattle.exact_math.proofs.WholeSizes.{within-floor, within-ceil}
 use Rattle.points.specs.Limits.{weight64}
 use Rattle.exact_math.specs.Sizes.{abs_gaussian}
+use Rattle.complex_box.proofs.Sizes.{zero_within}
 use Rattle.points.specs.Points.{strength}
 use Rattle.points.specs.Strength.{pole_part, dipole_part}
 use Rattle.points.specs.declared.Point.{Point}
@@ -22,7 +24,7 @@ use Rattle.points.specs.declared.Strength.{Strength}
 use Rattle.points.specs.declared.Strength.TheVariants.{Pole, Dipole, Nothing}
 use Rattle.near_field.specs.Pair.{is_at, strength_term, term_of, outward, pair_box}
 use Rattle.near_field.proofs.TermSizes.{pole_re, dipole_re, squared}
-use Rattle.near_field.proofs.PairContains.{square_nonneg, distance_positive, term_denominator}
+use Rattle.near_field.proofs.PairContains.{distance_positive, term_denominator}
 
 -- z is at most m n in size
 pub record Bounded (m : ℕ) (z n : ℤ) : Type 0 where
@@ -187,15 +189,12 @@ outward-within m z h w = record {
   im = quot-within (2 ^ 40 * m) _ z.denominator h (bounded-units (2 ^ 40) m z.im z.denominator w.im);
 }
 
-zero-within : (m : ℕ) → BoxEndsWithin m zero_box
-zero-within m = let w : Within m (pos 0) = record { above = omega (arith, ints); below = omega (arith, ints) } in record { re = record { lo = w; hi = w }; im = record { lo = w; hi = w } }
-
 -- all ends of the box of a pair are at most 2^40 times the weight of the source
 pub pair_box-within : (t : Gaussian) (p : Point) → BoxEndsWithin (2 ^ 40 * weight64 p) (pair_box t p)
 pair_box-within t p = cases (is_at t p) refl
   where
     cases : (b : Bool) → is_at t p ≡ b → BoxEndsWithin (2 ^ 40 * weight64 p) (pair_box t p)
-    cases true e = rw e (zero-within _)
+    cases true e = rw e (zero_within _)
     cases false e =
         let h = distance_positive t p e in
         rw e (outward-within _ _ (term_denominator (strength p.kind) _ h) (term_bounded (strength p.kind) (t.re -ℤ p.x) (t.im -ℤ p.y) h))

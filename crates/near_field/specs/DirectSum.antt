@@ -1,7 +1,8 @@
 -- The exact sum at a place: the quantity that every printed interval contains.
-use Rattle.std.specs.Prelude.{Bool, not, ◌&&◌, List, filter, fold}
+use Rattle.std.specs.Prelude.{Bool, not, ◌&&◌, List, filter}
 use Rattle.exact_math.specs.Gaussian.{Gaussian}
-use Rattle.exact_math.specs.Ratio.{ComplexRatio, zero_complex, add_complex}
+use Rattle.exact_math.specs.Ratio.{ComplexRatio}
+use Rattle.exact_math.specs.Sums.{sum_terms}
 use Rattle.points.specs.declared.Point.{Point}
 use Rattle.points.specs.Points.{is_source}
 use Rattle.near_field.specs.Pair.{is_at, term_of}
@@ -16,4 +17,4 @@ acting_on t points = filter (acts_on t) points
 
 -- the sum of a/(t - z) over the charges and vortices and of b/(t - z)^2 over the dipoles that act on t, as a fraction of whole numbers
 abbrev pub direct_sum : Gaussian → List Point → ComplexRatio
-direct_sum t points = fold (λ sum p. add_complex sum (term_of t p)) zero_complex (acting_on t points)
+direct_sum t points = sum_terms (term_of t) (acting_on t points)

@@ -1,10 +1,11 @@
 -- What one source contributes at a place, exactly and as a box.
-use Rattle.std.specs.Prelude.{pos, ◌*ℤ◌, Bool, ◌&&◌, if◌then◌else◌, ◌^◌}
+use Rattle.std.specs.Prelude.{◌*ℤ◌, Bool, ◌&&◌, if◌then◌else◌}
 use Rattle.std.specs.Ordering.{int_eq}
 use Rattle.exact_math.specs.Ends.{BoxEnds, zero_box, point_box, quot_box}
 use Rattle.exact_math.specs.Gaussian.{Gaussian, gaussian, sub_gaussian}
 use Rattle.exact_math.specs.Ratio.{ComplexRatio, zero_complex}
 use Rattle.exact_math.specs.Terms.{pole_term, dipole_term}
+use Rattle.exact_math.specs.Units.{unit}
 use Rattle.points.specs.declared.Strength.{Strength}
 use Rattle.points.specs.declared.Strength.TheVariants.{Pole, Dipole, Nothing}
 use Rattle.points.specs.declared.Point.{Point}
@@ -26,7 +27,7 @@ term_of t p = strength_term (strength p.kind) (sub_gaussian t (place p))
 
 -- a fraction in units of 2^-40, both parts rounded outward: quot of 2^40 times the numerators by the denominator
 abbrev pub outward : ComplexRatio → BoxEnds
-outward z = quot_box (point_box (pos (2 ^ 40) *ℤ z.re) (pos (2 ^ 40) *ℤ z.im)) z.denominator
+outward z = quot_box (point_box (unit *ℤ z.re) (unit *ℤ z.im)) z.denominator
 
 -- the box of a pair: the term rounded outward, and the zero box at one place
 abbrev pub pair_box : Gaussian → Point → BoxEnds

@@ -1,16 +1,15 @@
 //! The near field: what one source contributes at a place, as a box that contains the exact term.
 #![tactic(auto)]
 
-ghost use Rattle.std.specs.Prelude.{◌≡◌, ◌+◌, ◌*◌, ◌^◌, ◌<◌, pos, false, if◌then◌else◌};
-ghost use Rattle.exact_math.specs.Ends.{BoxEndsContain, BoxEndsNarrow, BoxEndsWithin};
+ghost use Rattle.std.specs.Prelude.{◌≡◌, ◌+◌, ◌*◌, ◌^◌, ◌<◌, false, if◌then◌else◌};
+ghost use Rattle.exact_math.specs.Ends.{BoxEndsNarrow};
 ghost use Rattle.exact_math.specs.Gaussian.{gaussian};
-ghost use Rattle.complex_box.specs.Box.{box_ends};
+ghost use Rattle.exact_math.specs.Units.{unit};
+ghost use Rattle.complex_box.specs.Box.{box_ends, BoxWithin, BoxContains};
 ghost use Rattle.points.specs.Limits.{InGrid, InRange, weight64};
 ghost use Rattle.near_field.specs.Pair.{is_at, pair_box, term_of};
 
 mod term;
-#[cfg(test)]
-mod tests;
 
 use complex_box::{CBox, Work};
 use points::Point;
@@ -34,9 +33,9 @@ pub fn pair(p: &Point, x: i64, y: i64, work: &mut Work) -> CBox
     requires grid { InGrid x y }
     requires room { work.old.pairs < 2 ^ 63 }
     ensures ends { box_ends result ≡ pair_box (gaussian x y) p.now }
-    ensures contains { is_at (gaussian x y) p.now ≡ false → BoxEndsContain (pos (2 ^ 40)) (box_ends result) (term_of (gaussian x y) p.now) }
+    ensures contains { is_at (gaussian x y) p.now ≡ false → BoxContains unit result (term_of (gaussian x y) p.now) }
     ensures narrow { BoxEndsNarrow 1 (box_ends result) }
-    ensures size { BoxEndsWithin (2 ^ 40 * weight64 p.now) (box_ends result) }
+    ensures size { BoxWithin (2 ^ 40 * weight64 p.now) result }
 
     ensures pairs { work.new.pairs ≡ work.old.pairs + (if is_at (gaussian x y) p.now then 0 else 1) }
     ensures translations { work.new.translations ≡ work.old.translations }

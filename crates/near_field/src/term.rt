@@ -9,11 +9,8 @@ ghost use Rattle.complex_box.specs.Box.{box_ends};
 ghost use Rattle.near_field.specs.Pair.{outward, strength_term};
 ghost use Rattle.near_field.specs.Private.{ratio_of};
 
-use complex_box::CBox;
+use complex_box::{CBox, UNIT};
 use points::{Point, Strength};
-
-/// How many units a box counts in 1.
-const UNIT: i128 = 1_099_511_627_776;
 
 /// The fraction `(re + i im)/denominator`.
 #[derive(Clone, Copy)]

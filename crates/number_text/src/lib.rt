@@ -10,6 +10,3 @@ pub use law::one_spelling;
 pub use list::{next_int, read_four, read_three, read_two};
 pub use number::{read_int, read_uint};
 pub use part::cut_at;
-
-#[cfg(test)]
-mod tests;

@@ -39,6 +39,3 @@ pub enum ParseFault {
     #[error("out of memory")]
     Memory,
 }
-
-#[cfg(test)]
-mod tests;

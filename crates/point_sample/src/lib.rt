@@ -31,6 +31,3 @@ pub fn sample_points(alloc: Global, seed: u32, n: u32) -> Result<Points, Memory>
         list,
     })
 }
-
-#[cfg(test)]
-mod tests;

@@ -1,6 +1,6 @@
 -- Which places, strengths and lists the text allows.
 use Rattle.std.specs.Prelude.{ℕ, ◌+◌, ◌*◌, ◌-◌, ◌^◌, ◌≤◌, ℤ, pos, neg_ℤ, ◌≤ℤ◌, ◌<ℤ◌, List, length, All, sum_by}
-use Rattle.exact_math.specs.Sizes.{abs_gaussian}
+use Rattle.exact_math.specs.Sizes.{weight_at}
 use Rattle.points.specs.declared.Kind.{Kind}
 use Rattle.points.specs.declared.Kind.TheVariants.{Charge, Vortex}
 use Rattle.points.specs.declared.Mode.{Mode}
@@ -44,9 +44,9 @@ pub record InRange (p : Point) : Type 0 where
   pub grid : InGrid p.x p.y
   pub strength : HasStrength p.kind
 
--- abs(a) + 64 abs(b) of the pole a and the dipole b
+-- |a| + 64 |b| of the pole a and the dipole b
 abbrev pub weight64 : Point → ℕ
-weight64 p = abs_gaussian (pole p.kind) + 64 * abs_gaussian (dipole p.kind)
+weight64 p = weight_at 32 (pole p.kind) (dipole p.kind)
 
 abbrev pub total_weight : List Point → ℕ
 total_weight points = sum_by weight64 points

@@ -4,26 +4,21 @@ use Rattle.std.specs.Prelude.{All, AllPairs, Contains}
 use Rattle.std.specs.List.{flat_map, remove}
 use Rattle.std.specs.List.Sorted.{IsPermutation}
 use Rattle.std.proofs.lemmas.Bool.{false≢true}
-use Rattle.std.proofs.lemmas.List.Elements.{All-append, All-contains, All-contains_itself, All-filter, filter_passes, Contains-get_or, Contains-append_left, Contains-append_right, Contains-append_cases}
+use Rattle.std.proofs.lemmas.List.Elements.{All-append, All-contains, All-contains_itself, All-filter, filter_passes, Contains-append_left, Contains-append_right, Contains-append_cases}
 use Rattle.std.proofs.lemmas.List.Kept.{AllPairs-cons}
 use Rattle.std.proofs.lemmas.List.Sorted.{IsPermutation-remove, Contains-permutation, length_permutation}
 use Rattle.std.proofs.lemmas.Map.Keys.{IsDistinct-IsPermutation}
 use Rattle.std.proofs.lemmas.Map.Made.{AllPairs-from_IsDistinct, IsDistinct-from_AllPairs}
+use Rattle.quadtree.proofs.Lists.{All-from_members, rest_differ}
 
 AllPairs-head : {X : Type 0} (R : X → X → Type 0) (x : X) (xs : List X) → AllPairs R (x ∷ xs) → All (R x) xs
 AllPairs-head R x xs h k d lt = h 0 (suc k) d (omega arith) (omega arith)
-
-AllPairs-tail : {X : Type 0} (R : X → X → Type 0) (x : X) (xs : List X) → AllPairs R (x ∷ xs) → AllPairs R xs
-AllPairs-tail R x xs h i j d lt inside = h (suc i) (suc j) d (omega arith) (omega arith)
 
 pub AllPairs-append : {X : Type 0} (R : X → X → Type 0) (xs ys : List X) → AllPairs R xs → AllPairs R ys → ((x : X) → Contains xs x → All (R x) ys) → AllPairs R (xs ++ ys)
 AllPairs-append R [] ys p q across = q
 AllPairs-append R (x ∷ xs) ys p q across =
     AllPairs-cons R x (xs ++ ys) (All-append (R x) xs ys (AllPairs-head R x xs p) (across x (0, omega arith, refl)))
-    (AllPairs-append R xs ys (AllPairs-tail R x xs p) q (λ y h. across y (suc h.0, omega (arith, h.1), h.2)))
-
-All-from_contains : {X : Type 0} (P : X → Type 0) (xs : List X) → ((x : X) → Contains xs x → P x) → All P xs
-All-from_contains P xs h k d lt = h (get_or xs k d) (Contains-get_or xs k d lt)
+    (AllPairs-append R xs ys (rest_differ R x xs p) q (λ y h. across y (suc h.0, omega (arith, h.1), h.2)))
 
 pub Contains-flat_map : {X A : Type 0} (f : X → List A) (xs : List X) (x : X) (a : A) → Contains xs x → Contains (f x) a → Contains (flat_map f xs) a
 Contains-flat_map f xs x a h inner = at f xs h.0 x a h.1 h.2 inner
@@ -56,8 +51,8 @@ pub different-flat_map : {X A : Type 0} (f : X → List A) (of : A → X) (xs : 
 different-flat_map f of [] p each owner = λ i j d lt inside. absurd (omega arith)
 different-flat_map {X} {A} f of (x ∷ xs) p each owner =
     AllPairs-append (λ a b. a ≢ b) (f x) (flat_map f xs) (each x (0, omega arith, refl))
-    (different-flat_map f of xs (AllPairs-tail (λ x y. x ≢ y) x xs p) (λ y c. each y (suc c.0, omega (arith, c.1), c.2)) (λ y a c h. owner y a (suc c.0, omega (arith, c.1), c.2) h))
-    (λ a here. All-from_contains (λ b. a ≢ b) (flat_map f xs) (λ b there e.
+    (different-flat_map f of xs (rest_differ (λ x y. x ≢ y) x xs p) (λ y c. each y (suc c.0, omega (arith, c.1), c.2)) (λ y a c h. owner y a (suc c.0, omega (arith, c.1), c.2) h))
+    (λ a here. All-from_members (λ b. a ≢ b) (flat_map f xs) (λ b there e.
     let c = comes_from f xs b there in
     let mine : of a ≡ x = owner x a (0, omega arith, refl) here in
     let other : of b ≡ c.source = owner c.source b (suc c.listed.0, omega (arith, c.listed.1), c.listed.2) c.inside in
@@ -107,7 +102,7 @@ length-le_from_different {X} (x ∷ xs) ys p sub =
     let moved : IsPermutation ys (x ∷ rest) = IsPermutation-remove ys h.0 x h.1 (sym h.2) in
     let shorter : length (x ∷ rest) ≡ length ys = length_permutation ys (x ∷ rest) moved in
     let apart = AllPairs-head (λ a b. a ≢ b) x xs p in
-    let fewer = length-le_from_different xs rest (AllPairs-tail (λ a b. a ≢ b) x xs p)
+    let fewer = length-le_from_different xs rest (rest_differ (λ a b. a ≢ b) x xs p)
     (λ a c. other x rest a (λ e. apart c.0 a c.1 (e ∙ sym c.2)) (Contains-permutation ys (x ∷ rest) a moved (sub a (suc c.0, omega (arith, c.1), c.2)))) in
     omega arith
   where

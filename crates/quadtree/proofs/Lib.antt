@@ -1,18 +1,27 @@
 -- Lemmas on the tree.
+pub mod Ascending
+pub mod Assembled
+pub mod Families
 pub mod Counts
 pub mod Distinct
+pub mod Divided
 pub mod Faults
 pub mod PointKinds
 pub mod LeafLevel
+pub mod LevelRanges
 pub mod Levels
+pub mod Lists
 pub mod Limits
 pub mod Members
 pub mod Parents
 pub mod Positions
+pub mod Pushed
 pub mod Roots
 pub mod Runs
 pub mod Searches
 pub mod Sorted
 pub mod TreeCells
+pub mod TreeChildren
 pub mod TreeLevels
+pub mod TreeNumbers
 pub mod Whole

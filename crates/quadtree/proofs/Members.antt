@@ -1,11 +1,10 @@
 -- The positions that a cell holds, one more at a time.
-use Rattle.std.proofs.Common.{ℕ, ◌≡◌, ◌+◌, ◌<◌, Bool, true, false, cond, List, [], ◌∷◌, ◌++◌, length, get_or, take, ap, ◌∙◌, sym, refl, append-nil}
+use Rattle.std.proofs.Common.{ℕ, ◌≡◌, ◌<◌, Bool, true, false, List, length, get_or, ap, ◌∙◌, sym, refl}
 use Rattle.std.specs.Prelude.{ℤ, Some, IsTrue, ◌↔◌}
-use Rattle.std.proofs.lemmas.List.Elements.{filter_more}
 use Rattle.std.proofs.lemmas.Option.{slice_get-get_or}
 use Rattle.points.specs.declared.Point.{Point}
 use Rattle.cell_name.specs.Square.{Square, Holds, holds_test}
-use Rattle.quadtree.specs.Members.{holds_point, holds_position, members_among}
+use Rattle.quadtree.specs.Members.{holds_point, holds_position}
 use Rattle.cell_name.proofs.HoldsTest.{Holds-from_test, test-from_Holds}
 
 -- the answer of a test of the cell is the test by which points are counted
@@ -19,13 +18,3 @@ holds_test-answer c x y r h = same_bool r (holds_test c x y) (λ t. test-from_Ho
 
 pub holds_position-at : (c : Square) (points : List Point) (k : ℕ) (p : Point) → k < length points → p ≡ get_or points k p → holds_position c points k ≡ holds_test c p.x p.y
 holds_position-at c points k p lt e = ap (holds_point c) (slice_get-get_or points k p lt ∙ ap Some (sym e))
-
-pub members_more_yes : (points : List Point) (c : Square) (order : List ℕ) (i : ℕ) → i < length order → holds_position c points (get_or order i 0) ≡ true → members_among points c (take (i + 1) order) ≡ members_among points c (take i order) ++ get_or order i 0 ∷ []
-members_more_yes points c order i lt held =
-    filter_more (λ k. holds_position c points k) order i 0 lt ∙
-    ap (λ b. members_among points c (take i order) ++ cond b (get_or order i 0 ∷ []) []) held
-
-pub members_more_no : (points : List Point) (c : Square) (order : List ℕ) (i : ℕ) → i < length order → holds_position c points (get_or order i 0) ≡ false → members_among points c (take (i + 1) order) ≡ members_among points c (take i order)
-members_more_no points c order i lt apart =
-    filter_more (λ k. holds_position c points k) order i 0 lt ∙
-    ap (λ b. members_among points c (take i order) ++ cond b (get_or order i 0 ∷ []) []) apart ∙ append-nil (members_among points c (take i order))

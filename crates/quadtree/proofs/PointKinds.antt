@@ -1,18 +1,15 @@
 -- The points of a cell, by their positions, and their kinds.
-use Rattle.std.proofs.Common.{ℕ, ◌≡◌, ◌<◌, List, length, get_or, Option, Some, None, Bool, true, not, refl, sym, ap, ◌∙◌, arith}
+use Rattle.std.proofs.Common.{ℕ, ◌≡◌, ◌<◌, List, length, get_or, Option, Some, None, Bool, true, refl, sym, ap, ◌∙◌, arith}
 use Rattle.std.specs.Prelude.{Contains, IsTrue, ◌↔◌, slice_get}
 use Rattle.std.specs.List.{list_any, range_with_len}
 use Rattle.std.proofs.lemmas.Bool.{false≢true}
 use Rattle.std.proofs.lemmas.List.Folds.{Any-from_list_any, list_any-from_Any}
 use Rattle.std.proofs.lemmas.List.FromFn.{get_or-range_with_len, length-range_with_len}
 use Rattle.std.proofs.lemmas.Option.{slice_get-get_or, slice_get_within, get_or_from_slice_get}
-use Rattle.points.specs.declared.Kind.{Kind}
-use Rattle.points.specs.declared.Kind.TheVariants.{Charge, Dipole, Vortex, Target}
 use Rattle.points.specs.declared.Point.{Point}
-use Rattle.points.specs.Points.{IsTarget, IsSource}
 use Rattle.cell_name.specs.Square.{Square, Holds}
 use Rattle.quadtree.specs.Members.{holds_point, holds_position, members_of}
-use Rattle.quadtree.specs.Nodes.{target_test, is_target, is_source}
+use Rattle.quadtree.specs.Nodes.{is_target_at, is_source_at}
 use Rattle.quadtree.specs.Tree.{HasPoint, HasSource, HasTarget}
 use Rattle.cell_name.proofs.HoldsTest.{Holds-from_test, test-from_Holds}
 use Rattle.quadtree.proofs.Distinct.{Contains-filter, Contains-into_filter}
@@ -55,50 +52,26 @@ has_point points c k p h = let at = point_at points k p h.point_is in record { l
 member_of_listed : (points : List Point) (c : Square) (p : Point) → HasPoint points c p → (k : ℕ) × IsMember points c k p
 member_of_listed points c p h = (h.listed.0, record { point_is = slice_get-at points h.listed.0 p (record { inside = h.listed.1; here = h.listed.2 }); held = h.held })
 
-target_from_test : (kind : Kind) → target_test kind ≡ true → IsTarget kind
-target_from_test (Charge q) e = absurd (false≢true e)
-target_from_test (Dipole re im) e = absurd (false≢true e)
-target_from_test (Vortex g) e = absurd (false≢true e)
-target_from_test Target e = refl
-
-test-from_target : (kind : Kind) → IsTarget kind → target_test kind ≡ true
-test-from_target (Charge q) h = absurd (false≢true h)
-test-from_target (Dipole re im) h = absurd (false≢true h)
-test-from_target (Vortex g) h = absurd (false≢true h)
-test-from_target Target h = refl
-
-source_from_test : (kind : Kind) → not (target_test kind) ≡ true → IsSource kind
-source_from_test (Charge q) e = refl
-source_from_test (Dipole re im) e = refl
-source_from_test (Vortex g) e = refl
-source_from_test Target e = absurd (false≢true e)
-
-test-from_source : (kind : Kind) → IsSource kind → not (target_test kind) ≡ true
-test-from_source (Charge q) h = refl
-test-from_source (Dipole re im) h = refl
-test-from_source (Vortex g) h = refl
-test-from_source Target h = absurd (false≢true h)
-
-pub has_target_is : (points : List Point) (c : Square) (b : Bool) → b ≡ list_any (λ k. is_target (slice_get points k)) (members_of points c) → IsTrue b ↔ HasTarget points c
+pub has_target_is : (points : List Point) (c : Square) (b : Bool) → b ≡ list_any (λ k. is_target_at (slice_get points k)) (members_of points c) → IsTrue b ↔ HasTarget points c
 has_target_is points c b e = (
   λ t.
-      let found = Any-from_list_any (λ k. is_target (slice_get points k)) (members_of points c) (sym e ∙ t) in
+      let found = Any-from_list_any (λ k. is_target_at (slice_get points k)) (members_of points c) (sym e ∙ t) in
       let m = member_point points c found.1 (found.0, found.2, found.3) in
-      record { target = m.0; here = has_point points c found.1 m.0 m.1; is_target = target_from_test m.0.kind (sym (ap is_target m.1.point_is) ∙ found.4) },
+      record { target = m.0; here = has_point points c found.1 m.0 m.1; is_target = sym (ap is_target_at m.1.point_is) ∙ found.4 },
   λ h.
       let m = member_of_listed points c h.target h.here in
       let at = Contains-members_of points c m.0 h.target m.1 in
-      e ∙ list_any-from_Any (λ k. is_target (slice_get points k)) (members_of points c) (at.0, m.0, at.1, at.2, ap is_target m.1.point_is ∙ test-from_target h.target.kind h.is_target),
+      e ∙ list_any-from_Any (λ k. is_target_at (slice_get points k)) (members_of points c) (at.0, m.0, at.1, at.2, ap is_target_at m.1.point_is ∙ h.is_target),
 )
 
-pub has_source_is : (points : List Point) (c : Square) (b : Bool) → b ≡ list_any (λ k. is_source (slice_get points k)) (members_of points c) → IsTrue b ↔ HasSource points c
+pub has_source_is : (points : List Point) (c : Square) (b : Bool) → b ≡ list_any (λ k. is_source_at (slice_get points k)) (members_of points c) → IsTrue b ↔ HasSource points c
 has_source_is points c b e = (
   λ t.
-      let found = Any-from_list_any (λ k. is_source (slice_get points k)) (members_of points c) (sym e ∙ t) in
+      let found = Any-from_list_any (λ k. is_source_at (slice_get points k)) (members_of points c) (sym e ∙ t) in
       let m = member_point points c found.1 (found.0, found.2, found.3) in
-      record { source = m.0; here = has_point points c found.1 m.0 m.1; is_source = source_from_test m.0.kind (sym (ap is_source m.1.point_is) ∙ found.4) },
+      record { source = m.0; here = has_point points c found.1 m.0 m.1; is_source = sym (ap is_source_at m.1.point_is) ∙ found.4 },
   λ h.
       let m = member_of_listed points c h.source h.here in
       let at = Contains-members_of points c m.0 h.source m.1 in
-      e ∙ list_any-from_Any (λ k. is_source (slice_get points k)) (members_of points c) (at.0, m.0, at.1, at.2, ap is_source m.1.point_is ∙ test-from_source h.source.kind h.is_source),
+      e ∙ list_any-from_Any (λ k. is_source_at (slice_get points k)) (members_of points c) (at.0, m.0, at.1, at.2, ap is_source_at m.1.point_is ∙ h.is_source),
 )

@@ -1,9 +1,9 @@
 -- The whole grid holds each point.
-use Rattle.std.proofs.Common.{ℕ, ◌≡◌, ◌+◌, ◌-◌, ◌<◌, ◌≤◌, List, [], ◌∷◌, ◌++◌, length, get_or, filter, cond, Bool, true, refl, sym, ap, ◌∙◌, subst, arith, lit<}
+use Rattle.std.proofs.Common.{ℕ, ◌≡◌, ◌+◌, ◌-◌, ◌<◌, ◌≤◌, List, [], ◌∷◌, ◌++◌, length, get_or, true, sym, ap, ◌∙◌, subst, arith, lit<}
 use Rattle.std.specs.Prelude.{ℤ, All, slice_range}
 use Rattle.std.specs.List.{range_with_len}
 use Rattle.std.proofs.lemmas.List.{take_all}
-use Rattle.std.proofs.lemmas.List.Elements.{All-head, All-tail, All-weaker, All-from_recursion, All-nil}
+use Rattle.std.proofs.lemmas.List.Elements.{All-weaker, All-from_recursion, All-nil}
 use Rattle.std.proofs.lemmas.List.FromFn.{length-range_with_len}
 use Rattle.std.proofs.lemmas.Option.{slice_get-get_or}
 use Rattle.points.specs.declared.Point.{Point}
@@ -12,9 +12,10 @@ use Rattle.cell_name.specs.Square.{Square, root, IsInGrid, Holds}
 use Rattle.cell_name.proofs.Cells.{Holds-square_at, square_at-root}
 use Rattle.quadtree.specs.declared.split.Run.{Run}
 use Rattle.quadtree.specs.Members.{holds_point, holds_position, members_of}
-use Rattle.quadtree.specs.Splitting.{squares_of, occupied, IsRun, AreRuns}
+use Rattle.quadtree.specs.Splitting.{squares_of, occupied, IsRun, AreRuns, IsParentNumber, HaveParents}
 use Rattle.quadtree.specs.Tree.{AreInGrid, count_in}
 use Rattle.cell_name.proofs.HoldsTest.{test-from_Holds}
+use Rattle.quadtree.proofs.Lists.{filter_whole}
 use Rattle.quadtree.proofs.Positions.{length-members}
 use Rattle.quadtree.proofs.Runs.{range_below, occupied-one, occupied-none}
 
@@ -27,14 +28,10 @@ root_holds grid (p ∷ ps) k positive inside lt =
     let q : Point = get_or (p ∷ ps) k p in
     ap (holds_point (root grid)) (slice_get-get_or (p ∷ ps) k p lt) ∙ test-from_Holds (root grid) q.x q.y (Holds-root grid q.x q.y positive (inside k p lt))
 
-filter_all : (p : ℕ → Bool) (xs : List ℕ) → All (λ k. p k ≡ true) xs → filter p xs ≡ xs
-filter_all p [] h = refl
-filter_all p (x ∷ xs) h = ap (λ b. cond b (x ∷ filter p xs) (filter p xs)) (All-head (λ k. p k ≡ true) x xs h) ∙ ap (λ l. x ∷ l) (filter_all p xs (All-tail (λ k. p k ≡ true) x xs h))
-
 members_of-root : (grid : ℕ) (points : List Point) → 0 < grid → AreInGrid grid points → members_of points (root grid) ≡ range_with_len 0 (length points)
 members_of-root grid points positive inside =
     let below : All (λ k. k < 0 + length points) (range_with_len 0 (length points)) = range_below 0 (length points) in
-    filter_all (λ k. holds_position (root grid) points k) (range_with_len 0 (length points))
+    filter_whole (λ k. holds_position (root grid) points k) (range_with_len 0 (length points))
     (All-weaker (λ k. k < 0 + length points) (λ k. holds_position (root grid) points k ≡ true) (λ k lt. root_holds grid points k positive inside (omega arith)) (range_with_len 0 (length points)) below)
 
 count_in-root : (grid : ℕ) (points : List Point) → 0 < grid → AreInGrid grid points → count_in points (root grid) ≡ length points
@@ -44,9 +41,10 @@ count_in-root grid points positive inside = sym (length-members points (root gri
 pub record IsBegun (points : List Point) (xs : List ℕ) (runs : List Run) : Type 0 where
   pub cells : squares_of runs ≡ occupied points (root 16 ∷ [])
   pub runs_are : AreRuns points xs runs
+  pub parents : HaveParents (squares_of runs) runs
 
-pub begun_with : (points : List Point) (xs : List ℕ) (run : Run) → AreInGrid 16 points → xs ≡ range_with_len 0 (length points) → square run.cell ≡ root 16 → run.from ≡ 0 → run.to ≡ length points → 0 < length points → IsBegun points xs (run ∷ [])
-begun_with points xs run inside e cell from to some =
+pub begun_with : (points : List Point) (xs : List ℕ) (run : Run) → AreInGrid 16 points → xs ≡ range_with_len 0 (length points) → square run.cell ≡ root 16 → run.parent ≡ 0 → run.from ≡ 0 → run.to ≡ length points → 0 < length points → IsBegun points xs (run ∷ [])
+begun_with points xs run inside e cell parent from to some =
     let size : length xs ≡ length points = ap length e ∙ length-range_with_len 0 (length points) in
     let below : All (λ k. k < 0 + length points) (range_with_len 0 (length points)) = range_below 0 (length points) in
     let P : List ℕ → Type 0 = λ l. All (λ k. k < length points) l in
@@ -59,6 +57,9 @@ begun_with points xs run inside e cell from to some =
             positions_below = subst P (sym e) (All-weaker (λ k. k < 0 + length points) (λ k. k < length points) (λ k lt. omega arith) (range_with_len 0 (length points)) below);
             each = All-from_recursion (IsRun points xs) (run ∷ []) (record { ordered = omega arith; in_range = omega arith; members_are = whole ∙ e ∙ sym (members_of-root 16 points (lit< tt) inside) ∙ ap (members_of points) (sym cell) }, tt);
           };
+      parents =
+          All-from_recursion (λ (r : Run). IsParentNumber (squares_of (run ∷ [])) (square r.cell) r.parent) (run ∷ [])
+          (record { in_range = omega arith; of_root = λ e. parent; of_others = λ lo. absurd (let e : run.cell.level ≡ 0 = ap (λ (c : Square). c.level) cell in omega arith) }, tt);
     }
 
 pub begun_empty : (points : List Point) (xs : List ℕ) → AreInGrid 16 points → xs ≡ range_with_len 0 (length points) → length points ≤ 0 → IsBegun points xs []
@@ -73,13 +74,14 @@ begun_empty points xs inside e none =
             positions_below = subst P (sym e) (All-weaker (λ k. k < 0 + length points) (λ k. k < length points) (λ k lt. omega arith) (range_with_len 0 (length points)) below);
             each = All-nil (IsRun points xs);
           };
+      parents = All-nil (λ (r : Run). IsParentNumber [] (square r.cell) r.parent);
     }
 
 -- the same, for lists that the code made
-pub begun_pushed : (run : Run) (points : List Point) (xs : List ℕ) (was runs : List Run) → runs ≡ was ++ run ∷ [] → was ≡ [] → AreInGrid 16 points → xs ≡ range_with_len 0 (length points) → square run.cell ≡ root 16 → run.from ≡ 0 → run.to ≡ length points → 0 < length points → IsBegun points xs runs
-begun_pushed run points xs was runs e empty inside positions cell from to some =
+pub begun_pushed : (run : Run) (points : List Point) (xs : List ℕ) (was runs : List Run) → runs ≡ was ++ run ∷ [] → was ≡ [] → AreInGrid 16 points → xs ≡ range_with_len 0 (length points) → square run.cell ≡ root 16 → run.parent ≡ 0 → run.from ≡ 0 → run.to ≡ length points → 0 < length points → IsBegun points xs runs
+begun_pushed run points xs was runs e empty inside positions cell parent from to some =
     let P : List Run → Type 0 = λ l. IsBegun points xs l in
-    subst P (sym (e ∙ ap (λ l. l ++ run ∷ []) empty)) (begun_with points xs run inside positions cell from to some)
+    subst P (sym (e ∙ ap (λ l. l ++ run ∷ []) empty)) (begun_with points xs run inside positions cell parent from to some)
 
 pub begun_not : (points : List Point) (xs : List ℕ) (runs : List Run) → runs ≡ [] → AreInGrid 16 points → xs ≡ range_with_len 0 (length points) → length points ≤ 0 → IsBegun points xs runs
 begun_not points xs runs e inside positions none = let P : List Run → Type 0 = λ l. IsBegun points xs l in subst P (sym e) (begun_empty points xs inside positions none)

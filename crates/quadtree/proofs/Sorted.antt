@@ -1,25 +1,27 @@
 -- The cells of the tree, sorted.
-use Rattle.std.proofs.Common.{ℕ, ◌≡◌, ◌≢◌, ◌+◌, List, [], ◌∷◌, get_or, Bool, true, false, Decides, Ordering, Less, Equal, Greater, refl, sym, ap, ◌∙◌, subst, arith, eqb, lit<}
-use Rattle.std.specs.Prelude.{All, AllPairs, ◌&&◌}
+use Rattle.std.proofs.Common.{ℕ, ◌≡◌, ◌+◌, List, [], ◌∷◌, get_or, Bool, true, false, Decides, Ordering, Less, Equal, Greater, refl, sym, ap, ◌∙◌, subst, arith, eqb}
+use Rattle.std.specs.Prelude.{AllPairs, ◌&&◌}
 use Rattle.std.specs.List.Sorted.{IsPermutation, IsSortedBy}
 use Rattle.std.specs.Ordering.{is_lt, is_eq, nat_cmp, ordering_then}
 use Rattle.std.proofs.lemmas.Bool.{and_from, and_parts}
 use Rattle.std.proofs.lemmas.Bool.Decides.{Decides-eqb}
 use Rattle.std.proofs.lemmas.List.{get_or-map, length-map}
-use Rattle.std.proofs.lemmas.List.Sorted.{IsPermutation-map, All-permutation, Contains-permutation, ranks_by, sorted_far}
+use Rattle.std.proofs.lemmas.List.Sorted.{All-permutation, Contains-permutation, ranks_by, sorted_far}
 use Rattle.points.specs.declared.Point.{Point}
 use Rattle.cell_name.specs.Cell.{square}
+use Rattle.cell_name.specs.Order.{IsBefore}
 use Rattle.cell_name.specs.Square.{Square}
 use Rattle.cell_name.proofs.Order.{square_cmp, square_cmp_total, IsBefore-from_not_less, same-from_Equal, Equal-from_same}
 use Rattle.quadtree.specs.declared.split.Run.{Run}
-use Rattle.quadtree.specs.Splitting.{squares_of, cells_to_level, AreRuns, IsRun}
-use Rattle.quadtree.specs.Tree.{AreInGrid, AreTreeCells}
+use Rattle.quadtree.specs.Splitting.{squares_of, IsCellOfLevel, AreCellsOfLevel}
 use Rattle.quadtree.proofs.Distinct.{different-permutation}
-use Rattle.quadtree.proofs.TreeLevels.{IsCellToLevel, cells_to_level_are, cells_to_level_whole, cells_to_level_differ}
 
--- the comparison of two runs
+-- the comparison of two runs, which their cells decide
+abbrev pub numbers_cmp : Run → Run → Ordering
+numbers_cmp a b = ordering_then (nat_cmp a.parent b.parent) (ordering_then (nat_cmp a.from b.from) (nat_cmp a.to b.to))
+
 abbrev pub run_cmp : Run → Run → Ordering
-run_cmp a b = ordering_then (square_cmp (square a.cell) (square b.cell)) (ordering_then (nat_cmp a.from b.from) (nat_cmp a.to b.to))
+run_cmp a b = ordering_then (square_cmp (square a.cell) (square b.cell)) (numbers_cmp a b)
 
 cell_not_less : (o p : Ordering) → is_lt (ordering_then o p) ≡ false → is_lt o ≡ false
 cell_not_less Less p h = h
@@ -53,26 +55,23 @@ sorted_squares (r ∷ rs) up k d low high =
     let next : get_or (squares_of runs) (k + 1) d ≡ square second.cell = get_or-map (λ (q : Run). square q.cell) runs (k + 1) r d (omega arith) in
     let P : Square → Type 0 = λ a. is_lt (square_cmp (get_or (squares_of runs) (k + 1) d) a) ≡ false in
     let Q : Square → Type 0 = λ b. is_lt (square_cmp b (square first.cell)) ≡ false in
-    subst P (sym here) (subst Q (sym next) (cell_not_less (square_cmp (square second.cell) (square first.cell)) (ordering_then (nat_cmp second.from first.from) (nat_cmp second.to first.to)) (up k r low (omega arith))))
+    subst P (sym here) (subst Q (sym next) (cell_not_less (square_cmp (square second.cell) (square first.cell)) (numbers_cmp second first) (up k r low (omega arith))))
 
-pub are_tree_cells : (points : List Point) (cap : ℕ) (was now : List Run) → AreInGrid 16 points → squares_of was ≡ cells_to_level 16 points cap 16 → IsPermutation was now → IsSortedBy (λ a b. is_lt (run_cmp a b)) now → AreTreeCells 16 points cap (squares_of now)
-are_tree_cells points cap was now inside e moved up =
-    let all : List Square = cells_to_level 16 points cap 16 in
-    let P : List Square → Type 0 = λ l. IsPermutation l (squares_of now) in
-    let p : IsPermutation all (squares_of now) = subst P e (IsPermutation-map (λ (r : Run). square r.cell) was now moved) in
-    let are : All (IsCellToLevel 16 points cap 16) (squares_of now) = All-permutation (IsCellToLevel 16 points cap 16) all (squares_of now) p (cells_to_level_are 16 points cap 16 (omega arith)) in
-    let apart : AllPairs (λ a b. a ≢ b) (squares_of now) = different-permutation same same-decides all (squares_of now) p (cells_to_level_differ 16 points cap 16 (omega arith)) in
+-- the cells of a level in another order
+pub cells_moved : (grid : ℕ) (points : List Point) (cap level : ℕ) (was now : List Square) → IsPermutation was now → AreCellsOfLevel grid points cap level was → AreCellsOfLevel grid points cap level now
+cells_moved grid points cap level was now moved h =
     record {
-      in_tree = λ k d lt. (are k d lt).in_tree;
-      whole = λ c h. Contains-permutation all (squares_of now) c p (cells_to_level_whole 16 points cap 16 (lit< tt) inside c h (omega (arith, h.level_in_grid)));
-      ascending = λ i j d lt in_range.
-          let a : Square = get_or (squares_of now) i d in
-          let b : Square = get_or (squares_of now) j d in
-          let first = are i d (omega arith) in
-          let second = are j d in_range in
-          IsBefore-from_not_less a b (first.in_tree.of_grid ∙ sym second.in_tree.of_grid) (apart i j d lt in_range)
-          (sorted_far (λ x y. is_lt (square_cmp x y)) (ranks_by square_cmp_total (λ (c : Square). c)) (squares_of now) (sorted_squares now up) i j d (omega arith) in_range);
+      each = All-permutation (IsCellOfLevel grid points cap level) was now moved h.each;
+      whole = λ c k. Contains-permutation was now c moved (h.whole c k);
+      different = different-permutation same same-decides was now moved h.different;
     }
 
-pub AreRuns-permutation : (points : List Point) (xs : List ℕ) (was now : List Run) → IsPermutation was now → AreRuns points xs was → AreRuns points xs now
-AreRuns-permutation points xs was now moved a = record { positions_below = a.positions_below; each = All-permutation (IsRun points xs) was now moved a.each }
+-- sorted runs of a level have ascending cells
+pub ascending_from_sort : (grid : ℕ) (points : List Point) (cap level : ℕ) (runs : List Run) → AreCellsOfLevel grid points cap level (squares_of runs) → IsSortedBy (λ a b. is_lt (run_cmp a b)) runs → AllPairs IsBefore (squares_of runs)
+ascending_from_sort grid points cap level runs h up i j d lt inside =
+    let a : Square = get_or (squares_of runs) i d in
+    let b : Square = get_or (squares_of runs) j d in
+    let first = h.each i d (omega arith) in
+    let second = h.each j d inside in
+    IsBefore-from_not_less a b (first.in_tree.of_grid ∙ sym second.in_tree.of_grid) (h.different i j d lt inside)
+    (sorted_far (λ x y. is_lt (square_cmp x y)) (ranks_by square_cmp_total (λ (c : Square). c)) (squares_of runs) (sorted_squares runs up) i j d (omega arith) inside)

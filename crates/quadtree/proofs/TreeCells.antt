@@ -1,71 +1,20 @@
 -- The cells of the levels are the cells of the tree, each once.
-use Rattle.std.proofs.Common.{ℕ, ◌≡◌, ◌≢◌, ◌+◌, ◌*◌, ◌/◌, ◌%◌, ◌<◌, ◌≤◌, zero, suc, inl, inr, List, [], ◌∷◌, get_or, true, ltb, refl, sym, ap, ◌∙◌, subst, arith}
+use Rattle.std.proofs.Common.{ℕ, ◌≡◌, ◌≢◌, ◌<◌, ◌≤◌, zero, suc, inl, inr, List, [], ◌∷◌, get_or, true, ltb, sym, ap, ◌∙◌, subst, arith}
 use Rattle.std.specs.Prelude.{All, AllPairs, Contains}
+use Rattle.std.specs.List.{flat_map}
 use Rattle.std.proofs.lemmas.Bool.{cases_lt}
 use Rattle.std.proofs.lemmas.Bool.Decides.{nat_tests}
-use Rattle.std.proofs.lemmas.List.Elements.{All-from_recursion, All-nil, All-contains, Contains-get_or}
-use Rattle.std.proofs.lemmas.List.Kept.{AllPairs-cons, AllPairs-filter}
+use Rattle.std.proofs.lemmas.List.Elements.{All-contains, Contains-get_or}
+use Rattle.std.proofs.lemmas.List.Kept.{AllPairs-filter}
 use Rattle.points.specs.declared.Point.{Point}
-use Rattle.cell_name.specs.Square.{Square, root, parent, child}
-use Rattle.cell_name.proofs.Cells.{same_square}
-use Rattle.cell_name.proofs.Quarters.{parent-child}
-use Rattle.quadtree.specs.Splitting.{quarters, occupied, below, cells_of_level}
-use Rattle.quadtree.specs.Tree.{AreInGrid, count_in, IsSplit, IsTreeCell}
+use Rattle.cell_name.specs.Square.{Square, root, parent}
+use Rattle.cell_name.proofs.Quarters.{IsQuarter, quarters_are, quarters_contain, quarters_differ}
+use Rattle.cell_name.specs.Quarters.{quarters}
+use Rattle.quadtree.specs.Splitting.{below, cells_of_level, IsCellOfLevel, AreCellsOfLevel}
+use Rattle.quadtree.specs.Tree.{AreInGrid, count_in, IsSplit}
 use Rattle.quadtree.proofs.Distinct.{Contains-filter, Contains-into_filter, Contains-flat_map, All-flat_map, different-flat_map}
 use Rattle.quadtree.proofs.Levels.{below-split, below-whole}
 use Rattle.quadtree.proofs.Parents.{IsTreeCell-parent}
-
--- ---- the quarters of a cell
-
--- what a quarter of a cell is
-pub record IsQuarter (c q : Square) : Type 0 where
-  pub of_grid : q.grid ≡ c.grid
-  pub level : q.level ≡ c.level + 1
-  pub parent_is : parent q ≡ c
-
-quarter_is : (c : Square) (right top : ℕ) → right ≤ 1 → top ≤ 1 → IsQuarter c (child c right top)
-quarter_is c right top p q = record { of_grid = refl; level = refl; parent_is = parent-child c right top p q }
-
-pub quarters_are : (c : Square) → All (IsQuarter c) (quarters c)
-quarters_are c = All-from_recursion (IsQuarter c) (quarters c) (quarter_is c 0 0 (omega arith) (omega arith), (quarter_is c 0 1 (omega arith) (omega arith), (quarter_is c 1 0 (omega arith) (omega arith), (quarter_is c 1 1 (omega arith) (omega arith), tt))))
-
--- a cell below the root is a quarter of its parent
-pub quarters_contain : (c : Square) → 0 < c.level → Contains (quarters (parent c)) c
-quarters_contain c lo = by_rest (c.i % 2) (c.j % 2) (omega arith) (omega arith) (omega arith) (omega arith)
-  where
-    named : (right top : ℕ) → c.i ≡ 2 * (c.i / 2) + right → c.j ≡ 2 * (c.j / 2) + top → child (parent c) right top ≡ c
-    named right top ei ej = same_square (child (parent c) right top) c refl (omega arith) (sym ei) (sym ej)
-
-    by_rest : (right top : ℕ) → right < 2 → top < 2 → c.i ≡ 2 * (c.i / 2) + right → c.j ≡ 2 * (c.j / 2) + top → Contains (quarters (parent c)) c
-    by_rest zero zero p q ei ej = (0, omega arith, named 0 0 ei ej)
-    by_rest zero (suc zero) p q ei ej = (1, omega arith, named 0 1 ei ej)
-    by_rest (suc zero) zero p q ei ej = (2, omega arith, named 1 0 ei ej)
-    by_rest (suc zero) (suc zero) p q ei ej = (3, omega arith, named 1 1 ei ej)
-    by_rest zero (suc (suc n)) p q ei ej = absurd (omega arith)
-    by_rest (suc zero) (suc (suc n)) p q ei ej = absurd (omega arith)
-    by_rest (suc (suc n)) top p q ei ej = absurd (omega arith)
-
-abbrev Differ : Square → Square → Type 0
-Differ a b = a ≢ b
-
--- the four quarters differ
-pub quarters_differ : (c : Square) → AllPairs (λ a b. a ≢ b) (quarters c)
-quarters_differ c =
-    let sw : Square = child c 0 0 in
-    let nw : Square = child c 0 1 in
-    let se : Square = child c 1 0 in
-    let ne : Square = child c 1 1 in
-    AllPairs-cons Differ sw (nw ∷ se ∷ ne ∷ []) (All-from_recursion (Differ sw) (nw ∷ se ∷ ne ∷ []) (rows 0, (columns 0 0, (columns 0 1, tt))))
-    (AllPairs-cons Differ nw (se ∷ ne ∷ []) (All-from_recursion (Differ nw) (se ∷ ne ∷ []) (columns 1 0, (columns 1 1, tt))) (AllPairs-cons Differ se (ne ∷ []) (All-from_recursion (Differ se) (ne ∷ []) (rows 1, tt)) (AllPairs-cons Differ ne [] (All-nil (Differ ne)) none)))
-  where
-    none : AllPairs Differ []
-    none i j d lt inside = absurd (omega arith)
-
-    rows : (right : ℕ) → child c right 0 ≢ child c right 1
-    rows right e = let n : 2 * c.j + 0 ≡ 2 * c.j + 1 = ap (λ (s : Square). s.j) e in omega arith
-
-    columns : (top top' : ℕ) → child c 0 top ≢ child c 1 top'
-    columns top top' e = let n : 2 * c.i + 0 ≡ 2 * c.i + 1 = ap (λ (s : Square). s.i) e in omega arith
 
 -- ---- the cells below a cell
 
@@ -108,11 +57,6 @@ below_differ points cap c =
 
 -- ---- the cells of a level
 
--- a cell of the tree, of a level
-pub record IsCellOfLevel (grid : ℕ) (points : List Point) (cap level : ℕ) (c : Square) : Type 0 where
-  pub in_tree : IsTreeCell grid points cap c
-  pub level_is : c.level ≡ level
-
 cell_below : (grid : ℕ) (points : List Point) (cap level : ℕ) (c a : Square) → suc level ≤ grid → IsCellOfLevel grid points cap level c → IsBelow points cap c a → IsCellOfLevel grid points cap (suc level) a
 cell_below grid points cap level c a le h b =
     let P : Square → Type 0 = λ v. IsSplit points cap v in
@@ -125,6 +69,32 @@ cell_below grid points cap level c a le h b =
             reached = inr (omega (arith, b.quarter.level), subst P (sym b.quarter.parent_is) b.split);
           };
       level_is = omega (arith, b.quarter.level, h.level_is);
+    }
+
+-- the cells below those of a level
+are_below : (grid : ℕ) (points : List Point) (cap level : ℕ) (cells : List Square) → suc level ≤ grid → All (IsCellOfLevel grid points cap level) cells → All (IsCellOfLevel grid points cap (suc level)) (flat_map (below points cap) cells)
+are_below grid points cap level cells le above =
+    All-flat_map (IsCellOfLevel grid points cap (suc level)) (below points cap) cells
+    (λ c h k d lt. cell_below grid points cap level c (get_or (below points cap c) k d) le (All-contains (IsCellOfLevel grid points cap level) cells c above h) (below_is points cap c (get_or (below points cap c) k d) (Contains-get_or (below points cap c) k d lt)))
+
+whole_below : (grid : ℕ) (points : List Point) (cap level : ℕ) (cells : List Square) → 0 < grid → AreInGrid grid points → ((c : Square) → IsCellOfLevel grid points cap level c → Contains cells c) → (c : Square) → IsCellOfLevel grid points cap (suc level) c → Contains (flat_map (below points cap) cells) c
+whole_below grid points cap level cells positive inside above c h =
+    let lo : 0 < c.level = omega (arith, h.level_is) in
+    let up : IsCellOfLevel grid points cap level (parent c) = record { in_tree = IsTreeCell-parent grid points cap c positive inside h.in_tree lo; level_is = omega (arith, h.level_is) } in
+    elim h.in_tree.reached [
+      | inl is_root ↦ absurd (let z : c.level ≡ 0 = ap (λ (v : Square). v.level) is_root in omega arith)
+      | inr reached ↦ Contains-flat_map (below points cap) cells (parent c) c (above (parent c) up) (below_has points cap c lo reached.1 h.in_tree.occupied)
+    ]
+
+differ_below : (points : List Point) (cap : ℕ) (cells : List Square) → AllPairs (λ a b. a ≢ b) cells → AllPairs (λ a b. a ≢ b) (flat_map (below points cap) cells)
+differ_below points cap cells above = different-flat_map (below points cap) parent cells above (λ c h. below_differ points cap c) (λ c a listed h. (below_is points cap c a h).quarter.parent_is)
+
+pub cells_below : (grid : ℕ) (points : List Point) (cap level : ℕ) (cells : List Square) → 0 < grid → AreInGrid grid points → suc level ≤ grid → AreCellsOfLevel grid points cap level cells → AreCellsOfLevel grid points cap (suc level) (flat_map (below points cap) cells)
+cells_below grid points cap level cells positive inside le h =
+    record {
+      each = are_below grid points cap level cells le h.each;
+      whole = whole_below grid points cap level cells positive inside h.whole;
+      different = differ_below points cap cells h.different;
     }
 
 pub cells_of_level_are : (grid : ℕ) (points : List Point) (cap level : ℕ) → level ≤ grid → All (IsCellOfLevel grid points cap level) (cells_of_level grid points cap level)
@@ -143,10 +113,7 @@ cells_of_level_are grid points cap zero le = λ k d lt. first (get_or (cells_of_
           in_tree = record { of_grid = ap (λ (v : Square). v.grid) e; level_in_grid = omega arith; occupied = has_point points c kept.1; reached = inl e };
           level_is = level;
         }
-cells_of_level_are grid points cap (suc level) le =
-    let above = cells_of_level_are grid points cap level (omega arith) in
-    All-flat_map (IsCellOfLevel grid points cap (suc level)) (below points cap) (cells_of_level grid points cap level)
-    (λ c h k d lt. cell_below grid points cap level c (get_or (below points cap c) k d) le (All-contains (IsCellOfLevel grid points cap level) (cells_of_level grid points cap level) c above h) (below_is points cap c (get_or (below points cap c) k d) (Contains-get_or (below points cap c) k d lt)))
+cells_of_level_are grid points cap (suc level) le = are_below grid points cap level (cells_of_level grid points cap level) le (cells_of_level_are grid points cap level (omega arith))
 
 pub cells_of_level_whole : (grid : ℕ) (points : List Point) (cap level : ℕ) → 0 < grid → AreInGrid grid points → (c : Square) → IsCellOfLevel grid points cap level c → Contains (cells_of_level grid points cap level) c
 cells_of_level_whole grid points cap zero positive inside c h =
@@ -154,17 +121,8 @@ cells_of_level_whole grid points cap zero positive inside c h =
       | inl is_root ↦ Contains-into_filter (λ q. ltb 0 (count_in points q)) (root grid ∷ []) c (0, omega arith, sym is_root) (test-has_point points c h.in_tree.occupied)
       | inr below ↦ absurd (omega (arith, below.0, h.level_is))
     ]
-cells_of_level_whole grid points cap (suc level) positive inside c h =
-    let lo : 0 < c.level = omega (arith, h.level_is) in
-    let up : IsCellOfLevel grid points cap level (parent c) = record { in_tree = IsTreeCell-parent grid points cap c positive inside h.in_tree lo; level_is = omega (arith, h.level_is) } in
-    elim h.in_tree.reached [
-      | inl is_root ↦ absurd (let z : c.level ≡ 0 = ap (λ (v : Square). v.level) is_root in omega arith)
-      | inr reached ↦
-          Contains-flat_map (below points cap) (cells_of_level grid points cap level) (parent c) c (cells_of_level_whole grid points cap level positive inside (parent c) up) (below_has points cap c lo reached.1 h.in_tree.occupied)
-    ]
+cells_of_level_whole grid points cap (suc level) positive inside c h = whole_below grid points cap level (cells_of_level grid points cap level) positive inside (cells_of_level_whole grid points cap level positive inside) c h
 
 pub cells_of_level_differ : (grid : ℕ) (points : List Point) (cap level : ℕ) → AllPairs (λ a b. a ≢ b) (cells_of_level grid points cap level)
 cells_of_level_differ grid points cap zero = AllPairs-filter (λ a b. a ≢ b) (λ q. ltb 0 (count_in points q)) (root grid ∷ []) (λ i j d lt inside. absurd (omega arith))
-cells_of_level_differ grid points cap (suc level) =
-    different-flat_map (below points cap) parent (cells_of_level grid points cap level) (cells_of_level_differ grid points cap level) (λ c h. below_differ points cap c)
-    (λ c a listed h. (below_is points cap c a h).quarter.parent_is)
+cells_of_level_differ grid points cap (suc level) = differ_below points cap (cells_of_level grid points cap level) (cells_of_level_differ grid points cap level)

@@ -39,6 +39,11 @@ pub record HasMoreCells (grid : ℕ) (points : List Point) (cap most : ℕ) : Ty
   pub different : AllPairs (λ c d. c ≢ d) cells
   pub more : most < length cells
 
+-- the list has a tree: no place is crowded, and the tree has no more than its most cells
+pub record HasTree (grid : ℕ) (points : List Point) (cap : ℕ) : Type 0 where
+  pub none_crowded : NoneIsCrowded grid points
+  pub no_more : HasMoreCells grid points cap most_cells → ⊥
+
 -- no place is crowded, and still the tree has too many cells
 pub record HasTooManyCells (grid : ℕ) (points : List Point) (cap : ℕ) : Type 0 where
   pub none_crowded : NoneIsCrowded grid points

@@ -1,8 +1,17 @@
 -- What a tree's fields show.
-use Rattle.std.specs.Prelude.{ℕ, ◌-◌, ◌≤◌, List, length, map, slice_range, All}
+use Rattle.std.specs.Prelude.{ℕ, ◌-◌, ◌≤◌, List, [], length, map, take, slice_range, All}
 use Rattle.cell_name.specs.declared.cell.Cell.{Cell}
+use Rattle.quadtree.specs.declared.children.Children.{Children}
 use Rattle.quadtree.specs.declared.tree.Node.{Node}
 use Rattle.quadtree.specs.TreeModel.{NodeModel, TreeModel, IsTree}
+
+-- the numbers of the cells below a cell
+abbrev pub numbers_of : Children → List ℕ
+numbers_of children = take children.count children.numbers
+
+-- what stands past the last cell
+abbrev pub no_children : Children
+no_children = record { numbers = []; count = 0 }
 
 -- what a node shows, whose points are a range of positions
 abbrev pub node_model : List ℕ → Node → NodeModel
@@ -14,6 +23,7 @@ node_model positions node =
       has_source = node.has_source;
       has_target = node.has_target;
       members = slice_range positions node.from node.to;
+      children = numbers_of node.children;
     }
 
 -- the tree that cells, nodes, positions and leaves make
@@ -25,7 +35,8 @@ pub record IsRange (positions : List ℕ) (node : Node) : Type 0 where
   pub ordered : node.from ≤ node.to
   pub in_range : node.to ≤ length positions
 
--- each node has a range of the positions, and together they are a tree
+-- each node has a range of the positions and at most four children, and together they are a tree
 pub record AreFieldsOfTree (cells : List Cell) (nodes : List Node) (positions leaves : List ℕ) : Type 0 where
   pub ranges : All (IsRange positions) nodes
+  pub few_children : All (λ (node : Node). node.children.count ≤ 4) nodes
   pub is_tree : IsTree (tree_of cells nodes positions leaves)

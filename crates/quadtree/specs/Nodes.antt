@@ -1,53 +1,43 @@
 -- What the build keeps of each cell, and of each point. No public contract cites it.
-use Rattle.std.specs.Prelude.{ℕ, ◌≡◌, ◌<◌, ◌↔◌, Bool, true, false, not, IsTrue, List, length, Option, Some, None, slice_index, slice_index_or, slice_range, Contains}
-use Rattle.points.specs.declared.Kind.{Kind}
-use Rattle.points.specs.declared.Kind.TheVariants.{Charge, Dipole, Vortex, Target}
+use Rattle.std.specs.Prelude.{ℕ, ◌≡◌, ◌<◌, ◌↔◌, Bool, false, not, IsTrue, List, length, Option, Some, None, slice_index, slice_index_or, slice_range, Contains}
 use Rattle.points.specs.declared.Point.{Point}
-use Rattle.cell_name.specs.Square.{Square, root, parent}
+use Rattle.points.specs.Points.{is_source}
+use Rattle.cell_name.specs.Square.{Square, root}
+use Rattle.quadtree.specs.declared.children.Children.{Children}
 use Rattle.quadtree.specs.declared.tree.Node.{Node}
-use Rattle.quadtree.specs.Fields.{IsRange}
+use Rattle.quadtree.specs.Fields.{IsRange, no_children}
 use Rattle.quadtree.specs.Members.{members_of}
 use Rattle.quadtree.specs.Tree.{IsLeaf, HasSource, HasTarget}
 
--- whether a particle is a target
-abbrev pub target_test : Kind → Bool
-target_test (Charge q) = false
-target_test (Dipole re im) = false
-target_test (Vortex g) = false
-target_test Target = true
-
 -- whether a point is there and is a target, or a source
-abbrev pub is_target : Option Point → Bool
-is_target (Some p) = target_test p.kind
-is_target None = false
+abbrev pub is_target_at : Option Point → Bool
+is_target_at (Some p) = not (is_source p.kind)
+is_target_at None = false
 
-abbrev pub is_source : Option Point → Bool
-is_source (Some p) = not (target_test p.kind)
-is_source None = false
+abbrev pub is_source_at : Option Point → Bool
+is_source_at (Some p) = is_source p.kind
+is_source_at None = false
 
--- the number of the parent among the cells; 0 for the root
-pub record IsParentNumber (cells : List Square) (c : Square) (n : ℕ) : Type 0 where
-  pub in_range : n < length cells
-  pub of_root : c.level ≡ 0 → n ≡ 0
-  pub of_others : 0 < c.level → slice_index_or cells n (root 16) ≡ parent c
-
--- what is kept of a cell is right
-pub record IsNodeOf (points : List Point) (cap : ℕ) (positions : List ℕ) (cells : List Square) (c : Square) (node : Node) : Type 0 where
+-- what is kept of a cell is right, but for the numbers of other cells, which are given
+pub record IsNodeOf (points : List Point) (cap : ℕ) (positions : List ℕ) (c : Square) (parent : ℕ) (children : Children) (node : Node) : Type 0 where
   pub range : IsRange positions node
   pub members_are : slice_range positions node.from node.to ≡ members_of points c
   pub leaf : IsTrue node.is_leaf ↔ IsLeaf 16 points cap c
   pub source : IsTrue node.has_source ↔ HasSource points c
   pub target : IsTrue node.has_target ↔ HasTarget points c
-  pub parent_is : IsParentNumber cells c node.parent
+  pub parent_is : node.parent ≡ parent
+  pub children_are : node.children ≡ children
 
 -- what stands past the last node
 abbrev pub blank_node : Node
-blank_node = record { parent = 0; from = 0; to = 0; is_leaf = false; has_source = false; has_target = false }
+blank_node = record { parent = 0; from = 0; to = 0; is_leaf = false; has_source = false; has_target = false; children = no_children }
 
--- a right node for each of the first `n` cells
-pub record AreNodesTo (points : List Point) (cap : ℕ) (positions : List ℕ) (cells : List Square) (nodes : List Node) (n : ℕ) : Type 0 where
-  pub as_many : length nodes ≡ n
-  pub each : (k : ℕ) → k < n → IsNodeOf points cap positions cells (slice_index_or cells k (root 16)) (slice_index_or nodes k blank_node)
+module _ (points : List Point) (cap : ℕ) (positions : List ℕ) (cells : List Square) (parents : List ℕ) (families : List Children) where
+  -- a right node for each of the first `n` cells
+  pub record AreNodesTo (nodes : List Node) (n : ℕ) : Type 0 where
+    pub as_many : length nodes ≡ n
+    pub each :
+        (k : ℕ) → k < n → IsNodeOf points cap positions (slice_index_or cells k (root 16)) (slice_index parents k) (slice_index_or families k no_children) (slice_index_or nodes k blank_node)
 
 -- a position of a leaf among the nodes
 pub record IsInLeaf (positions : List ℕ) (nodes : List Node) (n k : ℕ) : Type 0 where

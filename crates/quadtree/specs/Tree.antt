@@ -1,5 +1,5 @@
 -- The adaptive quadtree of a list of points with a leaf capacity, as a predicate on each cell by itself.
-use Rattle.std.specs.Prelude.{ℕ, ◌≡◌, ◌<◌, ◌≤◌, ◌⊎◌, List, count_by, All, AllPairs, Contains}
+use Rattle.std.specs.Prelude.{ℕ, ◌≡◌, ◌<◌, ◌≤◌, ◌⊎◌, Bool, nat_lt, List, count_by, All, AllPairs, Contains}
 use Rattle.points.specs.declared.Point.{Point}
 use Rattle.points.specs.Points.{IsTarget, IsSource}
 use Rattle.cell_name.specs.Order.{IsBefore}
@@ -12,6 +12,10 @@ AreInGrid grid points = All (λ p. IsInGrid grid p.x p.y) points
 -- how many points, sources and targets together, a cell has
 abbrev pub count_in : List Point → Square → ℕ
 count_in points c = count_by (λ p. holds_test c p.x p.y) points
+
+-- whether a cell has more points than the capacity
+abbrev pub is_over : List Point → ℕ → Square → Bool
+is_over points cap c = nat_lt cap (count_in points c)
 
 -- a cell with more points than the capacity: its quarters that have a point are cells of the tree
 pub record IsSplit (points : List Point) (cap : ℕ) (c : Square) : Type 0 where

@@ -1,5 +1,7 @@
 -- A tree as callers see it, and what it is for a list of points and a capacity.
-use Rattle.std.specs.Prelude.{ℕ, ◌≡◌, ◌<◌, ◌≤◌, ◌↔◌, Bool, false, IsTrue, List, [], length, map, Some, slice_get, slice_index, slice_index_or}
+use Rattle.std.specs.Prelude.{ℕ, ◌≡◌, ◌<◌, ◌≤◌, ◌↔◌, ◌==◌, ◌&&◌, nat_lt, Bool, false, IsTrue, List, [], length, map, filter, Some, slice_get, slice_index, slice_index_or}
+use Rattle.std.specs.List.{range_with_len}
+use Rattle.exact_math.specs.Orders.{IsCapacity}
 use Rattle.points.specs.declared.Point.{Point}
 use Rattle.points.specs.Limits.{most_points}
 use Rattle.cell_name.specs.declared.cell.Cell.{Cell}
@@ -9,7 +11,7 @@ use Rattle.quadtree.specs.Faults.{most_cells}
 use Rattle.quadtree.specs.Members.{members_of}
 use Rattle.quadtree.specs.Tree.{AreInGrid, count_in, AreTreeCells, IsLeaf, HasSource, HasTarget}
 
--- What is kept of a cell: its parent's number, how many points it has, what kind of cell it is, and the positions of its points.
+-- What is kept of a cell: its parent's number, how many points it has, what kind of cell it is, the positions of its points, and the numbers of its children.
 pub record NodeModel : Type 0 where
   pub parent : ℕ
   pub count : ℕ
@@ -17,6 +19,7 @@ pub record NodeModel : Type 0 where
   pub has_source : Bool
   pub has_target : Bool
   pub members : List ℕ
+  pub children : List ℕ
 
 -- The cells in their order, what is kept of each, and the number of the leaf of each point.
 pub record TreeModel : Type 0 where
@@ -38,7 +41,7 @@ square_of tree n = slice_index_or (squares tree) n (root 16)
 
 -- what stands past the last cell
 abbrev pub no_node : NodeModel
-no_node = record { parent = 0; count = 0; is_leaf = false; has_source = false; has_target = false; members = [] }
+no_node = record { parent = 0; count = 0; is_leaf = false; has_source = false; has_target = false; members = []; children = [] }
 
 -- what is kept of the cell of a number
 abbrev pub node_of : TreeModel → ℕ → NodeModel
@@ -54,6 +57,14 @@ pub record HasParent (tree : TreeModel) (n : ℕ) : Type 0 where
   pub of_first : n ≡ 0 → (node_of tree n).parent ≡ 0
   pub of_others : 0 < n → square_of tree (node_of tree n).parent ≡ parent (square_of tree n)
 
+-- whether a cell has another as its parent; cell 0 has none
+abbrev pub is_child : TreeModel → ℕ → ℕ → Bool
+is_child tree n c = nat_lt 0 c && ((node_of tree c).parent == n)
+
+-- the numbers of the cells whose parent a cell is, ascending
+abbrev pub children_of : TreeModel → ℕ → List ℕ
+children_of tree n = filter (is_child tree n) (range_with_len 0 (size tree))
+
 -- what is kept of a cell is right
 pub record IsNode (grid : ℕ) (tree : TreeModel) (points : List Point) (cap n : ℕ) : Type 0 where
   pub parent_is : HasParent tree n
@@ -62,6 +73,7 @@ pub record IsNode (grid : ℕ) (tree : TreeModel) (points : List Point) (cap n :
   pub source : IsTrue (node_of tree n).has_source ↔ HasSource points (square_of tree n)
   pub target : IsTrue (node_of tree n).has_target ↔ HasTarget points (square_of tree n)
   pub members_are : (node_of tree n).members ≡ members_of points (square_of tree n)
+  pub children_are : (node_of tree n).children ≡ children_of tree n
 
 -- the leaf of a point
 pub record IsLeafOf (grid : ℕ) (tree : TreeModel) (points : List Point) (cap n : ℕ) (p : Point) : Type 0 where
@@ -84,4 +96,11 @@ pub record IsTree (tree : TreeModel) : Type 0 where
   pub cap : ℕ
   pub in_grid : AreInGrid 16 points
   pub few_points : length points ≤ most_points
+  pub capacity : IsCapacity cap
   pub is_tree : IsTreeOf 16 tree points cap
+
+-- the numbers of the cells of a level: from `first` on, before `end`
+pub record IsLevel (tree : TreeModel) (level first end : ℕ) : Type 0 where
+  pub ordered : first ≤ end
+  pub in_range : end ≤ size tree
+  pub exact : (n : ℕ) → n < size tree → ((first ≤ n) × (n < end)) ↔ ((square_of tree n).level ≡ level)

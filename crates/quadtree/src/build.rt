@@ -3,11 +3,12 @@
 ghost use Rattle.std.specs.Prelude.{◌≡◌, ◌≤◌, length, map, All, IfErr, IfNone, IfOk, IfSome, OnOk};
 ghost use Rattle.exact_math.specs.Orders.{IsCapacity};
 ghost use Rattle.points.specs.Limits.{WithinLimits, most_points};
-ghost use Rattle.quadtree.specs.Faults.{most_cells, NoneIsCrowded, HasMoreCells, IsFaultOf};
-ghost use Rattle.quadtree.specs.Splitting.{squares_of, AreRuns, IsCrowdedRun, IsFirstCrowdedRun};
+ghost use Rattle.quadtree.specs.Faults.{most_cells, NoneIsCrowded, HasTree, IsFaultOf};
+ghost use Rattle.quadtree.specs.Splitting.{squares_of, AreRuns, HaveParents, IsCrowdedRun, IsFirstCrowdedRun};
 ghost use Rattle.quadtree.specs.Tree.{AreInGrid, AreTreeCells};
 ghost use Rattle.quadtree.specs.TreeModel.{IsTreeOf};
 
+use crate::children::children_of;
 use crate::fault::TreeFault;
 use crate::nodes::{leaves_of, nodes_of};
 use crate::split::{Run, Splits};
@@ -43,11 +44,12 @@ fn accepted(alloc: Global, points: &[Point], cap: u32) -> Result<Splits, TreeFau
     requires cap { cap ≤ 1024 }
     ensures cells { IfOk result (λ s. AreTreeCells 16 points.now cap (squares_of s.runs.items)) }
     ensures runs { IfOk result (λ s. AreRuns points.now s.positions.items s.runs.items) }
+    ensures parents { IfOk result (λ s. HaveParents (squares_of s.runs.items) s.runs.items) }
     ensures few { IfOk result (λ s. length s.runs.items ≤ most_cells) }
     ensures none_crowded { OnOk result (NoneIsCrowded 16 points.now) }
     ensures fault { IfErr result (IsFaultOf 16 points.now cap) }
 {
-    let splits = Splits::sorted(alloc, points, cap)?;
+    let splits = Splits::of(alloc, points, cap)?;
     if let Some(run) = first_crowded(&splits.runs) {
         let count = (run.to - run.from) as u64;
         return Err(TreeFault::Crowded {
@@ -75,11 +77,14 @@ fn assembled(alloc: Global, points: &[Point], cap: u32, splits: Splits) -> Resul
     requires cells { AreTreeCells 16 points.now cap (squares_of splits.runs.items) }
     requires few_cells { length splits.runs.items ≤ most_cells }
     requires runs { AreRuns points.now splits.positions.items splits.runs.items }
+    requires parents { HaveParents (squares_of splits.runs.items) splits.runs.items }
+    requires cap { IsCapacity cap }
     ensures { IfOk result (λ tree. IsTreeOf 16 tree points.now cap) }
 {
     let Splits { positions, runs } = splits;
     let cells = cells_of(alloc, &runs)?;
-    let nodes = nodes_of(alloc, points, cap, &cells, &positions, &runs)?;
+    let families = children_of(alloc, &runs)?;
+    let nodes = nodes_of(alloc, points, cap, &positions, &runs, &families)?;
     let leaves = leaves_of(alloc, points.len(), &nodes, &positions)?;
     Ok(Tree {
         cells,
@@ -101,8 +106,7 @@ impl Tree {
 
         // Every answer but `Memory` is the one that the list and the capacity determine.
         ensures tree { IfOk result (λ tree. IsTreeOf 16 tree points.now.list cap) }
-        ensures none_crowded { OnOk result (NoneIsCrowded 16 points.now.list) }
-        ensures no_more { OnOk result (HasMoreCells 16 points.now.list cap most_cells → ⊥) }
+        ensures has_tree { OnOk result (HasTree 16 points.now.list cap) }
         ensures fault { IfErr result (IsFaultOf 16 points.now.list cap) }
     {
         let list = points.list.points();

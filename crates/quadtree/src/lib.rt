@@ -2,6 +2,8 @@
 #![tactic(auto)]
 
 mod build;
+mod children;
+mod divide;
 mod fault;
 mod nodes;
 mod split;
@@ -9,6 +11,3 @@ mod tree;
 
 pub use fault::TreeFault;
 pub use tree::Tree;
-
-#[cfg(test)]
-mod tests;

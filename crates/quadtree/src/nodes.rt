@@ -1,45 +1,43 @@
 //! What is kept of each cell, and the leaf of each point.
 
-ghost use Rattle.std.specs.Prelude.{◌≡◌, ◌≢◌, ℕ, ◌+◌, ◌<◌, ◌≤◌, ◌^◌, ◌⊎◌, ◌↔◌, IsTrue, length, map, not, slice_get, slice_index, All, AllPairs, Contains, IfOk};
+ghost use Rattle.std.specs.Prelude.{◌≡◌, ℕ, ◌<◌, ◌≤◌, ◌^◌, ◌⊎◌, ◌↔◌, IsTrue, length, not, slice_get, slice_index, All, Contains, IfOk};
 ghost use Rattle.std.specs.List.{list_any};
 ghost use Rattle.cell_name.specs.Cell.{square};
-ghost use Rattle.cell_name.specs.Order.{IsBefore};
-ghost use Rattle.cell_name.specs.Square.{parent};
 ghost use Rattle.quadtree.specs.Fields.{IsRange};
-ghost use Rattle.quadtree.specs.Nodes.{is_target, is_source, IsParentNumber, IsNodeOf, AreNodesTo, LeavesAreApart, LeavesAreTo};
-ghost use Rattle.quadtree.specs.Splitting.{squares_of, IsRun, AreRuns};
-ghost use Rattle.quadtree.specs.Tree.{AreInGrid, AreTreeCells};
+ghost use Rattle.quadtree.specs.Nodes.{is_source_at, is_target_at, IsNodeOf, AreNodesTo, LeavesAreApart, LeavesAreTo};
+ghost use Rattle.quadtree.specs.Splitting.{squares_of, parents_of, IsRun, AreRuns};
+ghost use Rattle.quadtree.specs.Tree.{IsTreeCell};
 
+use crate::children::Children;
 use crate::split::Run;
 use crate::tree::Node;
-use cell_name::{Cell, GRID};
-use points::{Kind, Point};
+use cell_name::GRID;
+use points::Point;
 use std::alloc::{AllocError, Global};
 
-/// Whether the point at a position is a target.
-fn is_target(points: &[Point], k: u32) -> bool
+/// Whether the point at a position is a source.
+fn is_source(points: &[Point], k: u32) -> bool
     requires { k < length points.now }
-    ensures target { result ≡ is_target (slice_get points.now k) }
-    ensures source { not result ≡ is_source (slice_get points.now k) }
+    ensures source { result ≡ is_source_at (slice_get points.now k) }
+    ensures target { not result ≡ is_target_at (slice_get points.now k) }
 {
-    let kind = points[k as usize].kind;
-    matches!(kind, Kind::Target)
+    points[k as usize].kind.is_source()
 }
 
 /// Whether a target is among the points at some positions.
 fn has_target(points: &[Point], members: &[u32]) -> bool
     requires { All (λ k. k < length points.now) members.now }
-    ensures { result ≡ list_any (λ k. is_target (slice_get points.now k)) members.now }
+    ensures { result ≡ list_any (λ k. is_target_at (slice_get points.now k)) members.now }
 {
-    members.iter().any(|k| is_target(points, *k))
+    members.iter().any(|k| !is_source(points, *k))
 }
 
 /// Whether a source is among the points at some positions.
 fn has_source(points: &[Point], members: &[u32]) -> bool
     requires { All (λ k. k < length points.now) members.now }
-    ensures { result ≡ list_any (λ k. is_source (slice_get points.now k)) members.now }
+    ensures { result ≡ list_any (λ k. is_source_at (slice_get points.now k)) members.now }
 {
-    members.iter().any(|k| !is_target(points, *k))
+    members.iter().any(|k| is_source(points, *k))
 }
 
 /// Whether a cell with so many points is not split.
@@ -47,19 +45,6 @@ fn is_last(count: usize, cap: u32, level: u8) -> bool
     ensures { IsTrue result ↔ ((count ≤ cap) ⊎ (level ≡ 16)) }
 {
     count <= cap as usize || level == GRID
-}
-
-/// The number of a cell's parent; 0 for the root.
-fn parent_of(cells: &[Cell], cell: Cell) -> usize
-    requires some { 0 < length cells.now }
-    requires ascending { AllPairs IsBefore (map square cells.now) }
-    requires listed { 0 < cell.level → Contains (map square cells.now) (parent (square cell)) }
-    ensures { IsParentNumber (map square cells.now) (square cell) result }
-{
-    if cell.level == 0 {
-        return 0;
-    }
-    cells.binary_search(&cell.parent()).unwrap()
 }
 
 /// Writes the number of a leaf at the positions of its points.
@@ -74,23 +59,22 @@ fn mark(leaves: &mut [u32], members: &[u32], leaf: u32)
 }
 
 impl Node {
-    /// What is kept of the cell of a run.
-    fn of(points: &[Point], cap: u32, cells: &[Cell], positions: &[u32], run: Run) -> Node
+    /// What is kept of the cell of a run, with the numbers of the cells below it.
+    fn of(points: &[Point], cap: u32, positions: &[u32], run: Run, children: Children) -> Node
         requires below { All (λ k. k < length points.now) positions.now }
-        requires cells { AreTreeCells 16 points.now cap (map square cells.now) }
-        requires listed { Contains (map square cells.now) (square run.cell) }
-        requires in_grid { AreInGrid 16 points.now }
+        requires in_tree { IsTreeCell 16 points.now cap (square run.cell) }
         requires run { IsRun points.now positions.now run }
-        ensures { IsNodeOf points.now cap positions.now (map square cells.now) (square run.cell) result }
+        ensures { IsNodeOf points.now cap positions.now (square run.cell) run.parent children result }
     {
         let members = &positions[run.from..run.to];
         Node {
-            parent: parent_of(cells, run.cell),
+            parent: run.parent,
             from: run.from,
             to: run.to,
             is_leaf: is_last(members.len(), cap, run.cell.level),
             has_source: has_source(points, members),
             has_target: has_target(points, members),
+            children,
         }
     }
 }
@@ -100,19 +84,18 @@ pub(crate) fn nodes_of(
     alloc: Global,
     points: &[Point],
     cap: u32,
-    cells: &[Cell],
     positions: &[u32],
     runs: &[Run],
+    families: &[Children],
 ) -> Result<Vec<Node>, AllocError>
-    requires in_grid { AreInGrid 16 points.now }
-    requires cells { AreTreeCells 16 points.now cap (map square cells.now) }
-    requires same { map square cells.now ≡ squares_of runs.now }
+    requires in_tree { All (IsTreeCell 16 points.now cap) (squares_of runs.now) }
     requires runs { AreRuns points.now positions.now runs.now }
-    ensures { IfOk result (λ v. AreNodesTo points.now cap positions.now (map square cells.now) v.items (length runs.now)) }
+    requires families { length families.now ≡ length runs.now }
+    ensures { IfOk result (λ v. AreNodesTo points.now cap positions.now (squares_of runs.now) (parents_of runs.now) families.now v.items (length runs.now)) }
 {
     let mut nodes = Vec::with_capacity(alloc, runs.len())?;
-    for run in runs {
-        nodes.push(Node::of(points, cap, cells, positions, *run))?;
+    for (n, run) in runs.iter().enumerate() {
+        nodes.push(Node::of(points, cap, positions, *run, families[n]))?;
     }
     Ok(nodes)
 }

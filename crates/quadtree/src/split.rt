@@ -1,70 +1,33 @@
 //! Splitting cells into their quarters, level by level.
 
-ghost use Rattle.std.specs.Prelude.{◌≡◌, ◌≤◌, ◌<◌, ◌++◌, [], ◌∷◌, length, drop, slice_range, All, OnOk, IfOk};
-ghost use Rattle.std.specs.List.{flat_map, range_with_len};
-ghost use Rattle.cell_name.specs.Cell.{square};
-ghost use Rattle.cell_name.specs.Square.{Square, holds_test};
+ghost use Rattle.std.specs.Prelude.{◌≡◌, ◌≤◌, ◌<◌, ◌++◌, [], ◌∷◌, length, All, OnOk, IfOk};
+ghost use Rattle.std.specs.List.{range_with_len};
+ghost use Rattle.cell_name.specs.Cell.{square, half_number};
+ghost use Rattle.cell_name.specs.Square.{root, child};
 ghost use Rattle.points.specs.Limits.{most_points};
-ghost use Rattle.quadtree.specs.Members.{holds_position, members_among};
-ghost use Rattle.quadtree.specs.Splitting.{squares_of, occupied, quarter, quarters, below, cells_to_level, IsRun, AreRuns};
+ghost use Rattle.quadtree.specs.Divided.{HasRoom};
+ghost use Rattle.quadtree.specs.Splitting.{squares_of, occupied, below_from, quarters_of, added_run, AddsCells, AreRuns, AreBelow, HaveParents};
 ghost use Rattle.quadtree.specs.Tree.{AreInGrid, AreTreeCells};
 
+use crate::divide::Parts;
 use cell_name::{Cell, GRID, Quadrant};
 use points::Point;
 use std::alloc::{AllocError, Global};
 
-/// A cell with its points, as a range of the positions.
+/// A cell with its parent's number, and its points as a range of the positions.
 #[derive(Clone, Copy, PartialEq, Eq, PartialOrd, Ord)]
 pub(crate) struct Run {
     pub(crate) cell: Cell,
+    pub(crate) parent: usize,
     pub(crate) from: usize,
     pub(crate) to: usize,
 }
 
-/// The cells found so far, and the positions of the points of each, end to end.
+/// Cells with their points, and the positions of the points of each, end to end.
 #[derive(Drop)]
 pub(crate) struct Splits {
     pub(crate) positions: Vec<u32>,
     pub(crate) runs: Vec<Run>,
-}
-
-/// Whether the cell holds a point.
-fn holds_point(cell: Cell, point: &Point) -> bool
-    ensures { result ≡ holds_test (square cell) point.now.x point.now.y }
-{
-    let x = point.x;
-    let y = point.y;
-    cell.holds(x, y)
-}
-
-/// Whether the cell holds the point at a position.
-fn holds_position(cell: Cell, points: &[Point], k: u32) -> bool
-    requires { k < length points.now }
-    ensures { result ≡ holds_position (square cell) points.now k }
-{
-    holds_point(cell, &points[k as usize])
-}
-
-/// Appends those of a range of the positions whose points the cell holds, in their order.
-fn push_members(
-    points: &[Point],
-    positions: &mut Vec<u32>,
-    from: usize,
-    to: usize,
-    cell: Cell,
-) -> Result<(), AllocError>
-    requires below { All (λ k. k < length points.now) positions.old.items }
-    requires ordered { from ≤ to }
-    requires in_range { to ≤ length positions.old.items }
-    ensures { OnOk result (positions.new.items ≡ positions.old.items ++ members_among points.now (square cell) (slice_range positions.old.items from to)) }
-{
-    for at in from..to {
-        let k = positions[at];
-        if holds_position(cell, points, k) {
-            positions.push(k)?;
-        }
-    }
-    Ok(())
 }
 
 /// The positions `0 ..`, so many.
@@ -78,87 +41,86 @@ fn all_positions(alloc: Global, count: u32) -> Result<Vec<u32>, AllocError>
     Ok(positions)
 }
 
+/// The quarter of a cell in one of the four quadrants.
+fn quarter(cell: Cell, right: bool, top: bool) -> Cell
+    requires { cell.level ≤ 15 }
+    ensures { square result ≡ child (square cell) (half_number right) (half_number top) }
+{
+    cell.child(Quadrant { right, top })
+}
+
 impl Splits {
-    /// Adds a quarter of a run's cell, where it has a point.
-    fn push_quarter(
-        &mut self,
-        points: &[Point],
-        run: Run,
-        quadrant: Quadrant,
-    ) -> Result<(), AllocError>
-        requires runs { AreRuns points.now self.old.positions.items self.old.runs.items }
-        requires run { IsRun points.now self.old.positions.items run }
-        requires room { run.cell.level ≤ 15 }
-        ensures cells { OnOk result (squares_of self.new.runs.items ≡ squares_of self.old.runs.items ++ occupied points.now (quarter (square run.cell) quadrant ∷ [])) }
-        ensures runs { OnOk result (AreRuns points.now self.new.positions.items self.new.runs.items) }
-        ensures run { OnOk result (IsRun points.now self.new.positions.items run) }
+    /// Adds a cell with its points, where it has one.
+    fn push(&mut self, cell: Cell, parent: usize, members: &[u32]) -> Result<(), AllocError>
+        ensures positions { OnOk result (self.new.positions.items ≡ self.old.positions.items ++ members.now) }
+        ensures runs { OnOk result (self.new.runs.items ≡ self.old.runs.items ++ added_run cell parent (length self.old.positions.items) members.now) }
     {
-        let cell = run.cell.child(quadrant);
-        let from = self.positions.len();
-        push_members(points, &mut self.positions, run.from, run.to, cell)?;
-        let to = self.positions.len();
-        if from < to {
-            self.runs.push(Run { cell, from, to })?;
+        if members.is_empty() {
+            return Ok(());
         }
+        let from = self.positions.len();
+        self.positions.extend_from_slice(members)?;
+        let to = self.positions.len();
+        self.runs.push(Run {
+            cell,
+            parent,
+            from,
+            to,
+        })?;
         Ok(())
     }
 
-    /// Adds the quarters of a run's cell that have a point.
-    fn push_quarters(&mut self, points: &[Point], run: Run) -> Result<(), AllocError>
-        requires runs { AreRuns points.now self.old.positions.items self.old.runs.items }
-        requires run { IsRun points.now self.old.positions.items run }
-        requires room { run.cell.level ≤ 15 }
-        ensures cells { OnOk result (squares_of self.new.runs.items ≡ squares_of self.old.runs.items ++ occupied points.now (quarters (square run.cell))) }
-        ensures runs { OnOk result (AreRuns points.now self.new.positions.items self.new.runs.items) }
+    /// Adds the quarters of the cell of a number that have a point.
+    fn push_quarters(
+        &mut self,
+        points: &[Point],
+        parts: &mut Parts,
+        above: &[Run],
+        number: usize,
+    ) -> Result<(), AllocError>
+        requires number { number < length above.now }
+        requires room { All (λ c. c.level ≤ 15) (squares_of above.now) }
+        requires parts { HasRoom parts.old (length points.now) }
+        requires below { AreBelow points.now above.now self.old.positions.items self.old.runs.items }
+        ensures cells { OnOk result (AddsCells self.old.runs.items (occupied points.now (quarters_of (squares_of above.now) number)) self.new.runs.items) }
+        ensures below { OnOk result (AreBelow points.now above.now self.new.positions.items self.new.runs.items) }
+        ensures parts { OnOk result (HasRoom parts.new (length points.now)) }
     {
-        self.push_quarter(
-            points,
-            run,
-            Quadrant {
-                right: false,
-                top: false,
-            },
-        )?;
-        self.push_quarter(
-            points,
-            run,
-            Quadrant {
-                right: false,
-                top: true,
-            },
-        )?;
-        self.push_quarter(
-            points,
-            run,
-            Quadrant {
-                right: true,
-                top: false,
-            },
-        )?;
-        self.push_quarter(
-            points,
-            run,
-            Quadrant {
-                right: true,
-                top: true,
-            },
-        )?;
+        let run = above[number];
+        let cell = run.cell;
+        let counts = parts.divide(points, &self.positions[run.from..run.to], cell);
+        let southwest = &parts.southwest[..counts.southwest];
+        self.push(quarter(cell, false, false), number, southwest)?;
+        let northwest = &parts.northwest[..counts.northwest];
+        self.push(quarter(cell, false, true), number, northwest)?;
+        let southeast = &parts.southeast[..counts.southeast];
+        self.push(quarter(cell, true, false), number, southeast)?;
+        let northeast = &parts.northeast[..counts.northeast];
+        self.push(quarter(cell, true, true), number, northeast)?;
         Ok(())
     }
 
     /// Adds the cells below those from number `start` on.
-    fn split_level(&mut self, points: &[Point], cap: u32, start: usize) -> Result<(), AllocError>
-        requires runs { AreRuns points.now self.old.positions.items self.old.runs.items }
-        requires room { All (λ c. c.level ≤ 15) (squares_of self.old.runs.items) }
-        requires start { start ≤ length (squares_of self.old.runs.items) }
-        ensures cells { OnOk result (squares_of self.new.runs.items ≡ squares_of self.old.runs.items ++ flat_map (below points.now cap) (drop start (squares_of self.old.runs.items))) }
-        ensures runs { OnOk result (AreRuns points.now self.new.positions.items self.new.runs.items) }
+    fn split_level(
+        &mut self,
+        points: &[Point],
+        cap: u32,
+        parts: &mut Parts,
+        above: &[Run],
+        start: usize,
+    ) -> Result<(), AllocError>
+        requires start { start ≤ length above.now }
+        requires room { All (λ c. c.level ≤ 15) (squares_of above.now) }
+        requires parts { HasRoom parts.old (length points.now) }
+        requires below { AreBelow points.now above.now self.old.positions.items self.old.runs.items }
+        ensures cells { OnOk result (AddsCells self.old.runs.items (below_from points.now cap start above.now) self.new.runs.items) }
+        ensures below { OnOk result (AreBelow points.now above.now self.new.positions.items self.new.runs.items) }
+        ensures parts { OnOk result (HasRoom parts.new (length points.now)) }
     {
-        let end = self.runs.len();
-        for at in start..end {
-            let run = self.runs[at];
+        for number in start..above.len() {
+            let run = above[number];
             if run.to - run.from > cap as usize {
-                self.push_quarters(points, run)?;
+                self.push_quarters(points, parts, above, number)?;
             }
         }
         Ok(())
@@ -168,8 +130,9 @@ impl Splits {
     fn root(alloc: Global, points: &[Point]) -> Result<Splits, AllocError>
         requires in_grid { AreInGrid 16 points.now }
         requires few { length points.now ≤ most_points }
-        ensures cells { IfOk result (λ s. squares_of s.runs.items ≡ cells_to_level 16 points.now 0 0) }
+        ensures cells { IfOk result (λ s. squares_of s.runs.items ≡ occupied points.now (root 16 ∷ [])) }
         ensures runs { IfOk result (λ s. AreRuns points.now s.positions.items s.runs.items) }
+        ensures parents { IfOk result (λ s. HaveParents (squares_of s.runs.items) s.runs.items) }
     {
         let count = points.len();
         let positions = all_positions(alloc, count as u32)?;
@@ -181,6 +144,7 @@ impl Splits {
                     i: 0,
                     j: 0,
                 },
+                parent: 0,
                 from: 0,
                 to: count,
             })?;
@@ -188,32 +152,36 @@ impl Splits {
         Ok(Splits { positions, runs })
     }
 
-    /// The cells of the tree, level by level, and the positions of their points.
-    pub(crate) fn of(alloc: Global, points: &[Point], cap: u32) -> Result<Splits, AllocError>
-        requires in_grid { AreInGrid 16 points.now }
-        requires few { length points.now ≤ most_points }
-        ensures cells { IfOk result (λ s. squares_of s.runs.items ≡ cells_to_level 16 points.now cap 16) }
-        ensures runs { IfOk result (λ s. AreRuns points.now s.positions.items s.runs.items) }
-    {
-        let mut splits = Splits::root(alloc, points)?;
-        let mut start = 0;
-        for _level in 0..GRID {
-            let end = splits.runs.len();
-            splits.split_level(points, cap, start)?;
-            start = end;
-        }
-        Ok(splits)
-    }
-
     /// The cells of the tree in their order, and the positions of their points.
-    pub(crate) fn sorted(alloc: Global, points: &[Point], cap: u32) -> Result<Splits, AllocError>
+    ///
+    /// Level by level: the cells of a level have their numbers before the next is made, so each is made with its parent's number.
+    pub(crate) fn of(alloc: Global, points: &[Point], cap: u32) -> Result<Splits, AllocError>
         requires in_grid { AreInGrid 16 points.now }
         requires few { length points.now ≤ most_points }
         ensures cells { IfOk result (λ s. AreTreeCells 16 points.now cap (squares_of s.runs.items)) }
         ensures runs { IfOk result (λ s. AreRuns points.now s.positions.items s.runs.items) }
+        ensures parents { IfOk result (λ s. HaveParents (squares_of s.runs.items) s.runs.items) }
     {
-        let mut splits = Splits::of(alloc, points, cap)?;
-        splits.runs.sort()?;
-        Ok(splits)
+        let Splits {
+            positions,
+            mut runs,
+        } = Splits::root(alloc, points)?;
+        let mut found = Splits {
+            positions,
+            runs: Vec::new(alloc),
+        };
+        let mut parts = Parts::new(alloc, points.len())?;
+        let mut start = 0;
+        for _level in 0..GRID {
+            found.split_level(points, cap, &mut parts, &runs, start)?;
+            start = runs.len();
+            found.runs.sort_unstable();
+            runs.extend_from_slice(&found.runs)?;
+            found.runs.clear();
+        }
+        Ok(Splits {
+            positions: found.positions,
+            runs,
+        })
     }
 }

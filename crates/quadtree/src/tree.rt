@@ -2,12 +2,14 @@
 
 ghost use Rattle.std.specs.Prelude.{◌≡◌, ◌≤◌, ◌<◌, length, slice_index, MatchOption, Contains};
 ghost use Rattle.cell_name.specs.Cell.{square};
-ghost use Rattle.quadtree.specs.TreeModel.{IsTree, size, squares, square_of, node_of, leaf_of};
+ghost use Rattle.quadtree.specs.TreeModel.{IsTree, IsLevel, size, squares, square_of, node_of, leaf_of};
 
+use crate::children::Children;
 use cell_name::Cell;
 use std::marker::Model;
+use std::ops::Range;
 
-/// What is kept of a cell: its parent's number, its points as a range of positions, and what kind of cell it is.
+/// What is kept of a cell: its parent's number, its points as a range of positions, what kind of cell it is, and its children's numbers.
 #[derive(Clone, Copy)]
 pub struct Node {
     pub(crate) parent: usize,
@@ -16,6 +18,7 @@ pub struct Node {
     pub(crate) is_leaf: bool,
     pub(crate) has_source: bool,
     pub(crate) has_target: bool,
+    pub(crate) children: Children,
 }
 
 /// The adaptive quadtree of a list of points with a leaf capacity.
@@ -63,6 +66,24 @@ impl Tree {
         ensures { result ≡ (node_of self.now n).parent }
     {
         self.nodes[n].parent
+    }
+
+    /// The numbers of the cells whose parent the cell is, ascending: those of its quarters that have a point.
+    pub fn children(&self, n: usize) -> &[u32]
+        requires { n < size self.now }
+        ensures { result.now ≡ (node_of self.now n).children }
+    {
+        self.nodes[n].children.numbers()
+    }
+
+    /// The numbers of the cells of a level.
+    pub fn level(&self, level: u8) -> Range<usize>
+        ensures { IsLevel self.now level result.start result.end }
+    {
+        Range {
+            start: self.cells.partition_point(|c| c.level < level),
+            end: self.cells.partition_point(|c| c.level <= level),
+        }
     }
 
     /// Whether the cell is a leaf.

@@ -6,7 +6,7 @@ use Rattle.std.proofs.lemmas.List.{get_or_past}
 use mathlib.Core.Logic.{⊎_elim}
 use Rattle.exact_math.specs.Ends.{zero_box}
 use Rattle.complex_box.specs.Box.{box_ends}
-use Rattle.complex_box.specs.Rows.{AllZero, at, zero_cbox}
+use Rattle.complex_box.specs.Rows.{at, zero_cbox, IsZero}
 use Rattle.complex_box.specs.declared.CBox.{CBox}
 use Rattle.quadtree.specs.TreeModel.{size}
 use Rattle.row_board.specs.Board.{IsBoard, IsZeroPlace}
@@ -22,7 +22,7 @@ use Rattle.row_board.specs.declared.name.Name.TheVariants.{Up, Local, Value}
 default_at : {X : Type 0} (xs : List X) (d : X) → All (λ x. x ≡ d) xs → (i : ℕ) → get_or xs i d ≡ d
 default_at xs d h i = ⊎_elim (λ lt. h i d lt) (λ ge. get_or_past xs i d ge) (cases_lt i (length xs))
 
-zero_at : (xs : List CBox) → AllZero xs → (i : ℕ) → box_ends (at xs i) ≡ zero_box
+zero_at : (xs : List CBox) → All IsZero xs → (i : ℕ) → box_ends (at xs i) ≡ zero_box
 zero_at xs h i = ⊎_elim (λ lt. h i zero_cbox lt) (λ ge. past ge) (cases_lt i (length xs))
   where
     past : length xs ≤ i → box_ends (at xs i) ≡ zero_box

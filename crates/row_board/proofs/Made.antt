@@ -11,8 +11,8 @@ use Rattle.exact_math.specs.Ends.{BoxEnds}
 use Rattle.complex_box.specs.Box.{box_ends}
 use Rattle.complex_box.specs.declared.CBox.{CBox}
 use Rattle.cell_lists.proofs.CellNumbers.{first_level}
-use Rattle.cell_lists.specs.Row.{row}
-use Rattle.cell_lists.specs.declared.entry_lists.EntryLists.{EntryLists}
+use Rattle.cell_lists.specs.ListAt.{list_at}
+use Rattle.cell_lists.specs.EntryLists.{EntryListsModel}
 use Rattle.letters.specs.declared.Letter.TheVariants.{V}
 use Rattle.downward_rows.specs.Radii.{IsRadiusOf}
 use Rattle.points.specs.Points.{place}
@@ -21,10 +21,11 @@ use Rattle.quadtree.specs.Tree.{AreInGrid, HasTarget}
 use Rattle.quadtree.specs.TreeModel.{TreeModel, IsTreeOf, size, square_of, node_of, leaf_of}
 use Rattle.target_values.specs.Field.{AreRowsOfLeaf}
 use Rattle.target_values.specs.Points.{point_at}
-use Rattle.tree_field.proofs.Members.{All-from_members}
+use Rattle.quadtree.proofs.Lists.{All-from_members}
 use Rattle.tree_field.specs.Field.{multipole_row, target_box}
 use Rattle.tree_field.specs.Lists.{TreeLists, AreTreeLists}
 use Rattle.tree_field.specs.Program.{source_children}
+use Rattle.tree_field.proofs.SourceChildren.{source_child}
 use Rattle.tree_rows.specs.FieldRows.{IsFieldOf, IsLocalRow, AreMultipoleRowsOf, AreWeights}
 use Rattle.tree_rows.specs.FlatRows.{row_at, AreSameRows}
 use Rattle.row_recursions.specs.Sizes.{RowWithin}
@@ -33,13 +34,12 @@ use Rattle.row_board.specs.Board.{IsBoard}
 use Rattle.row_board.specs.Names.{IsName, is_filled, needs, target_leaf, AreFilled}
 use Rattle.row_board.specs.Parts.{BoardParts}
 use Rattle.row_board.specs.declared.name.Name.TheVariants.{Up, Local, Value}
-use Rattle.row_board.proofs.Children.{child_is}
 use Rattle.row_board.proofs.Fills.{Fills, with_rows, up_fills, local_fills, value_fills}
 use Rattle.row_board.proofs.Missing.{needs_below, rows_of_filled, target_read, leaf_below}
 use Rattle.row_board.proofs.Sizes.{IsRadiusWithin, inside, radius_within, tree_some, up_within}
 
 -- a value that was made of rows, of these rows
-pub box_from : (P target b : ℕ) (tree : TreeModel) (lists : EntryLists) (points was_points : List Point) (up was_up local was_local : List CBox) (weights was_weights : List ℤ) (radius was_radius : ℤ) (value : BoxEnds)
+pub box_from : (P target b : ℕ) (tree : TreeModel) (lists : EntryListsModel) (points was_points : List Point) (up was_up local was_local : List CBox) (weights was_weights : List ℤ) (radius was_radius : ℤ) (value : BoxEnds)
     → points ≡ was_points → up ≡ was_up → local ≡ was_local → weights ≡ was_weights → radius ≡ was_radius
     → ((cap : ℕ) (field : TreeLists) → AreRowsOfLeaf points cap P tree lists field up local weights radius b → value ≡ target_box points cap P field 16 (place (point_at points target)))
     → (cap : ℕ) (field : TreeLists) → AreRowsOfLeaf was_points cap P tree lists field was_up was_local was_weights was_radius b → value ≡ target_box was_points cap P field 16 (place (point_at was_points target))
@@ -89,7 +89,7 @@ pub record IsRadiusAt (radii : List ℤ) (n : ℕ) (r : ℤ) : Type 0 where
 module _ (P : ℕ) (b : BoardParts) (is : IsBoard P b) where
   -- ---- a multipole row
   pub up_small : (n : ℕ) → All (λ m. RowWithin P (2 ^ 74) (row_at P b.up m)) (source_children b.tree n)
-  up_small n = All-from_members (λ m. RowWithin P (2 ^ 74) (row_at P b.up m)) (source_children b.tree n) (λ m h. up_within P b is m (child_is b.tree n m h).in_range)
+  up_small n = All-from_members (λ m. RowWithin P (2 ^ 74) (row_at P b.up m)) (source_children b.tree n) (λ m h. up_within P b is m (source_child b.tree n m h).in_range)
 
   pub up_made : (n : ℕ) (up : List CBox) → IsName b (Up n) → AreFilled b (needs b (Up n)) → length up ≡ length b.up
       → (AreMultipoleRowsOf b.points b.cap P b.tree b.up (source_children b.tree n) → AreSameRows P (row_at P up n) (multipole_row b.points b.cap (square_of b.tree n))) → OtherRowsStay P n b.up up
@@ -103,12 +103,12 @@ module _ (P : ℕ) (b : BoardParts) (is : IsBoard P b) where
   -- the parent's row and radius, and those of the V list
   record HasParts (n : ℕ) : Type 0 where
     above : is_filled b (Local (node_of b.tree n).parent) ≡ true
-    far : AreFilled b (map Up (row b.lists.v n))
+    far : AreFilled b (map Up (list_at b.lists.v n))
 
   parts_below : (n : ℕ) → (n ≡ 0 → ⊥) → AreFilled b (needs b (Local n)) → HasParts n
   parts_below n ne ready =
       let both = subst (AreFilled b) (needs_below b n ne) ready in
-      record { above = both 0 (Local (node_of b.tree n).parent) (omega arith); far = All-tail (λ name. is_filled b name ≡ true) (Local (node_of b.tree n).parent) (map Up (row b.lists.v n)) both }
+      record { above = both 0 (Local (node_of b.tree n).parent) (omega arith); far = All-tail (λ name. is_filled b name ≡ true) (Local (node_of b.tree n).parent) (map Up (list_at b.lists.v n)) both }
 
   parent_row : (field : TreeLists) → AreTreeLists 16 b.points b.cap field → (n : ℕ) → AreFilled b (needs b (Local n)) → 0 < n → IsLocalRow b.points b.cap P b.tree field b.local (node_of b.tree n).parent
   parent_row field are n ready lo =
@@ -123,13 +123,13 @@ module _ (P : ℕ) (b : BoardParts) (is : IsBoard P b) where
       record { radius_is = λ h. (is.filled (Local m) t field are).radius_is; empty = λ none. absurd (none (target_in m (is.named (Local m) t))) }
 
   -- the root's V list is empty
-  far_rows : (n : ℕ) → n < size b.tree → AreFilled b (needs b (Local n)) → AreMultipoleRowsOf b.points b.cap P b.tree b.up (row b.lists.v n)
-  far_rows n lt ready = ⊎_elim (λ e. record { each = λ m h. absurd (none e m h) }) (λ ne. rows_of_filled P b is (row b.lists.v n) (parts_below n ne ready).far) (cases_eq n 0)
+  far_rows : (n : ℕ) → n < size b.tree → AreFilled b (needs b (Local n)) → AreMultipoleRowsOf b.points b.cap P b.tree b.up (list_at b.lists.v n)
+  far_rows n lt ready = ⊎_elim (λ e. record { each = λ m h. absurd (none e m h) }) (λ ne. rows_of_filled P b is (list_at b.lists.v n) (parts_below n ne ready).far) (cases_eq n 0)
     where
-      none : n ≡ 0 → (m : ℕ) → Contains (row b.lists.v n) m → ⊥
+      none : n ≡ 0 → (m : ℕ) → Contains (list_at b.lists.v n) m → ⊥
       none e m h =
           let list = is.tree_is.lists_are.each b.points b.cap (inside P b is) is.is_tree V n lt in
-          let entry = (list.exact m (All-contains (λ c. c < size b.tree) (row b.lists.v n) m list.numbers h)).0 h in
+          let entry = (list.exact m (All-contains (λ c. c < size b.tree) (list_at b.lists.v n) m list.numbers h)).0 h in
           let root : (square_of b.tree n).level ≡ 0 = ap (λ j. (square_of b.tree j).level) e ∙ first_level b.tree (tree_some P b is) (omega arith) in
           omega (arith, entry.pair.come_apart.below_root, root)
 
@@ -141,7 +141,7 @@ module _ (P : ℕ) (b : BoardParts) (is : IsBoard P b) where
       record { within = subst (λ z. IsRadiusWithin z) (sym e) (radius_within P b is above inside); read_is = e }
 
   pub local_made : (n : ℕ) (local : List CBox) (radius : ℤ) → IsName b (Local n) → AreFilled b (needs b (Local n)) → length local ≡ length b.local
-      → ((field : TreeLists) → IsFieldOf b.points b.cap b.tree field → AreMultipoleRowsOf b.points b.cap P b.tree b.up (row b.lists.v n) → (0 < n → IsLocalRow b.points b.cap P b.tree field b.local (node_of b.tree n).parent) → IsLocalRow b.points b.cap P b.tree field local n)
+      → ((field : TreeLists) → IsFieldOf b.points b.cap b.tree field → AreMultipoleRowsOf b.points b.cap P b.tree b.up (list_at b.lists.v n) → (0 < n → IsLocalRow b.points b.cap P b.tree field b.local (node_of b.tree n).parent) → IsLocalRow b.points b.cap P b.tree field local n)
       → ((field : TreeLists) → IsFieldOf b.points b.cap b.tree field → (0 < n → IsRadiusOf b.points b.cap P b.tree field (node_of b.tree n).parent (get_or b.radii (node_of b.tree n).parent (pos 0))) → IsRadiusOf b.points b.cap P b.tree field n radius)
       → ((m : ℕ) → m ≢ n → AreSameRows P (row_at P local m) (row_at P b.local m)) → Fills P (Local n) b (with_rows b b.up local (set b.radii n radius) b.values b.has_up (set b.has_local n true) b.has_value)
   local_made n local radius named ready len row_made radius_made others = local_fills P b is n local radius named len (λ field are.
@@ -165,7 +165,7 @@ module _ (P : ℕ) (b : BoardParts) (is : IsBoard P b) where
     rows_are field are =
         let leaf : ℕ = target_leaf b k in
         let l = is.filled (Local leaf) (ready 0 (Local leaf) (omega arith)) field are in
-        let far = rows_of_filled P b is (row b.lists.w leaf) (All-tail (λ name. is_filled b name ≡ true) (Local leaf) (map Up (row b.lists.w leaf)) ready) in
+        let far = rows_of_filled P b is (list_at b.lists.w leaf) (All-tail (λ name. is_filled b name ≡ true) (Local leaf) (map Up (list_at b.lists.w leaf)) ready) in
         subst (λ m. AreRowsOfLeaf b.points b.cap P b.tree b.lists field b.up b.local b.weights radius m) (ap (leaf_of b.tree) here)
         (record { field_is = record { is_tree = is.is_tree; lists_are = are }; up_are = far; weights_are = is.weights_are; local_is = l.row_is; radius_is = read ∙ ap (λ t. get_or b.radii (leaf_of b.tree t) (pos 0)) (sym here) ∙ l.radius_is })
 

@@ -5,11 +5,11 @@ use Rattle.std.proofs.lemmas.Bool.{ne_eqb}
 use Rattle.std.proofs.lemmas.List.{get_or_default, map-append}
 use Rattle.std.proofs.lemmas.List.Elements.{All-cons, All-contains, All-map}
 use Rattle.letters.specs.declared.Letter.{Letter}
-use Rattle.cell_lists.specs.Lists.{lists_of}
-use Rattle.cell_lists.specs.Row.{row}
+use Rattle.cell_lists.specs.EntryLists.{lists_of}
+use Rattle.cell_lists.specs.ListAt.{list_at}
 use Rattle.quadtree.specs.TreeModel.{size, node_of}
 use Rattle.target_values.proofs.Positions.{IsTargetPosition, leaf_in_tree, position_at}
-use Rattle.tree_field.proofs.Members.{Contains-into_map}
+use Rattle.quadtree.proofs.Lists.{Contains-into_map}
 use Rattle.tree_rows.specs.FieldRows.{AreMultipoleRowsOf}
 use Rattle.row_board.specs.Board.{IsBoard}
 use Rattle.row_board.specs.Names.{is_filled, needs, target_leaf, AreFilled, IsFirstMissing}
@@ -42,14 +42,14 @@ module _ (b : BoardParts) where
       ap (λ (v : BoardParts). get_or v.has_local n false) (sym view) ∙ get_or_default inside.has_local n false mark (omega (arith, trees, len, lt)) ∙ sym e
 
   -- a cell below the root
-  pub needs_below : (n : ℕ) → (n ≡ 0 → ⊥) → needs b (Local n) ≡ Local (node_of b.tree n).parent ∷ map Up (row b.lists.v n)
-  needs_below n ne = ap (λ t. cond t [] (Local (node_of b.tree n).parent ∷ map Up (row b.lists.v n))) (ne_eqb n 0 ne)
+  pub needs_below : (n : ℕ) → (n ≡ 0 → ⊥) → needs b (Local n) ≡ Local (node_of b.tree n).parent ∷ map Up (list_at b.lists.v n)
+  needs_below n ne = ap (λ t. cond t [] (Local (node_of b.tree n).parent ∷ map Up (list_at b.lists.v n))) (ne_eqb n 0 ne)
 
 module _ (P : ℕ) (b : BoardParts) (is : IsBoard P b) where
   pub listed : (letter : Letter) (n : ℕ) → n < size b.tree → n < length (lists_of b.lists letter)
   listed letter n lt = omega (arith, is.tree_is.lists_are.as_many letter)
 
-  pub numbers : (letter : Letter) (n : ℕ) → n < size b.tree → All (λ c. c < size b.tree) (row (lists_of b.lists letter) n)
+  pub numbers : (letter : Letter) (n : ℕ) → n < size b.tree → All (λ c. c < size b.tree) (list_at (lists_of b.lists letter) n)
   numbers letter n lt = (is.tree_is.lists_are.each b.points b.cap (inside P b is) is.is_tree letter n lt).numbers
 
   pub rows_of_filled : (cells : List ℕ) → AreFilled b (map Up cells) → AreMultipoleRowsOf b.points b.cap P b.tree b.up cells

@@ -9,14 +9,15 @@ use Rattle.std.proofs.lemmas.List.{get_or_default}
 use Rattle.std.proofs.lemmas.Nat.{div-add-mod'}
 use mathlib.Core.Logic.{⊎_elim}
 use Rattle.exact_math.specs.Ends.{BoxEnds, BoxEndsWithin, zero_box}
-use Rattle.exact_math.specs.Orders.{IsOrder}
-use Rattle.cell_lists.proofs.TreeNumbers.{tree_cell_at}
+use Rattle.exact_math.proofs.Orders.{order_bounds}
+use Rattle.quadtree.proofs.TreeChildren.{tree_cell_at}
 use Rattle.complex_box.specs.Box.{BoxWithin}
 use Rattle.complex_box.specs.Rows.{at, zero_cbox}
 use Rattle.complex_box.specs.declared.CBox.{CBox}
+use Rattle.complex_box.proofs.Sizes.{zero_within}
 use Rattle.downward_rows.proofs.SameRows.{within_same}
 use Rattle.field_sizes.proofs.RowTotals.{wider}
-use Rattle.downward_rows.proofs.Trees.{some_tree}
+use Rattle.tree_rows.proofs.Trees.{some_tree}
 use Rattle.field_sizes.proofs.Disjoint.{entries_share_no_source}
 use Rattle.field_sizes.proofs.LocalSizes.{row_sizes}
 use Rattle.field_sizes.proofs.Radii.{radius_sizes}
@@ -24,7 +25,6 @@ use Rattle.field_sizes.specs.Sizes.{IsLimited, RowsWithin}
 use Rattle.quadtree.proofs.Limits.{in_grid}
 use Rattle.quadtree.specs.Tree.{AreInGrid}
 use Rattle.quadtree.specs.TreeModel.{IsTree, size, square_of}
-use Rattle.row_recursions.proofs.RowSizes.{order_least, zero_within}
 use Rattle.tree_rows.proofs.FlatRows.{flat_within}
 use Rattle.row_recursions.specs.Sizes.{RowWithin}
 use Rattle.tree_field.proofs.EachList.{each_list_has_tree}
@@ -70,10 +70,10 @@ module _ (P : ℕ) (b : BoardParts) (is : IsBoard P b) where
   local_within n lt = ⊎_elim (λ t. within_same P (2 ^ 82) _ _ (is.filled (Local n) t some_field.0 some_field.1).row_is (rows_within n lt).local) (λ f. zero_row_within P (2 ^ 82) _ (is.empty (Local n) f).row_is) (cases_Bool (is_filled b (Local n)))
 
   pub all_up_within : All (BoxWithin (2 ^ 80)) b.up
-  all_up_within = flat_within P (size b.tree) (2 ^ 80) b.up (omega (arith, order_least P is.order)) is.up_rows (λ m lt. wider P (2 ^ 74) (2 ^ 80) _ (omega arith) (up_within m lt))
+  all_up_within = flat_within P (size b.tree) (2 ^ 80) b.up (omega (arith, order_bounds P is.order)) is.up_rows (λ m lt. wider P (2 ^ 74) (2 ^ 80) _ (omega arith) (up_within m lt))
 
   pub all_local_within : All (BoxWithin (2 ^ 90)) b.local
-  all_local_within = flat_within P (size b.tree) (2 ^ 90) b.local (omega (arith, order_least P is.order)) is.local_rows (λ m lt. wider P (2 ^ 82) (2 ^ 90) _ (omega arith) (local_within m lt))
+  all_local_within = flat_within P (size b.tree) (2 ^ 90) b.local (omega (arith, order_bounds P is.order)) is.local_rows (λ m lt. wider P (2 ^ 82) (2 ^ 90) _ (omega arith) (local_within m lt))
 
   pub radius_within : (n : ℕ) → n < size b.tree → IsRadiusWithin (get_or b.radii n (pos 0))
   radius_within n lt = ⊎_elim

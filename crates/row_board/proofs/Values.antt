@@ -14,7 +14,7 @@ use Rattle.points.specs.declared.Point.{Point}
 use Rattle.target_values.proofs.FieldBox.{boxes_contain}
 use Rattle.target_values.proofs.Positions.{targets_at}
 use Rattle.target_values.specs.Points.{point_at}
-use Rattle.tree_field.proofs.Members.{Contains-into_map}
+use Rattle.quadtree.proofs.Lists.{Contains-into_map}
 use Rattle.tree_field.specs.Field.{targets, target_box, target_boxes}
 use Rattle.tree_field.specs.Lists.{TreeLists, AreTreeLists}
 use Rattle.row_board.specs.Board.{IsBoard, target_place}

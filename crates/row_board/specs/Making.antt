@@ -1,7 +1,7 @@
 -- What a board is made of. No public contract cites these.
 use Rattle.std.specs.Prelude.{ℕ, ◌*◌, ◌≡◌, false, pos, List, length, All}
 use Rattle.exact_math.specs.Orders.{IsOrder}
-use Rattle.complex_box.specs.Rows.{AllZero}
+use Rattle.complex_box.specs.Rows.{IsZero}
 use Rattle.points.specs.declared.Point.{Point}
 use Rattle.quadtree.specs.TreeModel.{size, IsTreeOf}
 use Rattle.target_values.specs.Targets.{target_positions}
@@ -32,10 +32,10 @@ pub record AreEmptyPlaces (P cells targets : ℕ) (p : Places) : Type 0 where
   pub up_marks : length p.has_up.items ≡ cells
   pub local_marks : length p.has_local.items ≡ cells
   pub value_marks : length p.has_value.items ≡ targets
-  pub up_zero : AllZero p.up.items
-  pub local_zero : AllZero p.local.items
+  pub up_zero : All IsZero p.up.items
+  pub local_zero : All IsZero p.local.items
   pub radii_zero : All (λ r. r ≡ pos 0) p.radii.items
-  pub values_zero : AllZero p.values.items
+  pub values_zero : All IsZero p.values.items
   pub up_unset : All (λ mark. mark ≡ false) p.has_up.items
   pub local_unset : All (λ mark. mark ≡ false) p.has_local.items
   pub value_unset : All (λ mark. mark ≡ false) p.has_value.items

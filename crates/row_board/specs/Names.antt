@@ -1,6 +1,6 @@
 -- The names of the places of a board, and what each needs.
 use Rattle.std.specs.Prelude.{ℕ, ◌<◌, ◌≡◌, Bool, true, false, cond, ◌==◌, List, [], ◌∷◌, ◌++◌, length, map, All, slice_index_or}
-use Rattle.cell_lists.specs.Row.{row}
+use Rattle.cell_lists.specs.ListAt.{list_at}
 use Rattle.quadtree.specs.TreeModel.{size, node_of, leaf_of}
 use Rattle.tree_field.specs.Program.{source_children}
 use Rattle.row_board.specs.declared.name.Name.{Name}
@@ -26,8 +26,8 @@ target_leaf b k = leaf_of b.tree (slice_index_or b.targets k 0)
 -- root's of nothing; the box of a target of its leaf's local row and of the multipole rows of the leaf's W list
 abbrev pub needs : BoardParts → Name → List Name
 needs b (Up n) = map Up (source_children b.tree n)
-needs b (Local n) = cond (n == 0) [] (Local (node_of b.tree n).parent ∷ map Up (row b.lists.v n))
-needs b (Value k) = Local (target_leaf b k) ∷ map Up (row b.lists.w (target_leaf b k))
+needs b (Local n) = cond (n == 0) [] (Local (node_of b.tree n).parent ∷ map Up (list_at b.lists.v n))
+needs b (Value k) = Local (target_leaf b k) ∷ map Up (list_at b.lists.w (target_leaf b k))
 
 abbrev pub AreFilled : BoardParts → List Name → Type 0
 AreFilled b names = All (λ name. is_filled b name ≡ true) names

@@ -1,6 +1,6 @@
 -- What a board keeps.
 use Rattle.std.specs.Prelude.{ℕ, ℤ, Bool, List}
-use Rattle.cell_lists.specs.declared.entry_lists.EntryLists.{EntryLists}
+use Rattle.cell_lists.specs.EntryLists.{EntryListsModel}
 use Rattle.complex_box.specs.declared.CBox.{CBox}
 use Rattle.points.specs.declared.Point.{Point}
 use Rattle.quadtree.specs.TreeModel.{TreeModel}
@@ -11,7 +11,7 @@ pub record BoardParts : Type 0 where
   pub cap : ℕ
   pub points : List Point
   pub tree : TreeModel
-  pub lists : EntryLists
+  pub lists : EntryListsModel
   pub weights : List ℤ
   pub targets : List ℕ
   pub up : List CBox

@@ -1,7 +1,7 @@
 //! The board.
-ghost use Rattle.std.specs.Prelude.{◌≡◌, ◌^◌, ◌<◌, pos, true, false, IsTrue, ◌↔◌, length, MatchOption, IfSome};
-ghost use Rattle.exact_math.specs.Ends.{BoxEndsContain, BoxEndsWithin};
-ghost use Rattle.complex_box.specs.Box.{box_ends};
+ghost use Rattle.std.specs.Prelude.{◌≡◌, ◌^◌, ◌<◌, true, false, IsTrue, ◌↔◌, length, MatchOption, IfSome};
+ghost use Rattle.exact_math.specs.Units.{unit};
+ghost use Rattle.complex_box.specs.Box.{BoxWithin, BoxContains};
 ghost use Rattle.complex_box.specs.Rows.{at};
 ghost use Rattle.near_field.specs.DirectSum.{direct_sum};
 ghost use Rattle.row_board.specs.Board.{IsBoard, IsOfField, target_place};
@@ -77,8 +77,8 @@ impl<const P: usize> Board<P> {
         requires { IsName self.now (Name.Value k) }
         ensures value { MatchOption result (is_filled self.now (Name.Value k) ≡ false) (λ value. (is_filled self.now (Name.Value k) ≡ true) × (value ≡ at self.now.values k)) }
         ensures field { IfSome result (λ value. IsOfField P self.now (Name.Value k)) }
-        ensures size { IfSome result (λ value. BoxEndsWithin (2 ^ 84) (box_ends value)) }
-        ensures contains { IfSome result (λ value. BoxEndsContain (pos (2 ^ 40)) (box_ends value) (direct_sum (target_place self.now k) self.now.points)) }
+        ensures size { IfSome result (λ value. BoxWithin (2 ^ 84) value) }
+        ensures contains { IfSome result (λ value. BoxContains unit value (direct_sum (target_place self.now k) self.now.points)) }
     {
         if self.has_value[k] {
             Some(self.values[k])

@@ -9,8 +9,6 @@ mod law;
 mod making;
 mod name;
 mod search;
-#[cfg(test)]
-mod tests;
 
 pub use board::Board;
 pub use law::full_board;

@@ -1,7 +1,7 @@
 //! Making a board.
 ghost use Rattle.std.specs.Prelude.{ℕ, ◌≡◌, ◌*◌, ◌^◌, ◌<◌, ◌≤◌, pos, false, length, All, IfOk, IfErr, OnOk};
 ghost use Rattle.exact_math.specs.Orders.{IsCapacity, IsOrder};
-ghost use Rattle.complex_box.specs.Rows.{AllZero};
+ghost use Rattle.complex_box.specs.Rows.{IsZero};
 ghost use Rattle.points.specs.Limits.{InRange, WithinLimits, most_points, most_weight, total_weight};
 ghost use Rattle.quadtree.specs.Faults.{most_cells, HasMoreCells, IsFaultOf, NoneIsCrowded};
 ghost use Rattle.quadtree.specs.TreeModel.{IsTreeOf, size};
@@ -27,7 +27,7 @@ use tree_rows::weigh_cells;
 fn zeros(alloc: Global, count: usize) -> Result<Vec<CBox>, AllocError>
     requires { count < 2 ^ 32 }
     ensures len { IfOk result (λ v. length v.items ≡ count) }
-    ensures zero { IfOk result (λ v. AllZero v.items) }
+    ensures zero { IfOk result (λ v. All IsZero v.items) }
 {
     vec![in alloc; CBox::zero(); count]
 }

@@ -5,7 +5,6 @@ ghost use Rattle.tree_field.specs.Program.{source_children};
 ghost use Rattle.row_board.specs.Search.{AreMarked, IsFirstUnmarked};
 
 use quadtree::Tree;
-use upward_rows::{quadrant, quarter_with_source};
 
 /// The first of some cells that is not marked.
 pub(crate) fn first_unmarked(marks: &[bool], cells: &[u32]) -> Option<usize>
@@ -28,17 +27,11 @@ pub(crate) fn first_unmarked_quarter(tree: &Tree, marks: &[bool], n: usize) -> O
     requires marks { length marks.now ≡ size tree.now }
     ensures { MatchOption result (AreMarked marks.now (source_children tree.now n)) (IsFirstUnmarked marks.now (source_children tree.now n)) }
 {
-    if tree.is_leaf(n) {
-        return None;
-    }
-    for k in 0..4usize {
-        match quarter_with_source(tree, n, quadrant(k)) {
-            Some(m) => {
-                if !marks[m] {
-                    return Some(m);
-                }
-            }
-            None => {}
+    let children = tree.children(n);
+    for child in children {
+        let m = *child as usize;
+        if tree.has_source(m) && !marks[m] {
+            return Some(m);
         }
     }
     None

@@ -1,7 +1,7 @@
 -- A cell and those above it, and sums over them.
 use Rattle.std.proofs.Common.{ℕ, zero, suc, ◌≡◌, ◌-◌, ◌/◌, ◌^◌, ◌<◌, refl, sym, ap, ap₂, ◌∙◌, arith}
 use Rattle.std.proofs.Math.Nat.{div-div-eq-div-mul, pow-succ'}
-use Rattle.exact_math.specs.Ratio.{ComplexRatio, add_complex}
+use Rattle.exact_math.specs.Ratio.{ComplexRatio, ◌+ᶜ◌}
 use Rattle.exact_math.specs.Sums.{sum_complex}
 use Rattle.cell_name.specs.Square.{Square, parent, ancestor}
 use Rattle.cell_name.proofs.Cells.{same_square}
@@ -26,4 +26,4 @@ ancestor-parent c level lt = same_square (ancestor c level) (ancestor (parent c)
 
 pub sum_complex-same : (n : ℕ) (f g : ℕ → ComplexRatio) → ((k : ℕ) → k < n → f k ≡ g k) → sum_complex n f ≡ sum_complex n g
 sum_complex-same zero f g e = refl
-sum_complex-same (suc n) f g e = ap₂ add_complex (sum_complex-same n f g (λ k lt. e k (omega arith))) (e n (omega arith))
+sum_complex-same (suc n) f g e = ap₂ ◌+ᶜ◌ (sum_complex-same n f g (λ k lt. e k (omega arith))) (e n (omega arith))

@@ -4,7 +4,7 @@ use Rattle.std.specs.Prelude.{pos, ◌<ℤ◌, All, fold}
 use Rattle.std.proofs.lemmas.List.Elements.{All-tail}
 use Rattle.exact_math.specs.Ends.{BoxEnds, BoxEndsContain, zero_box, add_box}
 use Rattle.exact_math.specs.Gaussian.{Gaussian}
-use Rattle.exact_math.specs.Ratio.{ComplexRatio, SameComplex, zero_complex, add_complex}
+use Rattle.exact_math.specs.Ratio.{ComplexRatio, SameComplex, zero_complex, ◌+ᶜ◌}
 use Rattle.exact_math.specs.Sums.{sum_terms}
 use Rattle.row_recursions.specs.Fields.{HoldsField, field_at}
 use Rattle.row_recursions.proofs.FieldLaws.{no_field, sum_of_fields}
@@ -23,9 +23,9 @@ module _ (P s : ℕ) (b : Gaussian) where
 
   module _ (positive : 1 ≤ s) {A : Type 0} (value : A → Gaussian → ComplexRatio) (row : A → ℕ → BoxEnds) where
     added : (xs : List A) (f : Gaussian → ComplexRatio) (m : ℕ → BoxEnds) → HoldsField P s b f m → All (λ x. HoldsField P s b (value x) (row x)) xs
-        → HoldsField P s b (λ t. fold (λ z x. add_complex z (value x t)) (f t) xs) (λ l. fold (λ z x. add_box z (row x l)) (m l) xs)
+        → HoldsField P s b (λ t. fold (λ z x. z +ᶜ value x t) (f t) xs) (λ l. fold (λ z x. add_box z (row x l)) (m l) xs)
     added [] f m h each = h
-    added (x ∷ xs) f m h each = added xs (λ t. add_complex (f t) (value x t)) (λ l. add_box (m l) (row x l))
+    added (x ∷ xs) f m h each = added xs (λ t. f t +ᶜ value x t) (λ l. add_box (m l) (row x l))
         (sum_of_fields P s b f (value x) m (row x) positive h (each 0 x (omega arith)))
         (All-tail (λ x. HoldsField P s b (value x) (row x)) x xs each)
 

@@ -6,7 +6,7 @@ use Rattle.std.proofs.lemmas.List.Elements.{All-contains}
 use Rattle.std.proofs.lemmas.List.Folds.{fold-map}
 use Rattle.exact_math.specs.Ends.{BoxEnds, zero_box, add_box}
 use Rattle.exact_math.specs.Gaussian.{Gaussian}
-use Rattle.exact_math.specs.Ratio.{ComplexRatio, zero_complex, add_complex}
+use Rattle.exact_math.specs.Ratio.{ComplexRatio, zero_complex, ◌+ᶜ◌}
 use Rattle.exact_math.specs.Sums.{sum_complex, sum_terms}
 use Rattle.cell_name.specs.Square.{Square, side, parent, ancestor, holds_test}
 use Rattle.cell_name.proofs.Cells.{Touches-sym}
@@ -37,7 +37,7 @@ use Rattle.truncation.specs.Entries.{local_cut}
 use Rattle.tree_field.specs.Field.{is_source_in, sources_in, multipole_row, converted_rows, far_rows, local_row}
 use Rattle.tree_field.specs.Lists.{TreeLists, AreTreeLists}
 use Rattle.tree_field.proofs.LocalRows.{empty_from, local_row-root, local_row-below}
-use Rattle.tree_field.proofs.Members.{All-from_members}
+use Rattle.quadtree.proofs.Lists.{All-from_members}
 use Rattle.row_contents.specs.Contents.{LocalRowsHold}
 use Rattle.row_contents.specs.Fields.{sources_of, pair_terms, far_terms, entry_terms}
 use Rattle.row_contents.proofs.Ancestors.{ancestor-self, ancestor-parent, sum_complex-same}
@@ -62,7 +62,7 @@ module _ (grid : ℕ) (points : List Point) (cap P : ℕ) (positive : 0 < grid) 
       let grids : b.grid ≡ c.grid = h.first_in_tree.of_grid ∙ sym h.second_in_tree.of_grid in
       let a = h.come_apart in
       field_converted P (side b) (sides_between b c) (doubled_centre b) (doubled_centre c) (sources_of points c) (multipole_row points cap c) (side_positive b)
-      (norm_beyond 2 (sides_between b c) (omega arith) (pairs_of_cells b c grids a.same_level a.apart a.parents_touch).beyond)
+      (norm_beyond 2 (sides_between b c) (omega arith) (pairs_of_cells b c grids a.same_level a.apart a.parents_touch).kernel.apart)
       (subst (λ s. HoldsMoments P s (doubled_centre c) (sources_of points c) (multipole_row points cap c)) (sym (same_side b c grids a.same_level)) (multipole_rows_held grid points cap P c positive inside h.second_in_tree))
 
   -- the sources of the leaf c are far from a cell b that comes apart from it
@@ -78,7 +78,7 @@ module _ (grid : ℕ) (points : List Point) (cap P : ℕ) (positive : 0 < grid) 
   far_held : (b c : Square) → IsWPair grid points cap c b → Held P b (λ t. far_terms points P b c t) (total_row (far_coefficients_in b) (sources_in points c))
   far_held b c h =
       HoldsField-same P (side b) (doubled_centre b) _ _ (total_row (far_coefficients_in b) (sources_in points c)) (total_row (far_coefficients_in b) (sources_in points c))
-      (λ t. sym (fold-map (λ s x. add_complex s (local_cut P (doubled_centre b) t x)) source_of zero_complex (sources_in points c))) (λ l. refl)
+      (λ t. sym (fold-map (λ s x. s +ᶜ local_cut P (doubled_centre b) t x) source_of zero_complex (sources_in points c))) (λ l. refl)
       (HoldsField-list P (side b) (doubled_centre b) (side_positive b) (λ p t. local_cut P (doubled_centre b) t (source_of p)) (far_coefficients_in b) (sources_in points c)
       (λ k d lt. far_point P b _ (far_sources b c h k d lt)))
 
@@ -122,16 +122,16 @@ module _ (grid : ℕ) (points : List Point) (cap P : ℕ) (positive : 0 < grid) 
         (no_field P (side b) (doubled_centre b) (side_positive b))
       where
         nothing : (t : Gaussian) → zero_complex ≡ field_to zero b t
-        nothing t = sym (ap (λ c. add_complex zero_complex (entry_terms points P lists c t)) (ancestor-self b 0 e)
-            ∙ ap₂ (λ vs xs. add_complex zero_complex (add_complex (sum_terms (λ c. pair_terms points P b c t) vs) (sum_terms (λ c. far_terms points P b c t) xs))) (root_V b tb (sym e)) (root_X b tb (sym e)))
+        nothing t = sym (ap (λ c. zero_complex +ᶜ entry_terms points P lists c t) (ancestor-self b 0 e)
+            ∙ ap₂ (λ vs xs. zero_complex +ᶜ (sum_terms (λ c. pair_terms points P b c t) vs +ᶜ sum_terms (λ c. far_terms points P b c t) xs)) (root_V b tb (sym e)) (root_X b tb (sym e)))
     held_at (suc level) b e tb = HoldsField-same P (side b) (doubled_centre b) _ (field_to (suc level) b) _ (local_row points cap P lists b) sums (λ l. sym (local_row-below points cap P lists b (omega arith) l))
         (sum_of_fields P (side b) (doubled_centre b) (field_to level (parent b)) (λ t. entry_terms points P lists b t) (shifted_down P (local_row points cap P lists (parent b)) (quadrant b))
         (λ l. add_box (converted_rows points cap P lists b l) (far_rows points cap P lists b l)) (side_positive b)
         (brought_down b (field_to level (parent b)) tb (omega arith) (held_at level (parent b) (omega arith) (IsTreeCell-parent grid points cap b positive inside tb (omega arith))))
         (entries_held b tb))
       where
-        sums : (t : Gaussian) → add_complex (field_to level (parent b) t) (entry_terms points P lists b t) ≡ field_to (suc level) b t
-        sums t = ap₂ add_complex
+        sums : (t : Gaussian) → field_to level (parent b) t +ᶜ entry_terms points P lists b t ≡ field_to (suc level) b t
+        sums t = ap₂ ◌+ᶜ◌
             (sum_complex-same (suc level) _ _ (λ k lt. ap (λ c. entry_terms points P lists c t) (sym (ancestor-parent b k (omega arith)))))
             (ap (λ c. entry_terms points P lists c t) (sym (ancestor-self b (suc level) e)))
 

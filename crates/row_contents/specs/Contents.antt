@@ -1,8 +1,9 @@
 -- What the rows and values of a tree contain, for each list of points within a grid, each capacity of the leaves and each order.
-use Rattle.std.specs.Prelude.{ℕ, ◌<◌, ◌^◌, pos, List}
+use Rattle.std.specs.Prelude.{ℕ, ◌<◌, List}
 use Rattle.exact_math.specs.Ends.{BoxEndsContain}
 use Rattle.exact_math.specs.Gaussian.{Gaussian}
 use Rattle.exact_math.specs.Sums.{sum_terms}
+use Rattle.exact_math.specs.Units.{unit}
 use Rattle.cell_lists.specs.Entries.{IsEntry}
 use Rattle.cell_name.specs.Square.{Square, side, Holds}
 use Rattle.letters.specs.declared.Letter.TheVariants.{W}
@@ -30,14 +31,14 @@ LocalRowsHold = (grid : ℕ) (points : List Point) (cap P : ℕ) (lists : TreeLi
 -- the value of a local row at any place: that of its field
 abbrev pub LocalValuesHold : Type 0
 LocalValuesHold = (grid : ℕ) (points : List Point) (cap P : ℕ) (lists : TreeLists) (b : Square) (t : Gaussian) → 0 < grid → AreInGrid grid points → AreTreeLists grid points cap lists → IsTreeCell grid points cap b
-    → BoxEndsContain (pos (2 ^ 40)) (local_value_at points cap P lists b t) (local_field points P lists b t)
+    → BoxEndsContain unit (local_value_at points cap P lists b t) (local_field points P lists b t)
 
 -- the value of the multipole row of a W entry at a place in the leaf: the cut terms of the sources of its cell
 abbrev pub MultipoleValuesHold : Type 0
 MultipoleValuesHold = (grid : ℕ) (points : List Point) (cap P : ℕ) (b c : Square) (t : Gaussian) → 0 < grid → AreInGrid grid points → IsEntry grid points cap W b c → Holds b t.re t.im
-    → BoxEndsContain (pos (2 ^ 40)) (multipole_value P (multipole_row points cap c) (side c) (offset c t)) (multipole_terms points P c t)
+    → BoxEndsContain unit (multipole_value P (multipole_row points cap c) (side c) (offset c t)) (multipole_terms points P c t)
 
 -- the values of all W entries of the leaf together
 abbrev pub MultipoleSumsHold : Type 0
 MultipoleSumsHold = (grid : ℕ) (points : List Point) (cap P : ℕ) (lists : TreeLists) (b : Square) (t : Gaussian) → 0 < grid → AreInGrid grid points → AreTreeLists grid points cap lists → IsTreeCell grid points cap b → Holds b t.re t.im
-    → BoxEndsContain (pos (2 ^ 40)) (multipole_values_at points cap P lists b t) (sum_terms (λ c. multipole_terms points P c t) (lists.entries W b))
+    → BoxEndsContain unit (multipole_values_at points cap P lists b t) (sum_terms (λ c. multipole_terms points P c t) (lists.entries W b))

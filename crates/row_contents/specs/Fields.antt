@@ -1,7 +1,7 @@
 -- The sums of cut terms that the local rows and the values of a tree stand for, over the sources of entries.
 use Rattle.std.specs.Prelude.{ℕ, suc, List, map}
 use Rattle.exact_math.specs.Gaussian.{Gaussian}
-use Rattle.exact_math.specs.Ratio.{ComplexRatio, add_complex}
+use Rattle.exact_math.specs.Ratio.{ComplexRatio, ◌+ᶜ◌}
 use Rattle.exact_math.specs.Sums.{sum_complex, sum_terms}
 use Rattle.cell_name.specs.Square.{Square, side, ancestor}
 use Rattle.letters.specs.declared.Letter.TheVariants.{V, X}
@@ -30,7 +30,7 @@ module _ (points : List Point) (P : ℕ) where
   module _ (lists : TreeLists) where
     -- those of the V and X entries of the cell
     abbrev pub entry_terms : Square → Gaussian → ComplexRatio
-    entry_terms b t = add_complex (sum_terms (λ c. pair_terms b c t) (lists.entries V b)) (sum_terms (λ c. far_terms b c t) (lists.entries X b))
+    entry_terms b t = sum_terms (λ c. pair_terms b c t) (lists.entries V b) +ᶜ sum_terms (λ c. far_terms b c t) (lists.entries X b)
 
     -- those of the V and X entries of the cell and of all cells above it, from the root on
     abbrev pub local_field : Square → Gaussian → ComplexRatio

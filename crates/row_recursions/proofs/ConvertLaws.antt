@@ -4,8 +4,7 @@ use mathlib.Core.List.{List, []}
 use lib.ListN.{get_or}
 use Rattle.std.specs.Prelude.{Bool, true, false, cond}
 use Prim.Native.Nat.{◌<◌}
-use Rattle.exact_math.specs.Gaussian.{Gaussian, norm_gaussian}
-use Rattle.exact_math.specs.Ratio.{mul_complex}
+use Rattle.exact_math.specs.Gaussian.{Gaussian, norm_gaussian, scale_gaussian, zero_gaussian}
 use Rattle.exact_math.specs.Sums.{sum_complex, sum_terms}
 use Rattle.exact_math.proofs.BoxEnclosures.{EnclosesBox}
 use Rattle.exact_math.proofs.ComplexRationals.{inverse_unique}
@@ -16,13 +15,14 @@ use Rattle.exact_math.proofs.Integers.{*-positive}
 use Rattle.exact_math.proofs.KernelSlope.{slope_sum}
 use Rattle.exact_math.proofs.QuadraticExtension.{Pair, pow_slope}
 use Rattle.exact_math.proofs.TruncatedKernel.{kernel_sum}
+use Rattle.exact_math.specs.Ratio.{◌*ᶜ◌}
 use Rattle.truncation.specs.CutTerms.{pair_pole_cut, pair_dipole_cut}
 use Rattle.truncation.specs.Entries.{Source, pair_cut}
-use Rattle.truncation.specs.Places.{doubled_offset, times_side}
+use Rattle.truncation.specs.Places.{doubled_offset}
 use Rattle.truncation.proofs.CutValues.{halved, Stands-pair_pole_cut, Stands-pair_dipole_cut}
 use Rattle.kernel_table.specs.Kernel.{kernel_entry, kernel_fraction}
 use Rattle.row_recursions.specs.Laws.{FieldConverted}
-use Rattle.row_recursions.specs.Moments.{nothing, pole_of, dipole_of, moment}
+use Rattle.row_recursions.specs.Moments.{pole_of, dipole_of, moment}
 use Rattle.row_recursions.specs.Rows.{converted}
 use Rattle.row_recursions.proofs.BoxSums.{units, value-multiple}
 use Rattle.row_recursions.proofs.CutSums as Cut
@@ -60,15 +60,15 @@ plain_is s c xs k h = sum_list-congruence complex_rationals _ _ xs (λ x.
     spread a b p q = ring5 complex_rationals a b p q (reciprocal s) (λ a b p q r. search quotes depth 12) tt
 
 -- ---- the distance of the centres
-norm_side : (s : ℕ) (e : Gaussian) → 0 < s → pos 0 <ℤ norm_gaussian e → pos 0 <ℤ norm_gaussian (times_side s e)
+norm_side : (s : ℕ) (e : Gaussian) → 0 < s → pos 0 <ℤ norm_gaussian e → pos 0 <ℤ norm_gaussian (scale_gaussian s e)
 norm_side s e h k = subst (λ z. pos 0 <ℤ z) (square (pos s) e.re e.im) (*-positive _ _ (*-positive (pos s) (pos s) (omega (arith, ints)) (omega (arith, ints))) k)
   where
     square : (s a b : ℤ) → s *ℤ s *ℤ (a *ℤ a +ℤ b *ℤ b) ≡ s *ℤ a *ℤ (s *ℤ a) +ℤ s *ℤ b *ℤ (s *ℤ b)
     square s a b = ring3 int_ring s a b (λ s a b. search int_quotes depth 12) tt
 
 -- (1/s) (1/e) = 1/(s e)
-inverse_side : (s : ℕ) (e : Gaussian) → 0 < s → pos 0 <ℤ norm_gaussian e → reciprocal s *ℂ inverse_ℂ (value e) ≡ inverse_ℂ (value (times_side s e))
-inverse_side s e h k = inverse_unique (value (times_side s e)) _ (value_positive (times_side s e) (norm_side s e h k))
+inverse_side : (s : ℕ) (e : Gaussian) → 0 < s → pos 0 <ℤ norm_gaussian e → reciprocal s *ℂ inverse_ℂ (value e) ≡ inverse_ℂ (value (scale_gaussian s e))
+inverse_side s e h k = inverse_unique (value (scale_gaussian s e)) _ (value_positive (scale_gaussian s e) (norm_side s e h k))
     (ap (λ z. z *ℂ (reciprocal s *ℂ inverse_ℂ (value e))) (value-multiple (pos s) e) ∙ one)
   where
     one : of_int_ℂ (pos s) *ℂ value e *ℂ (reciprocal s *ℂ inverse_ℂ (value e)) ≡ of_int_ℂ (pos 1)
@@ -78,19 +78,19 @@ inverse_side s e h k = inverse_unique (value (times_side s e)) _ (value_positive
 
 -- ---- the cut terms
 abbrev exact_cut : ℕ → ℕ → Gaussian → Gaussian → Gaussian → Gaussian → Source → ℂ
-exact_cut P s e b c t x = Cut.pair_cut complex_rationals (value (pole_of x)) (value (dipole_of x)) (halved (offset c x)) (halved (doubled_offset t b)) (inverse_ℂ (value (times_side s e))) P
+exact_cut P s e b c t x = Cut.pair_cut complex_rationals (value (pole_of x)) (value (dipole_of x)) (halved (offset c x)) (halved (doubled_offset t b)) (inverse_ℂ (value (scale_gaussian s e))) P
 
-Stands-cut : (P s : ℕ) (e b c t : Gaussian) (x : Source) → of_int (pos 0) <ℚ norm (value (times_side s e)) → Stands (pair_cut P s e b c t x) (exact_cut P s e b c t x)
+Stands-cut : (P s : ℕ) (e b c t : Gaussian) (x : Source) → of_int (pos 0) <ℚ norm (value (scale_gaussian s e)) → Stands (pair_cut P s e b c t x) (exact_cut P s e b c t x)
 Stands-cut P s e b c t x h = by_kind x.dipole x.strength
   where
     i : ℂ
-    i = inverse_ℂ (value (times_side s e))
+    i = inverse_ℂ (value (scale_gaussian s e))
 
     poles : ℂ
-    poles = kernel_sum complex_rationals (halved (doubled_offset x.place c) *ℂ inverse_ℂ (value (times_side s e))) (neg_ℂ (halved (doubled_offset t b) *ℂ inverse_ℂ (value (times_side s e)))) P P
+    poles = kernel_sum complex_rationals (halved (doubled_offset x.place c) *ℂ inverse_ℂ (value (scale_gaussian s e))) (neg_ℂ (halved (doubled_offset t b) *ℂ inverse_ℂ (value (scale_gaussian s e)))) P P
 
     dipoles : ℂ
-    dipoles = slope_sum complex_rationals (halved (doubled_offset x.place c) *ℂ inverse_ℂ (value (times_side s e))) (neg_ℂ (halved (doubled_offset t b) *ℂ inverse_ℂ (value (times_side s e)))) P P
+    dipoles = slope_sum complex_rationals (halved (doubled_offset x.place c) *ℂ inverse_ℂ (value (scale_gaussian s e))) (neg_ℂ (halved (doubled_offset t b) *ℂ inverse_ℂ (value (scale_gaussian s e)))) P P
 
     right : (a w p q : ℂ) → a *ℂ w *ℂ p ≡ a *ℂ (w *ℂ p) +ℂ of_int_ℂ (pos 0) *ℂ (w *ℂ w *ℂ q)
     right a w p q = ring4 complex_rationals a w p q (λ a w p q. search quotes depth 12) tt
@@ -99,7 +99,7 @@ Stands-cut P s e b c t x h = by_kind x.dipole x.strength
     left b w p q = ring4 complex_rationals b w p q (λ b w p q. search quotes depth 12) tt
 
     by_kind : (d : Bool) (g : Gaussian) → Stands (cond d (pair_dipole_cut P s e (doubled_offset x.place c) (doubled_offset t b) g) (pair_pole_cut P s e (doubled_offset x.place c) (doubled_offset t b) g))
-        (value (cond d nothing g) *ℂ (inverse_ℂ (value (times_side s e)) *ℂ poles) +ℂ value (cond d g nothing) *ℂ (inverse_ℂ (value (times_side s e)) *ℂ inverse_ℂ (value (times_side s e)) *ℂ dipoles))
+        (value (cond d zero_gaussian g) *ℂ (inverse_ℂ (value (scale_gaussian s e)) *ℂ poles) +ℂ value (cond d g zero_gaussian) *ℂ (inverse_ℂ (value (scale_gaussian s e)) *ℂ inverse_ℂ (value (scale_gaussian s e)) *ℂ dipoles))
     by_kind true g = subst (Stands (pair_dipole_cut P s e (doubled_offset x.place c) (doubled_offset t b) g))
         (left (value g) i poles dipoles ∙ ap (λ a. a *ℂ (i *ℂ poles) +ℂ value g *ℂ (i *ℂ i *ℂ dipoles)) (sym value-nothing))
         (Stands-pair_dipole_cut P s e (doubled_offset x.place c) (doubled_offset t b) h g)
@@ -109,12 +109,12 @@ Stands-cut P s e b c t x h = by_kind x.dipole x.strength
 
 pub field_converted : FieldConverted
 field_converted P s e b c xs m s≥1 apart h = holds_field P s b (λ t. sum_terms (pair_cut P s e b c t) xs) (converted P (kernel_entry e) m)
-    (λ l. sum_complex P (λ k. mul_complex (kernel_fraction e k l) (moment s c xs k))) v s≥1
+    (λ l. sum_complex P (λ k. kernel_fraction e k l *ᶜ moment s c xs k)) v s≥1
     (λ l. Stands-sum P (λ k. Stands-mul (Stands-kernel_fraction e apart k l) (moment_stands k)))
     (λ l i. subst (EnclosesBox (converted P (kernel_entry e) m l)) (outside l)
     (converted_holds P (kernel_entry e) (exact_kernel complex_rationals (inverse_ℂ (value e))) m (held_moment s c xs) l (λ k j. kernel_entry_holds e apart k l) (moments_enclosed P s c xs m s≥1 h)))
     (λ t. subst (Stands (sum_terms (pair_cut P s e b c t) xs)) (sym (sums t))
-    (Stands-sum_terms (pair_cut P s e b c t) (exact_cut P s e b c t) xs (λ k d l. Stands-cut P s e b c t (get_or xs k d) (value_positive (times_side s e) (norm_side s e s≥1 apart)))))
+    (Stands-sum_terms (pair_cut P s e b c t) (exact_cut P s e b c t) xs (λ k d l. Stands-cut P s e b c t (get_or xs k d) (value_positive (scale_gaussian s e) (norm_side s e s≥1 apart)))))
   where
     v : ℕ → ℂ
     v = exact_pair complex_rationals (function_ring Source dual_complex) (plain xs) (inverse_ℂ (value e)) (half_places s c) P

@@ -9,35 +9,25 @@ use Rattle.exact_math.specs.Binomials.{choose}
 use Rattle.exact_math.specs.Contains.{Contains}
 use Rattle.exact_math.specs.Ends.{Ends, BoxEnds, EndsWithin, BoxEndsWithin, EndsNarrow, times_box, times_ends}
 use Rattle.exact_math.specs.Gaussian.{Gaussian}
-use Rattle.exact_math.specs.Ratio.{Ratio, ComplexRatio, mul_complex}
-use Rattle.exact_math.specs.Sums.{count, pow_complex}
+use Rattle.exact_math.specs.Ratio.{Ratio, ComplexRatio, ◌*ᶜ◌, reciprocal}
+use Rattle.exact_math.specs.Sums.{pow_complex, natural_complex}
 use Rattle.exact_math.specs.Within.{Within}
 use Rattle.exact_math.proofs.Ring.{int_ring}
 use Rattle.exact_math.proofs.RingTactic.{int_quotes, ring2}
 use Rattle.exact_math.proofs.Integers as Z
 use Rattle.fixed_interval.proofs.Sizes.{add_within, sub_within, times_within}
-use Rattle.complex_box.proofs.Sizes.{box_wider, add_box_within}
-use Rattle.truncation.specs.CutTerms.{reciprocal}
+use Rattle.complex_box.proofs.Sizes.{box_wider, add_box_within, zero_within}
 use Rattle.kernel_table.specs.Kernel.{IsKernelDistance, kernel_entry, kernel_fraction, alternate_complex}
-use Rattle.kernel_table.proofs.Contained.{kernel_entry_contains}
+use Rattle.kernel_table.proofs.Entries.{kernel_entries}
 use Rattle.kernel_table.proofs.Sizes.{Shrunk, shrunk, norm≥4, count_root_le}
-use Rattle.kernel_table.proofs.Widths.{kernel_entry_narrow, square_abs}
+use Rattle.exact_math.proofs.GaussianSizes.{square_abs}
+use Rattle.exact_math.proofs.WholeSizes.{within-size}
 use Rattle.row_recursions.specs.Rows.{sum_boxes, converted}
 use Rattle.row_recursions.specs.Sizes.{RowWithin, ConvertedSizes}
 use Rattle.row_recursions.proofs.KernelCounts.{column_count, column_count-next, column_count-bounded}
-use Rattle.row_recursions.proofs.RowSizes.{zero_within, box_quot_within, power_positive}
+use Rattle.row_recursions.proofs.RowSizes.{box_quot_within, power_positive, two_products}
 
 -- ---- the exact kernel
--- twice a product is at most the sum of the squares
-square_nonneg : (a : ℤ) → pos 0 ≤ℤ (a *ℤ a)
-square_nonneg a = let e = square_abs a in omega (arith, ints, e)
-
-two_products : (x y : ℕ) → 2 * (x * y) ≤ x * x + y * y
-two_products x y = let h = subst (λ z. pos 0 ≤ℤ z) (expand (pos x) (pos y)) (square_nonneg (pos x -ℤ pos y)) in omega (arith, ints, h)
-  where
-    expand : (x y : ℤ) → (x -ℤ y) *ℤ (x -ℤ y) ≡ x *ℤ x +ℤ y *ℤ y -ℤ pos 2 *ℤ (x *ℤ y)
-    expand x y = ring2 int_ring x y (λ x y. search int_quotes depth 12) tt
-
 sum_root : (x y d : ℕ) → x * x + y * y ≤ d * d → 12 * (x + y) ≤ 17 * d
 sum_root x y d h = let t = two_products x y in count_root_le (12 * (x + y)) (17 * d) (omega (arith, h, t))
 
@@ -60,13 +50,9 @@ shrunk_sum n x h = sum_root (n * unsigned_abs x.re) (n * unsigned_abs x.im) (uns
 abbrev pub parts_size : BoxEnds → ℕ
 parts_size b = unsigned_abs b.re.lo + 2 + (unsigned_abs b.im.lo + 2)
 
-size_within : (z : ℤ) → Within (unsigned_abs z) z
-size_within (pos n) = record { above = omega (arith, ints); below = omega (arith, ints) }
-size_within (negsuc n) = record { above = omega (arith, ints); below = omega (arith, ints) }
-
 narrow_within : (i : Ends) → EndsNarrow 2 i → EndsWithin (unsigned_abs i.lo + 2) i
 narrow_within i h =
-    let w = size_within i.lo in
+    let w = within-size i.lo in
     let a = w.above in
     let b = w.below in
     let o = h.ordered in
@@ -112,7 +98,7 @@ alternate_sizes (suc l) x =
     let h = alternate_sizes l x in
     record { re = neg_size _ ∙ h.re; im = neg_size _ ∙ h.im; denominator = h.denominator }
 
-counted_sizes : (n : ℕ) (x : ComplexRatio) → SameSizes (mul_complex (count n) x) (record { re = pos n *ℤ x.re; im = pos n *ℤ x.im; denominator = x.denominator })
+counted_sizes : (n : ℕ) (x : ComplexRatio) → SameSizes (natural_complex n *ᶜ x) (record { re = pos n *ℤ x.re; im = pos n *ℤ x.im; denominator = x.denominator })
 counted_sizes n x = record { re = ap unsigned_abs (less (pos n *ℤ x.re) x.im); im = ap unsigned_abs (more (pos n *ℤ x.im) x.re); denominator = whole x.denominator }
   where
     less : (a b : ℤ) → a -ℤ pos 0 *ℤ b ≡ a
@@ -125,7 +111,7 @@ counted_sizes n x = record { re = ap unsigned_abs (less (pos n *ℤ x.re) x.im);
     whole d = omega (arith, ints)
 
 times_units : (z : ℤ) (m : ℕ) → unsigned_abs z ≡ m → (neg_ℤ (pos (2 ^ 40 * m)) ≤ℤ (pos (2 ^ 40) *ℤ z)) × ((pos (2 ^ 40) *ℤ z) ≤ℤ pos (2 ^ 40 * m))
-times_units z m e = let w = size_within z in let a = w.above in let b = w.below in (omega (arith, ints, a, b, e), omega (arith, ints, a, b, e))
+times_units z m e = let w = within-size z in let a = w.above in let b = w.below in (omega (arith, ints, a, b, e), omega (arith, ints, a, b, e))
 
 cancelled : (a b d : ℕ) → 1 ≤ d → a * d ≤ b * d → a ≤ b
 cancelled a b d p h =
@@ -156,9 +142,9 @@ module _ (e : Gaussian) (distance : IsKernelDistance e) where
         × (unsigned_abs (kernel_entry e k l).im.lo * bottom ≤ 2 ^ 40 * (choose (k + l) k * unsigned_abs power.im) + 2 * bottom)
     unfolding kernel_fraction
     parts_bounded =
-        let h = kernel_entry_contains e (omega (arith, ints, norm≥4 e distance)) k l in
-        let w = kernel_entry_narrow e distance k l small in
-        let x = mul_complex (count (choose (k + l) k)) power in
+        let h = (kernel_entries e k l distance small).contains in
+        let w = (kernel_entries e k l distance small).narrow in
+        let x = natural_complex (choose (k + l) k) *ᶜ power in
         let a = alternate_sizes l x in
         let b = counted_sizes (choose (k + l) k) power in
         let d = a.denominator ∙ b.denominator ∙ positive_is power.denominator shrunk_power.positive in
@@ -233,7 +219,7 @@ module _ (e : Gaussian) (distance : IsKernelDistance e) where
     unfolding column_size
     sum_within n m zero h bounded = zero_within (0 * n)
     sum_within n m (suc K) h bounded =
-        let w = kernel_entry_narrow e distance K l (omega (arith, h)) in
+        let w = (kernel_entries e K l distance (omega (arith, h))).narrow in
         box_wider (column_size K * n + parts_size (kernel_entry e K l) * n) ((column_size K + parts_size (kernel_entry e K l)) * n) _ (omega arith)
         (add_box_within (column_size K * n) (parts_size (kernel_entry e K l) * n) (sum_boxes K (λ k. times_box (kernel_entry e k l) (m k))) (times_box (kernel_entry e K l) (m K))
         (sum_within n m K (omega (arith, h)) (λ k i. bounded k (omega (arith, i))))

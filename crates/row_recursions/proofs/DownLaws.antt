@@ -1,14 +1,14 @@
 -- A local row that is brought down to a child holds the same field.
 use Rattle.exact_math.proofs.Common.{◌≡◌, sym, ap, ap₂, subst, ◌∙◌, ℕ, zero, suc, arith, ℤ, pos, ◌+ℤ◌, ◌-ℤ◌, ◌*ℤ◌, int_ring, quotes, int_quotes, combine, ring1, ring3, ring4, ring5, ring7, ℂ, complex_rationals, of_int_ℂ, ◌+ℂ◌, ◌*ℂ◌, neg_ℂ}
 use Prim.Native.Nat.{◌-◌, ◌*◌, ◌<◌}
-use Rattle.exact_math.specs.Gaussian.{Gaussian, add_gaussian}
-use Rattle.exact_math.specs.Ratio.{ComplexRatio, zero_complex, whole_complex, add_complex, mul_complex, over_complex}
-use Rattle.exact_math.specs.Sums.{count}
+use Rattle.exact_math.specs.Gaussian.{Gaussian, add_gaussian, scale_gaussian}
+use Rattle.exact_math.specs.Ratio.{ComplexRatio, zero_complex, whole_complex, over_complex, ◌+ᶜ◌, ◌*ᶜ◌}
 use Rattle.exact_math.proofs.BoxEnclosures.{EnclosesBox}
 use Rattle.exact_math.proofs.Fractions.{Stands, Stands-whole, Stands-count, Stands-zero, Stands-add, Stands-mul}
 use Rattle.exact_math.proofs.Gaussians.{value}
 use Rattle.exact_math.proofs.Horner.{polynomial}
-use Rattle.truncation.specs.Places.{doubled_offset, times_side}
+use Rattle.exact_math.specs.Sums.{natural_complex}
+use Rattle.truncation.specs.Places.{doubled_offset}
 use Rattle.row_recursions.specs.Laws.{FieldDown}
 use Rattle.row_recursions.specs.Rows.{shifted_down}
 use Rattle.row_recursions.proofs.BoxSums.{units}
@@ -19,19 +19,19 @@ use Rattle.row_recursions.proofs.Sides.{sides, reciprocal, reciprocal-right, rec
 
 -- ---- the coefficients about the child's centre, in fractions
 abbrev half_fraction : ComplexRatio
-half_fraction = over_complex (count 1) (pos 2)
+half_fraction = over_complex (natural_complex 1) (pos 2)
 
 Stands-half : Stands half_fraction half
 Stands-half = subst (Stands half_fraction) (ring1 complex_rationals half (λ h. search quotes depth 9) tt) (Stands-over_side 2 (omega arith) (Stands-count 1))
 
 -- g/4
 abbrev quarter_fraction : ComplexRatio → ComplexRatio
-quarter_fraction z = mul_complex (mul_complex half_fraction half_fraction) z
+quarter_fraction z = half_fraction *ᶜ half_fraction *ᶜ z
 
 down_fraction : Gaussian → ℕ → (ℕ → ComplexRatio) → ℕ → ℕ → ComplexRatio
 down_fraction q P c zero k = zero_complex
-down_fraction q P c (suc n) zero = add_complex (c (P - suc n)) (quarter_fraction (mul_complex (whole_complex q) (down_fraction q P c n zero)))
-down_fraction q P c (suc n) (suc k) = quarter_fraction (add_complex (mul_complex (whole_complex q) (down_fraction q P c n (suc k))) (mul_complex (count 2) (down_fraction q P c n k)))
+down_fraction q P c (suc n) zero = c (P - suc n) +ᶜ quarter_fraction (whole_complex q *ᶜ down_fraction q P c n zero)
+down_fraction q P c (suc n) (suc k) = quarter_fraction (whole_complex q *ᶜ down_fraction q P c n (suc k) +ᶜ natural_complex 2 *ᶜ down_fraction q P c n k)
 
 Stands-down : (q : Gaussian) (P : ℕ) (c : ℕ → ComplexRatio) (v : ℕ → ℂ) → ((l : ℕ) → Stands (c l) (v l)) → (n k : ℕ) → Stands (down_fraction q P c n k) (down_coefficient complex_rationals half (value q) P v n k)
 unfolding down_fraction
@@ -54,7 +54,7 @@ exact-units q P v k = ap (λ z. half *ℂ z) (down-units q P v P k) ∙ ring3 co
 
 -- ---- places
 -- the offset from the parent's centre
-down_offset : (s : ℕ) (q b t : Gaussian) → parent_offset s q (doubled_offset t (add_gaussian b (times_side s q))) ≡ doubled_offset t b
+down_offset : (s : ℕ) (q b t : Gaussian) → parent_offset s q (doubled_offset t (add_gaussian b (scale_gaussian s q))) ≡ doubled_offset t b
 down_offset s q b t = λ i. record { re = cancel (t.re +ℤ t.re) b.re (pos s *ℤ q.re) i; im = cancel (t.im +ℤ t.im) b.im (pos s *ℤ q.im) i }
   where
     cancel : (z c p : ℤ) → z -ℤ (c +ℤ p) +ℤ p ≡ z -ℤ c
@@ -77,8 +77,8 @@ moves s q o h =
     (ring7 complex_rationals p z g n r a b (λ p z g n r a b. search quotes depth 14) tt))))
 
 pub field_down : FieldDown
-field_down P s q b f m s≥1 h = holds_field P s (add_gaussian b (times_side s q)) f (shifted_down P m q)
-    (λ k. mul_complex half_fraction (down_fraction q P h.coefficient P k)) (exact_down complex_rationals half (value q) P (held_coefficient wide h)) s≥1
+field_down P s q b f m s≥1 h = holds_field P s (add_gaussian b (scale_gaussian s q)) f (shifted_down P m q)
+    (λ k. half_fraction *ᶜ down_fraction q P h.coefficient P k) (exact_down complex_rationals half (value q) P (held_coefficient wide h)) s≥1
     (λ k. Stands-mul Stands-half (Stands-down q P h.coefficient (held_coefficient wide h) (coefficient_stands wide h) P k))
     (λ k i. subst (EnclosesBox (shifted_down P m q k)) (exact-units (value q) P (held_coefficient wide h) k)
     (shifted_down_holds q P m (λ l. units *ℂ held_coefficient wide h l) (coefficient_enclosed wide h) k))
@@ -88,9 +88,9 @@ field_down P s q b f m s≥1 h = holds_field P s (add_gaussian b (times_side s q
     wide = omega arith
 
     same : (t : Gaussian) → field_value P (2 * s) (held_coefficient wide h) (doubled_offset t b)
-        ≡ field_value P s (exact_down complex_rationals half (value q) P (held_coefficient wide h)) (doubled_offset t (add_gaussian b (times_side s q)))
+        ≡ field_value P s (exact_down complex_rationals half (value q) P (held_coefficient wide h)) (doubled_offset t (add_gaussian b (scale_gaussian s q)))
     same t =
-        let o = doubled_offset t (add_gaussian b (times_side s q)) in
+        let o = doubled_offset t (add_gaussian b (scale_gaussian s q)) in
         ap (λ y. polynomial complex_rationals P (held_coefficient wide h) (sides (2 * s) y) *ℂ reciprocal (2 * s)) (sym (down_offset s q b t))
         ∙ turned (polynomial complex_rationals P (held_coefficient wide h) (sides (2 * s) (parent_offset s q o)))
         (polynomial complex_rationals P (exact_down complex_rationals half (value q) P (held_coefficient wide h)) (sides s o))

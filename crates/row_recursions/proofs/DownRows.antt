@@ -31,7 +31,7 @@ module _ (q : Gaussian) (P : ℕ) (m : ℕ → BoxEnds) (c : ℕ → ℂ) (conta
   round_holds (suc n) zero h = EnclosesBox-add (contains (P - suc n) (omega arith)) (EnclosesBox-quot (pos 4) (omega (arith, ints))
       (subst (EnclosesBox (gscale_box (down_round P m q n zero) q)) (sym (quarter-is _)) (EnclosesBox-gscale q (round_holds n zero (omega arith)))))
   round_holds (suc n) (suc k) h = EnclosesBox-quot (pos 4) (omega (arith, ints))
-      (subst (EnclosesBox (add_box (gscale_box (down_round P m q n (suc k)) q) (scale_box (pos 2) (down_round P m q n k)))) (sym (quarter-is _))
+      (subst (EnclosesBox (add_box (gscale_box (down_round P m q n (suc k)) q) (scale_box (down_round P m q n k) (pos 2)))) (sym (quarter-is _))
       (EnclosesBox-add (EnclosesBox-gscale q (round_holds n (suc k) (omega arith))) (EnclosesBox-scale (pos 2) (round_holds n k (omega arith)))))
 
   -- the coefficients about the child's centre

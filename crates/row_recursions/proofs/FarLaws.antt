@@ -2,38 +2,37 @@
 use Rattle.exact_math.proofs.Common.{◌≡◌, sym, ap, subst, ◌∙◌, ℕ, suc, pos, ◌<ℤ◌, pow, quotes, ring3, ring7, ℂ, complex_rationals, of_int_ℂ, ◌+ℂ◌, ◌*ℂ◌, neg_ℂ, inverse_ℂ, sum_below, sum_below-congruence}
 use Rattle.std.specs.Prelude.{Bool, true, false, cond}
 use Prim.Native.Nat.{◌*◌, ◌<◌}
-use Rattle.exact_math.specs.Gaussian.{Gaussian, norm_gaussian}
-use Rattle.exact_math.specs.Ratio.{ComplexRatio, whole_complex, add_complex, neg_complex, mul_complex, over_complex}
-use Rattle.exact_math.specs.Sums.{count, pow_complex}
+use Rattle.exact_math.specs.Gaussian.{Gaussian, norm_gaussian, zero_gaussian}
+use Rattle.exact_math.specs.Ratio.{ComplexRatio, whole_complex, neg_complex, over_complex, ◌+ᶜ◌, ◌*ᶜ◌, reciprocal as reciprocal_fraction}
+use Rattle.exact_math.specs.Sums.{pow_complex, natural_complex}
 use Rattle.exact_math.proofs.BoxEnclosures.{EnclosesBox}
+use Rattle.exact_math.proofs.DirectTerms.{Stands-reciprocal}
 use Rattle.exact_math.proofs.Fractions.{Stands, Stands-whole, Stands-count, Stands-add, Stands-neg, Stands-mul, Stands-pow}
 use Rattle.exact_math.proofs.Gaussians.{value}
 use Rattle.exact_math.proofs.Horner.{polynomial}
-use Rattle.truncation.specs.CutTerms.{reciprocal as reciprocal_fraction, local_pole_cut, local_dipole_cut}
+use Rattle.exact_math.proofs.DirectTerms.{Stands-reciprocal}
+use Rattle.truncation.specs.CutTerms.{local_pole_cut, local_dipole_cut}
 use Rattle.truncation.specs.Entries.{Source, local_cut}
 use Rattle.truncation.specs.Places.{doubled_offset}
 use Rattle.truncation.proofs.CutValues.{halved, Stands-local_pole_cut, Stands-local_dipole_cut}
 use Rattle.row_recursions.specs.Laws.{FieldOfSource}
-use Rattle.row_recursions.specs.Moments.{nothing, pole_of, dipole_of}
+use Rattle.row_recursions.specs.Moments.{pole_of, dipole_of}
 use Rattle.row_recursions.specs.Rows.{far_source}
 use Rattle.row_recursions.proofs.BoxSums.{units}
 use Rattle.row_recursions.proofs.CutSums as Cut
 use Rattle.row_recursions.proofs.FarRows.{far_source_holds}
 use Rattle.row_recursions.proofs.FieldLaws.{Stands-over_side, holds_field}
 use Rattle.row_recursions.proofs.Halves.{sides-half, halved_positive, far_ratio, far_ratio-is, far_ratio-over}
-use Rattle.row_recursions.proofs.KernelRows.{Stands-reciprocal}
 use Rattle.row_recursions.proofs.MomentLaws.{value-nothing}
 use Rattle.row_recursions.proofs.Sides.{sides, reciprocal}
 
 -- 2 s/zeta
 abbrev ratio : ℕ → Gaussian → ComplexRatio
-ratio s zeta = mul_complex (count (2 * s)) (reciprocal_fraction zeta)
+ratio s zeta = natural_complex (2 * s) *ᶜ reciprocal_fraction zeta
 
 -- -a r^(l + 1) + (l + 1) (b/s) r^(l + 2)
 abbrev coefficient : ℕ → Gaussian → Gaussian → Gaussian → ℕ → ComplexRatio
-coefficient s a b zeta l = add_complex
-    (neg_complex (mul_complex (whole_complex a) (pow_complex (ratio s zeta) (suc l))))
-    (mul_complex (count (suc l)) (mul_complex (over_complex (whole_complex b) (pos s)) (pow_complex (ratio s zeta) (suc (suc l)))))
+coefficient s a b zeta l = neg_complex (whole_complex a *ᶜ pow_complex (ratio s zeta) (suc l)) +ᶜ natural_complex (suc l) *ᶜ (over_complex (whole_complex b) (pos s) *ᶜ pow_complex (ratio s zeta) (suc (suc l)))
 
 abbrev exact : ℕ → Gaussian → Gaussian → Gaussian → ℕ → ℂ
 exact s a b zeta l = Cut.exact_single complex_rationals (value a) (value b) (reciprocal s) (far_ratio s zeta) (of_int_ℂ (pos 0)) l
@@ -71,7 +70,7 @@ Stands-cut P b t x h = by_kind x.dipole x.strength
     left b p q = ring3 complex_rationals b p q (λ b p q. search quotes depth 9) tt
 
     by_kind : (d : Bool) (g : Gaussian) → Stands (cond d (local_dipole_cut P (doubled_offset x.place b) (doubled_offset t b) g) (local_pole_cut P (doubled_offset x.place b) (doubled_offset t b) g))
-        (neg_ℂ (value (cond d nothing g) *ℂ poles) +ℂ value (cond d g nothing) *ℂ dipoles)
+        (neg_ℂ (value (cond d zero_gaussian g) *ℂ poles) +ℂ value (cond d g zero_gaussian) *ℂ dipoles)
     by_kind true g = subst (Stands (local_dipole_cut P (doubled_offset x.place b) (doubled_offset t b) g))
         (ap (λ z. value g *ℂ z) (sum_below-congruence complex_rationals P _ _ (λ l k. complex_rationals.mul_assoc _ _ _)) ∙ left (value g) poles dipoles ∙ ap (λ a. neg_ℂ (a *ℂ poles) +ℂ value g *ℂ dipoles) (sym value-nothing))
         (Stands-local_dipole_cut P (doubled_offset x.place b) (doubled_offset t b) (halved_positive (doubled_offset x.place b) h) g)

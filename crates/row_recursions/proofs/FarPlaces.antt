@@ -3,11 +3,9 @@ use Rattle.std.proofs.Common.{◌≡◌, ◌∙◌, ap, ap₂, ℕ, ◌*◌, ◌
 use Rattle.std.proofs.lemmas.Int.{ints}
 use Rattle.std.proofs.Math.Pow.{pow_mono}
 use Rattle.std.specs.Int.{w128}
-use Rattle.exact_math.specs.Gaussian.{Gaussian, gaussian}
-use Rattle.exact_math.specs.Within.{Within}
+use Rattle.exact_math.specs.Gaussian.{Gaussian, gaussian, conj, scale_gaussian}
+use Rattle.exact_math.specs.Within.{Within, GaussianWithin}
 use Rattle.exact_math.proofs.WholeSizes.{within-mul, within-neg}
-use Rattle.truncation.specs.Places.{GaussianWithin}
-use Rattle.kernel_table.specs.Kernel.{conj_multiple}
 
 narrow : (z : ℤ) → Within (2 ^ 36) z → to_z w64 (of_z w64 z) ≡ z
 narrow z h = let f : SFits w64 z = omega (arith, ints) in to_z-of_z f
@@ -53,10 +51,10 @@ negative_fits bits z h w = let p = product_within bits z h w in rw (product_is b
 pub factor_is : (bits : ℕ) (zeta : Gaussian) → bits ≤ 16 → GaussianWithin (2 ^ 17) zeta
     → gaussian (to_z w64 (of_z w64 (to_z w64 (2 * 2 ^ bits % 18446744073709551616) *ℤ to_z w64 (of_z w64 zeta.re))))
     (to_z w64 (of_z w64 (pos 0 -ℤ to_z w64 (of_z w64 (to_z w64 (2 * 2 ^ bits % 18446744073709551616) *ℤ to_z w64 (of_z w64 zeta.im))))))
-    ≡ conj_multiple (2 * 2 ^ bits) zeta
+    ≡ conj (scale_gaussian (2 * 2 ^ bits) zeta)
 factor_is bits zeta h w = ap₂ gaussian (product_is bits zeta.re h w.re) (negative_is bits zeta.im h w.im)
 
-pub factor_within : (bits : ℕ) (zeta : Gaussian) → bits ≤ 16 → GaussianWithin (2 ^ 17) zeta → GaussianWithin (2 ^ 34) (conj_multiple (2 * 2 ^ bits) zeta)
+pub factor_within : (bits : ℕ) (zeta : Gaussian) → bits ≤ 16 → GaussianWithin (2 ^ 17) zeta → GaussianWithin (2 ^ 34) (conj (scale_gaussian (2 * 2 ^ bits) zeta))
 factor_within bits zeta h w = record { re = product_within bits zeta.re h w.re; im = within-neg (product_within bits zeta.im h w.im) }
 
 -- the divisor

@@ -1,9 +1,9 @@
 -- What local rows contain, in whole numbers.
 use Rattle.exact_math.proofs.Common.{◌≡◌, sym, ap, subst, ◌∙◌, ℕ, arith, ints, pos, ◌<ℤ◌, pow, quotes, ring1, ring3, ℂ, complex_rationals, of_int_ℂ, ◌+ℂ◌, ◌*ℂ◌, rational_ring, sum_below-congruence, sum_below-add, sum_below-mul, sum_below-zero}
 use Prim.Native.Nat.{◌^◌, ◌<◌}
-use Rattle.exact_math.specs.Ends.{BoxEnds, zero_box, add_box}
+use Rattle.exact_math.specs.Ends.{BoxEnds, BoxEndsContain, zero_box, add_box}
 use Rattle.exact_math.specs.Gaussian.{Gaussian}
-use Rattle.exact_math.specs.Ratio.{ComplexRatio, SameComplex, zero_complex, add_complex, over_complex}
+use Rattle.exact_math.specs.Ratio.{ComplexRatio, SameComplex, zero_complex, over_complex, ◌+ᶜ◌}
 use Rattle.exact_math.proofs.BoxEnclosures.{EnclosesBox, EnclosesBox-zero, EnclosesBox-add, enclosed_from_contained, contained_from_enclosed}
 use Rattle.exact_math.proofs.Fractions.{complex_value, ratio-same, Stands, Stands-itself, Stands-zero, Stands-add, Stands-mul, Stands-over, Stands-pow, Stands-sum, same_from_stands}
 use Rattle.exact_math.proofs.Horner.{polynomial}
@@ -18,10 +18,13 @@ use Rattle.row_recursions.proofs.Sides.{sides, reciprocal, reciprocal-is}
 use Rattle.row_recursions.proofs.Values.{local_value_holds}
 
 -- a fraction of the same value
-pub Stands-same : {x y : ComplexRatio} {z : ℂ} → Stands x z → pos 0 <ℤ y.denominator → SameComplex x y → Stands y z
-Stands-same {x} {y} h p e = record {
-  positive = p;
-  is = sym (same_pair rational_ring _ _ (ratio-same x.re x.denominator y.re y.denominator h.positive p e.re) (ratio-same x.im x.denominator y.im y.denominator h.positive p e.im)) ∙ h.is;
+pub Stands-same : {x y : ComplexRatio} {z : ℂ} → Stands x z → SameComplex x y → Stands y z
+Stands-same {x} {y} h e = record {
+  positive = e.right_fraction;
+  is =
+      let real = ratio-same x.re x.denominator y.re y.denominator e.left_fraction e.right_fraction e.re in
+      let imaginary = ratio-same x.im x.denominator y.im y.denominator e.left_fraction e.right_fraction e.im in
+      sym (same_pair rational_ring _ _ real imaginary) ∙ h.is;
 }
 
 -- z/s
@@ -47,7 +50,17 @@ module _ {P s : ℕ} {b : Gaussian} {f : Gaussian → ComplexRatio} {m : ℕ →
   coefficient_enclosed l k = enclosed_from_contained (pos (2 ^ 40)) (m l) (coefficient_stands l) (h.contains l k)
 
   pub field_stands : (t : Gaussian) → Stands (f t) (field_value P s held_coefficient (doubled_offset t b))
-  field_stands t = Stands-same (Stands-field_at P s h.coefficient held_coefficient (doubled_offset t b) s>0 coefficient_stands) (h.fraction t) (h.sums t)
+  field_stands t = Stands-same (Stands-field_at P s h.coefficient held_coefficient (doubled_offset t b) s>0 coefficient_stands) (h.sums t)
+
+-- a row with the same boxes
+pub field_same : (P s : ℕ) (b : Gaussian) (f : Gaussian → ComplexRatio) (m n : ℕ → BoxEnds) → ((l : ℕ) → l < P → n l ≡ m l) → HoldsField P s b f m → HoldsField P s b f n
+field_same P s b f m n e h = record {
+  coefficient = h.coefficient;
+  fractions = h.fractions;
+  contains = λ l k. subst (λ x. BoxEndsContain (pos (2 ^ 40)) x (h.coefficient l)) (sym (e l k)) (h.contains l k);
+  fraction = h.fraction;
+  sums = h.sums;
+}
 
 -- and back: fractions c that stand for the coefficients v
 pub holds_field : (P s : ℕ) (b : Gaussian) (f : Gaussian → ComplexRatio) (m : ℕ → BoxEnds) (c : ℕ → ComplexRatio) (v : ℕ → ℂ) → 0 < s → ((l : ℕ) → Stands (c l) (v l))
@@ -72,11 +85,11 @@ no_field P s b s≥1 = holds_field P s b (λ t. zero_complex) (λ l. zero_box) (
         ∙ ring1 complex_rationals (reciprocal s) (λ r. search quotes depth 9) tt
 
 pub sum_of_fields : SumOfFields
-sum_of_fields P s b f g m n s≥1 h k = holds_field P s b (λ t. add_complex (f t) (g t)) (λ l. add_box (m l) (n l))
-    (λ l. add_complex (h.coefficient l) (k.coefficient l)) (λ l. held_coefficient s≥1 h l +ℂ held_coefficient s≥1 k l) s≥1
+sum_of_fields P s b f g m n s≥1 h k = holds_field P s b (λ t. f t +ᶜ g t) (λ l. add_box (m l) (n l))
+    (λ l. h.coefficient l +ᶜ k.coefficient l) (λ l. held_coefficient s≥1 h l +ℂ held_coefficient s≥1 k l) s≥1
     (λ l. Stands-add (coefficient_stands s≥1 h l) (coefficient_stands s≥1 k l))
     (λ l i. subst (EnclosesBox (add_box (m l) (n l))) (sym (complex_rationals.mul_add _ _ _)) (EnclosesBox-add (coefficient_enclosed s≥1 h l i) (coefficient_enclosed s≥1 k l i)))
-    (λ t. subst (Stands (add_complex (f t) (g t))) (together (sides s (doubled_offset t b))) (Stands-add (field_stands s≥1 h t) (field_stands s≥1 k t)))
+    (λ t. subst (Stands (f t +ᶜ g t)) (together (sides s (doubled_offset t b))) (Stands-add (field_stands s≥1 h t) (field_stands s≥1 k t)))
   where
     together : (x : ℂ) → polynomial complex_rationals P (held_coefficient s≥1 h) x *ℂ reciprocal s +ℂ polynomial complex_rationals P (held_coefficient s≥1 k) x *ℂ reciprocal s
         ≡ polynomial complex_rationals P (λ l. held_coefficient s≥1 h l +ℂ held_coefficient s≥1 k l) x *ℂ reciprocal s

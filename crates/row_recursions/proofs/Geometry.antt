@@ -24,8 +24,10 @@ pairs_of_cells b c grid level apart parents =
     let t = two_or_three b c grid level apart parents in
     let d = centres_differ b c grid level in
     record {
-      kernel = record { apart = t.at_least_two; near = t.at_most_three };
-      beyond = either _ _ t.at_least_two;
+      kernel = record {
+        apart = either _ _ t.at_least_two;
+        near = record { re = within_size _ _ (omega (arith, t.at_most_three)); im = within_size _ _ (omega (arith, t.at_most_three)) };
+      };
       centres = ap₂ gaussian (difference _ _ _ d.0) (difference _ _ _ d.1);
     }
   where

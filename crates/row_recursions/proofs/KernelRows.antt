@@ -1,31 +1,19 @@
 -- What the kernel's entries stand for, and the contribution of a pair of cells, which holds the sums of the exact kernel times the moments.
-use Rattle.exact_math.proofs.Common.{sym, ap, ap₂, subst, ◌∙◌, ℕ, zero, suc, arith, ints, pos, ◌<ℤ◌, quotes, ring1, ring2, rational_ring, of_int, ◌*ℚ◌, inverse, sum_below, sum_below-congruence, sum_below-mul, ℂ, complex_rationals, ◌*ℂ◌, inverse_ℂ, parts-inverse}
+use Rattle.exact_math.proofs.Common.{subst, ◌∙◌, ℕ, zero, suc, arith, ints, pos, ◌<ℤ◌, quotes, ring1, ring2, sum_below, sum_below-congruence, sum_below-mul, ℂ, complex_rationals, ◌*ℂ◌, inverse_ℂ}
 use Prim.Native.Nat.{◌+◌, ◌^◌, ◌<◌}
 use Rattle.exact_math.specs.Binomials.{choose}
 use Rattle.exact_math.specs.Ends.{BoxEnds, times_box}
 use Rattle.exact_math.specs.Gaussian.{Gaussian, norm_gaussian}
 use Rattle.exact_math.specs.Ratio.{ComplexRatio}
 use Rattle.exact_math.proofs.BoxEnclosures.{EnclosesBox, EnclosesBox-times, EnclosesBox-quot, enclosed_from_contained}
-use Rattle.exact_math.proofs.Enclosures.{of_int-neg}
+use Rattle.exact_math.proofs.DirectTerms.{Stands-reciprocal}
 use Rattle.exact_math.proofs.Fractions.{Stands, Stands-neg, Stands-mul, Stands-count, Stands-pow}
-use Rattle.exact_math.proofs.Gaussians.{value, value-norm}
-use Rattle.exact_math.proofs.QuadraticExtension.{same_pair}
-use Rattle.truncation.specs.CutTerms.{reciprocal}
+use Rattle.exact_math.proofs.Gaussians.{value}
 use Rattle.kernel_table.specs.Kernel.{kernel_entry, kernel_fraction, alternate_complex}
 use Rattle.kernel_table.proofs.Contained.{kernel_entry_contains}
 use Rattle.row_recursions.specs.Rows.{sum_boxes, converted}
 use Rattle.row_recursions.proofs.BoxSums.{units, EnclosesBox-sum}
 use Rattle.row_recursions.proofs.ExactKernel.{sign, exact_kernel}
-
--- 1/g
-pub Stands-reciprocal : (g : Gaussian) → pos 0 <ℤ norm_gaussian g → Stands (reciprocal g) (inverse_ℂ (value g))
-Stands-reciprocal g h = record {
-  positive = h;
-  is = same_pair rational_ring _ _
-      (ap (λ n. of_int g.re *ℚ inverse n) (value-norm g))
-      (ap₂ (λ a n. a *ℚ inverse n) (of_int-neg g.im) (value-norm g))
-      ∙ sym (parts-inverse (value g));
-}
 
 Stands-alternate : (l : ℕ) {x : ComplexRatio} {z : ℂ} → Stands x z → Stands (alternate_complex l x) (sign complex_rationals l *ℂ z)
 Stands-alternate zero {x} {z} h = subst (Stands x) (ring1 complex_rationals z (λ z. search quotes depth 9) tt) h

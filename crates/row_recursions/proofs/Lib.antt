@@ -28,4 +28,3 @@ pub mod Turns
 pub mod UpRows
 pub mod Values
 pub mod Worked
-pub mod ZeroBoxes

@@ -5,7 +5,7 @@ use lib.ListN.{get_or}
 use Rattle.std.specs.Prelude.{Bool, true, false, cond}
 use Prim.Native.Nat.{◌*◌, ◌^◌, ◌<◌}
 use Rattle.exact_math.specs.Ends.{BoxEnds, BoxEndsContain, add_box}
-use Rattle.exact_math.specs.Gaussian.{Gaussian, add_gaussian, norm_gaussian}
+use Rattle.exact_math.specs.Gaussian.{Gaussian, add_gaussian, norm_gaussian, scale_gaussian, zero_gaussian}
 use Rattle.exact_math.specs.Ratio.{whole_complex, over_complex}
 use Rattle.exact_math.proofs.BoxEnclosures.{EnclosesBox, EnclosesBox-add, enclosed_from_contained, contained_from_enclosed}
 use Rattle.exact_math.proofs.EndsBridges.{BoxEndsContain-zero}
@@ -15,10 +15,10 @@ use Rattle.exact_math.proofs.Horner.{polynomial}
 use Rattle.exact_math.proofs.QuadraticExtension.{Pair, pow_slope}
 use Rattle.truncation.specs.CutTerms.{multipole_pole_cut, multipole_dipole_cut}
 use Rattle.truncation.specs.Entries.{Source, multipole_cut}
-use Rattle.truncation.specs.Places.{doubled_offset, times_side}
+use Rattle.truncation.specs.Places.{doubled_offset}
 use Rattle.truncation.proofs.CutValues.{halved, Stands-multipole_pole_cut, Stands-multipole_dipole_cut}
 use Rattle.row_recursions.specs.Laws.{NoMoments, SourceMoments, SumOfMoments, MomentsUp, MultipoleValues}
-use Rattle.row_recursions.specs.Moments.{nothing, pole_of, dipole_of, moment_of, moment, HoldsMoments}
+use Rattle.row_recursions.specs.Moments.{pole_of, dipole_of, moment_of, moment, HoldsMoments}
 use Rattle.row_recursions.specs.Rows.{source_moment, shifted_up, multipole_value}
 use Rattle.row_recursions.proofs.BoxSums.{units}
 use Rattle.row_recursions.proofs.CutSums as Cut
@@ -29,7 +29,7 @@ use Rattle.row_recursions.proofs.Sides.{dual_complex, place, sides, reciprocal, 
 use Rattle.row_recursions.proofs.Values.{multipole_value_holds}
 
 -- nothing is 0
-pub value-nothing : value nothing ≡ of_int_ℂ (pos 0)
+pub value-nothing : value zero_gaussian ≡ of_int_ℂ (pos 0)
 value-nothing = sym (parts-int (pos 0))
 
 -- the doubled offset of a source
@@ -98,7 +98,7 @@ sum_of_moments P s c xs ys m n s≥1 h g = moments_contained P s c (xs ++ ys) (�
     subst (EnclosesBox (add_box (m k) (n k))) (sym (sum_list-append complex_rationals _ xs ys)) (EnclosesBox-add (moments_enclosed P s c xs m s≥1 h k l) (moments_enclosed P s c ys n s≥1 g k l)))
 
 -- the offset from the parent's centre
-up_offset : (s : ℕ) (q c : Gaussian) (x : Source) → parent_offset s q (offset (add_gaussian c (times_side s q)) x) ≡ offset c x
+up_offset : (s : ℕ) (q c : Gaussian) (x : Source) → parent_offset s q (offset (add_gaussian c (scale_gaussian s q)) x) ≡ offset c x
 up_offset s q c x = λ i. record { re = cancel (x.place.re +ℤ x.place.re) c.re (pos s *ℤ q.re) i; im = cancel (x.place.im +ℤ x.place.im) c.im (pos s *ℤ q.im) i }
   where
     cancel : (z c p : ℤ) → z -ℤ (c +ℤ p) +ℤ p ≡ z -ℤ c
@@ -107,7 +107,7 @@ up_offset s q c x = λ i. record { re = cancel (x.place.re +ℤ x.place.re) c.re
 pub moments_up : MomentsUp
 moments_up P s q c xs m s≥1 h = moments_contained P (2 * s) c xs (shifted_up m q) (omega arith) (λ k l.
     subst (EnclosesBox (shifted_up m q k)) (ap (λ f. (held xs).apply (pow (function_ring Source dual_complex) f k)) (λ i x. place (2 * s) (up_offset s q c x i)))
-    (parent_moments_held pole_of dipole_of xs s q (offset (add_gaussian c (times_side s q))) s≥1 P m (moments_enclosed P s (add_gaussian c (times_side s q)) xs m s≥1 h) k l))
+    (parent_moments_held pole_of dipole_of xs s q (offset (add_gaussian c (scale_gaussian s q))) s≥1 P m (moments_enclosed P s (add_gaussian c (scale_gaussian s q)) xs m s≥1 h) k l))
 
 -- ---- values
 -- the cut term of a source at the offset o, with w the inverse of the target's distance from the centre
@@ -130,7 +130,7 @@ Stands-cut P c t x h = by_kind x.dipole x.strength
     left b p q = ring3 complex_rationals b p q (λ b p q. search quotes depth 9) tt
 
     by_kind : (d : Bool) (g : Gaussian) → Stands (cond d (multipole_dipole_cut P (doubled_offset t c) (doubled_offset x.place c) g) (multipole_pole_cut P (doubled_offset t c) (doubled_offset x.place c) g))
-        (value (cond d nothing g) *ℂ poles +ℂ value (cond d g nothing) *ℂ dipoles)
+        (value (cond d zero_gaussian g) *ℂ poles +ℂ value (cond d g zero_gaussian) *ℂ dipoles)
     by_kind true g = subst (Stands _) (left (value g) poles dipoles ∙ ap (λ a. a *ℂ poles +ℂ value g *ℂ dipoles) (sym value-nothing))
         (Stands-multipole_dipole_cut P (doubled_offset t c) (doubled_offset x.place c) (halved_positive (doubled_offset t c) h) g)
     by_kind false g = subst (Stands _) (right (value g) poles dipoles ∙ ap (λ b. value g *ℂ poles +ℂ b *ℂ dipoles) (sym value-nothing))

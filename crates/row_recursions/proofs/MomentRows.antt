@@ -39,7 +39,7 @@ module _ (s : ℕ) (a b o : Gaussian) (s>0 : 0 < s) where
   unfolding source_moment
   source_moment_holds zero = subst (EnclosesBox (pole_moment s a o zero))
       (ring4 complex_rationals (units *ℂ value a) (units *ℂ value b) (reciprocal s) x (λ a b r x. search quotes depth 12) tt) (pole_holds zero)
-  source_moment_holds (suc k) = subst (EnclosesBox (add_box (pole_moment s a o (suc k)) (scale_box (pos (suc k)) (dipole_moment s b o k))))
+  source_moment_holds (suc k) = subst (EnclosesBox (add_box (pole_moment s a o (suc k)) (scale_box (dipole_moment s b o k) (pos (suc k)))))
       (ring6 complex_rationals (units *ℂ value a) (units *ℂ value b) (reciprocal s) x (pow complex_rationals x k) (of_int_ℂ (pos (suc k))) (λ a b r x p n. search quotes depth 12) tt)
       (EnclosesBox-add (pole_holds (suc k)) (EnclosesBox-scale (pos (suc k)) (dipole_holds k)))
 

@@ -9,7 +9,7 @@ use Rattle.exact_math.specs.Ratio.{ComplexRatio}
 use Rattle.exact_math.proofs.Fractions.{Stands, same_from_stands}
 use Rattle.exact_math.proofs.Gaussians.{value}
 use Rattle.exact_math.proofs.Integers.{*-positive}
-use Rattle.kernel_table.proofs.Widths.{square_abs}
+use Rattle.exact_math.proofs.GaussianSizes.{square_abs}
 use Rattle.truncation.specs.Places.{doubled_offset}
 use Rattle.row_recursions.specs.Fields.{HoldsField}
 use Rattle.row_recursions.specs.Laws.{OneField}

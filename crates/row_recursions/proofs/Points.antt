@@ -1,31 +1,33 @@
 -- Points in cells, and their strengths.
-use Rattle.std.proofs.Common.{◌≡◌, false, refl, sym, ℕ, zero, suc, ◌+◌, ◌*◌, ◌^◌, ◌≤◌, arith, ℤ, pos, negsuc, neg_ℤ, ◌+ℤ◌, ◌-ℤ◌, ◌≤ℤ◌, ◌<ℤ◌, SFits, w64, to_z, of_z, to_z-of_z, lit<}
+use Rattle.std.proofs.Common.{◌≡◌, refl, ℕ, zero, suc, ◌+◌, ◌*◌, ◌^◌, ◌≤◌, arith, ℤ, pos, neg_ℤ, ◌+ℤ◌, ◌-ℤ◌, ◌≤ℤ◌, ◌<ℤ◌, SFits, w64, to_z, of_z, to_z-of_z, lit<, negsuc, false, sym}
 use Rattle.std.proofs.lemmas.Int.{ints}
 use Rattle.std.proofs.lemmas.Bool.{false≢true}
 use Rattle.std.proofs.Math.Nat.{mul-le-mul_right}
 use Rattle.std.specs.Prelude.{unsigned_abs, [], ◌∷◌}
 use Rattle.exact_math.specs.Ends.{BoxEnds, BoxEndsWithin}
 use Rattle.exact_math.specs.Gaussian.{Gaussian, gaussian, norm_gaussian}
-use Rattle.exact_math.specs.Within.{Within}
+use Rattle.exact_math.specs.Within.{Within, GaussianWithin}
 use Rattle.points.specs.declared.Point.{Point}
 use Rattle.points.specs.declared.Strength.{Strength}
 use Rattle.points.specs.declared.Strength.TheVariants.{Pole, Dipole, Nothing}
 use Rattle.points.specs.Limits.{most_strength, InGrid, InRange, weight64}
 use Rattle.points.specs.Points.{place, strength, pole, dipole, is_source}
-use Rattle.points.specs.Strength.{pole_part, dipole_part, acts, StrengthWithin}
-use Rattle.exact_math.specs.Sizes.{abs_gaussian}
+use Rattle.points.specs.Strength.{pole_part, dipole_part, StrengthWithin, acts}
+use Rattle.exact_math.specs.Sizes.{abs_gaussian, weight_at}
 use Rattle.cell_name.specs.Cell.{square}
 use Rattle.cell_name.specs.Square.{side, corner_x, corner_y, Holds, IsInGrid}
 use Rattle.cell_name.specs.declared.cell.Cell.{Cell}
 use Rattle.cell_name.proofs.Cells.{inside_from_name}
-use Rattle.truncation.specs.Entries.{local_cut, weight}
-use Rattle.truncation.specs.Places.{GaussianWithin, doubled_offset}
+use Rattle.exact_math.proofs.GaussianSizes.{weight_at-le}
+use Rattle.exact_math.proofs.WholeSizes.{unsigned_abs-within}
+use Rattle.truncation.specs.Entries.{weight, local_cut}
+use Rattle.truncation.specs.Places.{doubled_offset}
 use Rattle.complex_box.proofs.Sizes.{box_wider}
 use Rattle.row_recursions.specs.Cells.{side_of, centre_of, offset_from, moments_of}
-use Rattle.row_recursions.specs.Fields.{HoldsField}
-use Rattle.row_recursions.specs.Moments.{HoldsMoments}
+use Rattle.row_recursions.specs.Moments.{pole_of, dipole_of, HoldsMoments}
 use Rattle.row_recursions.specs.Rows.{units_box, source_moment, far_source}
 use Rattle.row_recursions.specs.Sources.{source_at, source_of}
+use Rattle.row_recursions.specs.Fields.{HoldsField}
 use Rattle.row_recursions.proofs.FarLaws.{field_of_source}
 use Rattle.row_recursions.proofs.MomentLaws.{source_moments}
 use Rattle.row_recursions.proofs.RowSizes.{source_moment_within}
@@ -42,6 +44,18 @@ pub strength_field : (P s : ℕ) (b z : Gaussian) (a : Strength) → 1 ≤ s →
 strength_field P s b z (Pole re im) h apart = field_of_source P s b (source_at z (Pole re im)) h apart
 strength_field P s b z (Dipole re im) h apart = field_of_source P s b (source_at z (Dipole re im)) h apart
 strength_field P s b z Nothing h apart = field_of_source P s b (source_at z Nothing) h apart
+
+-- a point weighs what its source does, and up to order 32 no more than at 32
+pub weight-source_of : (P : ℕ) (p : Point) → weight P (source_of p) ≡ weight_at P (pole p.kind) (dipole p.kind)
+weight-source_of P p = by (place p) (strength p.kind)
+  where
+    by : (z : Gaussian) (a : Strength) → weight P (source_at z a) ≡ weight_at P (pole_part a) (dipole_part a)
+    by z (Pole re im) = refl
+    by z (Dipole re im) = refl
+    by z Nothing = refl
+
+pub weight-le-weight64 : (P : ℕ) (p : Point) → P ≤ 32 → weight P (source_of p) ≤ weight64 p
+weight-le-weight64 P p few = let e = weight-source_of P p in let h = weight_at-le P 32 (pole p.kind) (dipole p.kind) few in omega (arith, e, h)
 
 -- the grid, as cells see it
 pub grid_of : (x y : ℤ) → InGrid x y → IsInGrid 16 x y
@@ -75,14 +89,10 @@ side_positive c = power_positive _
     power_positive (suc n) = let h = power_positive n in omega arith
 
 -- ---- weights
-part_small : (n : ℕ) (z : ℤ) → Within n z → unsigned_abs z ≤ n
-part_small n (pos a) h = let l = h.below in omega (arith, ints)
-part_small n (negsuc a) h = let l = h.above in omega (arith, ints)
-
-weight_at : (a : Strength) → StrengthWithin most_strength a → abs_gaussian (pole_part a) + 64 * abs_gaussian (dipole_part a) ≤ 2 ^ 27
-weight_at (Pole re im) h = let a = part_small _ re h.0 in let b = part_small _ im h.1 in omega arith
-weight_at (Dipole re im) h = let a = part_small _ re h.0 in let b = part_small _ im h.1 in omega arith
-weight_at Nothing h = omega arith
+weight_bounded_at : (a : Strength) → StrengthWithin most_strength a → abs_gaussian (pole_part a) + 64 * abs_gaussian (dipole_part a) ≤ 2 ^ 27
+weight_bounded_at (Pole re im) h = let a = unsigned_abs-within _ re h.0 in let b = unsigned_abs-within _ im h.1 in omega arith
+weight_bounded_at (Dipole re im) h = let a = unsigned_abs-within _ re h.0 in let b = unsigned_abs-within _ im h.1 in omega arith
+weight_bounded_at Nothing h = omega arith
 
 -- the box of a strength whose components are in their limits, as calls have it
 pub units_fit : {x y : ℤ} {b : BoxEnds} → Within most_strength x → Within most_strength y → b ≡ units_box (gaussian (to_z w64 (of_z w64 x)) (to_z w64 (of_z w64 y))) → b ≡ units_box (gaussian x y)
@@ -93,28 +103,16 @@ units_fit {x} {y} v w e =
 
 -- a point in range is at most 2^27 in weight
 pub weight_bounded : (p : Point) → InRange p → weight64 p ≤ 2 ^ 27
-weight_bounded p h = weight_at (strength p.kind) h.strength
+weight_bounded p h = weight_bounded_at (strength p.kind) h.strength
 
--- a point that an expansion of order P cuts off weighs no more than the point, since 2 P is at most 64
-pub source_weight-light : (P : ℕ) (p : Point) → P ≤ 32 → weight P (source_of p) ≤ weight64 p
-source_weight-light P p few = by (place p) (strength p.kind)
-  where
-    more : (b : ℕ) → 2 * P * b ≤ 64 * b
-    more b = mul-le-mul_right b (omega arith)
-
-    by : (z : Gaussian) (a : Strength) → weight P (source_at z a) ≤ abs_gaussian (pole_part a) + 64 * abs_gaussian (dipole_part a)
-    by z (Pole re im) = omega arith
-    by z (Dipole re im) = let h = more (abs_gaussian (gaussian re im)) in omega (arith, h)
-    by z Nothing = omega arith
-
--- and what adds nothing weighs nothing
+-- what adds nothing weighs nothing
 pub source_weight-nothing : (P : ℕ) (p : Point) → is_source p.kind ≡ false → weight P (source_of p) ≡ 0
 source_weight-nothing P p = by (place p) (strength p.kind)
   where
     by : (z : Gaussian) (a : Strength) → acts a ≡ false → weight P (source_at z a) ≡ 0
     by z (Pole re im) e = absurd (false≢true (sym e))
     by z (Dipole re im) e = absurd (false≢true (sym e))
-    by z Nothing e = refl
+    by z Nothing e = omega arith
 
 -- each moment of a point in the cell is at most 2^40 times its weight
 pub moments_within : (c : Cell) (p : Point) (k : ℕ) → k ≤ 64 → Holds (square c) p.x p.y → BoxEndsWithin (2 ^ 40 * weight64 p) (moments_of c p k)

@@ -1,32 +1,25 @@
 -- How large the ends of rows grow: a factor of at most 1 enlarges no end, and a quotient by d of what is at most d n is at most n.
-use Rattle.std.proofs.Common.{◌≡◌, refl, sym, ap, subst, ℕ, zero, suc, ◌+◌, ◌-◌, ◌*◌, ◌^◌, ◌≤◌, ◌<◌, arith, ℤ, pos, negsuc, neg_ℤ, ◌+ℤ◌, ◌-ℤ◌, ◌*ℤ◌, ◌≤ℤ◌}
+use Rattle.std.proofs.Common.{◌≡◌, sym, ap, subst, ℕ, zero, suc, ◌+◌, ◌-◌, ◌*◌, ◌^◌, ◌≤◌, ◌<◌, arith, ℤ, pos, negsuc, neg_ℤ, ◌+ℤ◌, ◌-ℤ◌, ◌*ℤ◌, ◌≤ℤ◌}
 use mathlib.Core.Logic.{⊎_elim}
 use Rattle.std.proofs.Math.Nat.{mul-le-mul_left, mul-le-mul_right}
 use Rattle.std.proofs.Math.Pow.{pow_mono}
 use Rattle.std.proofs.lemmas.Int.{ints}
 use Rattle.std.specs.Prelude.{unsigned_abs}
 use Rattle.exact_math.specs.Ends.{Ends, BoxEnds, EndsWithin, BoxEndsWithin, zero_box, add_box, scale_box, gscale_box, quot_ends, quot_box, gquot_box, scale_ends}
-use Rattle.exact_math.specs.Gaussian.{Gaussian, norm_gaussian}
-use Rattle.exact_math.specs.Orders.{IsOrder}
+use Rattle.exact_math.specs.Gaussian.{Gaussian, norm_gaussian, conj, scale_gaussian}
 use Rattle.exact_math.specs.Sizes.{abs_gaussian}
-use Rattle.exact_math.specs.Within.{Within}
+use Rattle.exact_math.specs.Within.{Within, GaussianWithin, GaussianBeyond}
 use Rattle.exact_math.proofs.Ring.{int_ring}
 use Rattle.exact_math.proofs.RingTactic.{int_quotes, ring2}
-use Rattle.exact_math.proofs.WholeSizes.{within-mul, within-neg, within-floor, within-ceil}
+use Rattle.exact_math.proofs.GaussianSizes.{norm_count, norm_count-is}
+use Rattle.exact_math.proofs.Integers.{square_nonneg}
+use Rattle.exact_math.proofs.WholeSizes.{within-mul, within-neg, within-floor, within-ceil, within-size}
 use Rattle.fixed_interval.proofs.Sizes.{ends_wider, add_within, sub_within, scale_within}
-use Rattle.complex_box.proofs.Sizes.{box_wider, add_box_within, neg_box_within, scale_box_within}
-use Rattle.truncation.specs.Places.{GaussianWithin, GaussianBeyond}
-use Rattle.kernel_table.specs.Kernel.{conj_multiple}
+use Rattle.complex_box.proofs.Sizes.{box_wider, add_box_within, neg_box_within, scale_box_within, zero_within}
 use Rattle.row_recursions.specs.Rows.{RowsAdd, units_box, units_over, ratio_box, pole_moment, dipole_moment, source_moment, up_round, shifted_up, far_pole, far_dipole, far_source, down_round, shifted_down, local_round, local_value, multipole_round, multipole_value}
 use Rattle.row_recursions.specs.Sizes.{RowWithin, MomentSizes, UpSizes, FarSizes, DownSizes, LocalValueSizes, MultipoleValueSizes}
 
 -- ---- boxes
-pub zero_within : (n : ℕ) → BoxEndsWithin n zero_box
-zero_within n = record { re = record { lo = none; hi = none }; im = record { lo = none; hi = none } }
-  where
-    none : Within n (pos 0)
-    none = record { above = omega (arith, ints); below = omega (arith, ints) }
-
 -- a quotient of what is at most d n
 ends_quot : (n d : ℕ) (i : Ends) → 1 ≤ d → EndsWithin (n * d) i → EndsWithin n (quot_ends i (pos d))
 ends_quot n d i h w = record {
@@ -46,8 +39,8 @@ box_quot_within n d b h w = record { re = ends_quot n d b.re h w.re; im = ends_q
 -- a product with a Gaussian integer whose parts are at most x and y in size
 pub box_gscale_within : (n x y : ℕ) (b : BoxEnds) (g : Gaussian) → Within x g.re → Within y g.im → BoxEndsWithin n b → BoxEndsWithin (n * x + n * y) (gscale_box b g)
 box_gscale_within n x y b g v w h = record {
-  re = sub_within (n * x) (n * y) (scale_ends g.re b.re) (scale_ends g.im b.im) (scale_within x n g.re b.re v h.re) (scale_within y n g.im b.im w h.im);
-  im = ends_wider (n * y + n * x) (n * x + n * y) _ (omega arith) (add_within (n * y) (n * x) (scale_ends g.im b.re) (scale_ends g.re b.im) (scale_within y n g.im b.re w h.re) (scale_within x n g.re b.im v h.im));
+  re = sub_within (n * x) (n * y) (scale_ends b.re g.re) (scale_ends b.im g.im) (scale_within x n g.re b.re v h.re) (scale_within y n g.im b.im w h.im);
+  im = ends_wider (n * y + n * x) (n * x + n * y) _ (omega arith) (add_within (n * y) (n * x) (scale_ends b.re g.im) (scale_ends b.im g.re) (scale_within y n g.im b.re w h.re) (scale_within x n g.re b.im v h.im));
 }
 
 -- a factor g/d of at most 1 enlarges no end
@@ -57,13 +50,9 @@ box_gquot_within n x y d b g p l v w h = box_quot_within n d (gscale_box b g) p 
     spread : (n x y d : ℕ) → x + y ≤ d → n * x + n * y ≤ n * d
     spread n x y d h = let m = mul-le-mul_left n h in omega arith
 
-size_within : (z : ℤ) → Within (unsigned_abs z) z
-size_within (pos n) = record { above = omega (arith, ints); below = omega (arith, ints) }
-size_within (negsuc n) = record { above = omega (arith, ints); below = omega (arith, ints) }
-
 -- 2^40 a
 pub units_within : (a : Gaussian) → BoxEndsWithin (2 ^ 40 * abs_gaussian a) (units_box a)
-units_within a = record { re = point (unsigned_abs a.re) (omega arith) (size_within a.re); im = point (unsigned_abs a.im) (omega arith) (size_within a.im) }
+units_within a = record { re = point (unsigned_abs a.re) (omega arith) (within-size a.re); im = point (unsigned_abs a.im) (omega arith) (within-size a.im) }
   where
     forty : Within (2 ^ 40) (pos (2 ^ 40))
     forty = record { above = omega (arith, ints); below = omega (arith, ints) }
@@ -102,7 +91,7 @@ pub source_moment_within : MomentSizes
 unfolding source_moment
 source_moment_within s a b o zero h near = box_wider (2 ^ 40 * abs_gaussian a) (2 ^ 40 * (abs_gaussian a + 0 * abs_gaussian b)) (pole_moment s a o zero) (omega arith) (pole_moment_within s o h near a zero)
 source_moment_within s a b o (suc k) h near = subst (λ n. BoxEndsWithin n (source_moment s a b o (suc k))) (gathered (2 ^ 40) (abs_gaussian a) (suc k) (abs_gaussian b))
-    (add_box_within (2 ^ 40 * abs_gaussian a) (2 ^ 40 * abs_gaussian b * suc k) (pole_moment s a o (suc k)) (scale_box (pos (suc k)) (dipole_moment s b o k)) (pole_moment_within s o h near a (suc k))
+    (add_box_within (2 ^ 40 * abs_gaussian a) (2 ^ 40 * abs_gaussian b * suc k) (pole_moment s a o (suc k)) (scale_box (dipole_moment s b o k) (pos (suc k))) (pole_moment_within s o h near a (suc k))
     (scale_box_within (suc k) (2 ^ 40 * abs_gaussian b) (pos (suc k)) (dipole_moment s b o k) (number_within (suc k)) (dipole_moment_within s o h near b k)))
 
 -- ---- shifts
@@ -111,7 +100,7 @@ module _ (P n : ℕ) (q : Gaussian) (m : ℕ → BoxEnds) (unit : GaussianWithin
   unfolding up_round
   up_round_within zero i h = bounded i (omega arith)
   up_round_within (suc r) i h = box_quot_within n 4 _ (omega arith) (box_wider (n * 2 + (n * 1 + n * 1)) (n * 4) _ (omega arith)
-      (add_box_within (n * 2) (n * 1 + n * 1) (scale_box (pos 2) (up_round m q r (suc i))) (gscale_box (up_round m q r i) q)
+      (add_box_within (n * 2) (n * 1 + n * 1) (scale_box (up_round m q r (suc i)) (pos 2)) (gscale_box (up_round m q r i) q)
       (scale_box_within 2 n (pos 2) (up_round m q r (suc i)) (number_within 2) (up_round_within r (suc i) (omega arith)))
       (box_gscale_within n 1 1 (up_round m q r i) q unit.re unit.im (up_round_within r i (omega arith)))))
 
@@ -122,7 +111,7 @@ module _ (P n : ℕ) (q : Gaussian) (m : ℕ → BoxEnds) (unit : GaussianWithin
       (box_quot_within n 4 (gscale_box (down_round P m q r zero) q) (omega arith)
       (box_wider (2 * n * 1 + 2 * n * 1) (n * 4) _ (omega arith) (box_gscale_within (2 * n) 1 1 (down_round P m q r zero) q unit.re unit.im (down_round_within r zero (omega arith))))))
   down_round_within (suc r) (suc k) h = box_quot_within (2 * n) 4 _ (omega arith) (box_wider (2 * n * 1 + 2 * n * 1 + 2 * n * 2) (2 * n * 4) _ (omega arith)
-      (add_box_within (2 * n * 1 + 2 * n * 1) (2 * n * 2) (gscale_box (down_round P m q r (suc k)) q) (scale_box (pos 2) (down_round P m q r k))
+      (add_box_within (2 * n * 1 + 2 * n * 1) (2 * n * 2) (gscale_box (down_round P m q r (suc k)) q) (scale_box (down_round P m q r k) (pos 2))
       (box_gscale_within (2 * n) 1 1 (down_round P m q r (suc k)) q unit.re unit.im (down_round_within r (suc k) (omega arith)))
       (scale_box_within 2 (2 * n) (pos 2) (down_round P m q r k) (number_within 2) (down_round_within r k (omega arith)))))
 
@@ -135,20 +124,8 @@ unfolding shifted_down
 shifted_down_within P n q m unit bounded k h = box_quot_within n 2 (down_round P m q P k) (omega arith) (box_wider (2 * n) (n * 2) _ (omega arith) (down_round_within P n q m unit bounded P k (omega arith)))
 
 -- ---- a factor 2 s/g, where a part of g is at least 3 s in size
-abbrev norm_count : Gaussian → ℕ
-norm_count g = unsigned_abs g.re * unsigned_abs g.re + unsigned_abs g.im * unsigned_abs g.im
-
-square_size : (z : ℤ) → z *ℤ z ≡ pos (unsigned_abs z * unsigned_abs z)
-square_size (pos n) = refl
-square_size (negsuc n) = refl
-
-norm_counts : (g : Gaussian) → norm_gaussian g ≡ pos (norm_count g)
-norm_counts g = let e = square_size g.re in let f = square_size g.im in omega (arith, ints)
-
-square_nonneg : (a : ℤ) → pos 0 ≤ℤ (a *ℤ a)
-square_nonneg a = let e = square_size a in omega (arith, ints)
-
-two_products : (s r : ℕ) → 2 * (s * r) ≤ s * s + r * r
+-- twice a product is at most the sum of the squares
+pub two_products : (s r : ℕ) → 2 * (s * r) ≤ s * s + r * r
 two_products s r = let h = subst (λ z. pos 0 ≤ℤ z) (expand (pos r) (pos s)) (square_nonneg (pos r -ℤ pos s)) in omega (arith, ints)
   where
     expand : (x y : ℤ) → (x -ℤ y) *ℤ (x -ℤ y) ≡ x *ℤ x +ℤ y *ℤ y -ℤ pos 2 *ℤ (y *ℤ x)
@@ -175,13 +152,13 @@ far_positive s g h far = ⊎_elim
     one s p h l = let q : 1 ≤ p = omega arith in let m = mul-le-mul_left p q in omega arith
 
 pub far_norm_positive : (s : ℕ) (g : Gaussian) → 1 ≤ s → GaussianBeyond (3 * s) g → pos 1 ≤ℤ norm_gaussian g
-far_norm_positive s g h far = let e = norm_counts g in let p = far_positive s g h far in omega (arith, ints)
+far_norm_positive s g h far = let e = norm_count-is g in let p = far_positive s g h far in omega (arith, ints)
 
 pub ratio_within : (n s : ℕ) (g : Gaussian) (b : BoxEnds) → 1 ≤ s → GaussianBeyond (3 * s) g → BoxEndsWithin n b → BoxEndsWithin n (ratio_box (2 * s) g b)
-ratio_within n s g b h far w = subst (λ d. BoxEndsWithin n (gquot_box b (conj_multiple (2 * s) g) d)) (sym (norm_counts g))
-    (box_gquot_within n (2 * s * unsigned_abs g.re) (2 * s * unsigned_abs g.im) (norm_count g) b (conj_multiple (2 * s) g) (far_positive s g h far) (far_sum s g far)
-    (within-mul (2 * s) (unsigned_abs g.re) (pos (2 * s)) g.re (number_within (2 * s)) (size_within g.re))
-    (within-neg (within-mul (2 * s) (unsigned_abs g.im) (pos (2 * s)) g.im (number_within (2 * s)) (size_within g.im))) w)
+ratio_within n s g b h far w = subst (λ d. BoxEndsWithin n (gquot_box b (conj (scale_gaussian (2 * s) g)) d)) (norm_count-is g)
+    (box_gquot_within n (2 * s * unsigned_abs g.re) (2 * s * unsigned_abs g.im) (norm_count g) b (conj (scale_gaussian (2 * s) g)) (far_positive s g h far) (far_sum s g far)
+    (within-mul (2 * s) (unsigned_abs g.re) (pos (2 * s)) g.re (number_within (2 * s)) (within-size g.re))
+    (within-neg (within-mul (2 * s) (unsigned_abs g.im) (pos (2 * s)) g.im (number_within (2 * s)) (within-size g.im))) w)
 
 module _ (s : ℕ) (zeta : Gaussian) (s≥1 : 1 ≤ s) (far : GaussianBeyond (3 * s) zeta) where
   pub far_pole_within : (a : Gaussian) (l : ℕ) → BoxEndsWithin (2 ^ 40 * abs_gaussian a) (far_pole s a zeta l)
@@ -245,13 +222,6 @@ taken_within P m n old part new adds v w k h =
       re = record { lo = left_within m n (ap (λ (x : BoxEnds). x.re.lo) e) a.re.lo b.re.lo; hi = left_within m n (ap (λ (x : BoxEnds). x.re.hi) e) a.re.hi b.re.hi };
       im = record { lo = left_within m n (ap (λ (x : BoxEnds). x.im.lo) e) a.im.lo b.im.lo; hi = left_within m n (ap (λ (x : BoxEnds). x.im.hi) e) a.im.hi b.im.hi };
     }
-
--- the orders are at least 2, and at most 24
-pub order_least : (P : ℕ) → IsOrder P → 2 ≤ P
-order_least P h = ⊎_elim (λ e. omega arith) (λ l. ⊎_elim (λ e. omega arith) (λ k. ⊎_elim (λ e. omega arith) (λ e. omega arith) k) l) h
-
-pub order_small : (P : ℕ) → IsOrder P → P ≤ 24
-order_small P h = ⊎_elim (λ e. omega arith) (λ l. ⊎_elim (λ e. omega arith) (λ k. ⊎_elim (λ e. omega arith) (λ e. omega arith) k) l) h
 
 -- ---- powers of two
 pub power_positive : (n : ℕ) → 1 ≤ 2 ^ n

@@ -1,9 +1,14 @@
 -- Rows while they are written: one box after another.
-use Rattle.std.proofs.Common.{◌≡◌, ◌≢◌, ℕ, ◌<◌, ◌≤◌, ◌+◌, List, length, sym, ap, ◌∙◌, arith, slice_set, slice_index_or, get_or-set_same, get_or-set_other, below_more, ◌+ℤ◌, ◌-ℤ◌, ℤ}
+use Rattle.std.proofs.Common.{◌≡◌, ◌≢◌, ℕ, ◌<◌, ◌≤◌, ◌+◌, List, length, sym, subst, ap, ◌∙◌, arith, slice_set, slice_index_or, slice_get, Some, get_or-set_same, get_or-set_other, below_more, ◌+ℤ◌, ◌-ℤ◌, ℤ}
 use Rattle.std.proofs.lemmas.Int.{ints}
 use Rattle.std.proofs.lemmas.List.{get_or_read}
-use Rattle.exact_math.specs.Ends.{Ends, BoxEnds, zero_box, add_box}
+use Rattle.std.proofs.lemmas.Option.{get_or_from_slice_get}
+use Rattle.exact_math.specs.Ends.{Ends, BoxEnds, zero_box, add_ends, add_box, take_ends, take_box}
+use Rattle.fixed_interval.specs.Interval.{ends_of, AreEnds}
 use Rattle.fixed_interval.specs.declared.Interval.{Interval}
+use Rattle.fixed_interval.proofs.Ends.{ends-same, lower-same, upper-same}
+use Rattle.fixed_interval.proofs.Sizes.{always_within}
+use Rattle.complex_box.proofs.Ends.{parts-same}
 use Rattle.complex_box.specs.Box.{box_ends, TakeFits}
 use Rattle.complex_box.specs.Rows.{zero_cbox}
 use Rattle.complex_box.specs.declared.CBox.{CBox}
@@ -34,59 +39,39 @@ written-next old new k cells v h e w = record {
 }
 
 -- ---- taking away
--- the ends that are left where a sum loses its part
-abbrev left_ends : Ends → Ends → Ends
-left_ends i j = record { lo = i.lo -ℤ j.lo; hi = i.hi -ℤ j.hi }
+kept_whole : (a b c : ℤ) → c ≡ a +ℤ b → a ≡ c -ℤ b
+kept_whole a b c e = omega (arith, ints)
 
-abbrev pub left_box : BoxEnds → BoxEnds → BoxEnds
-left_box b c = record { re = left_ends b.re c.re; im = left_ends b.im c.im }
+-- what stays of a sum without one part is the other
+kept_ends : (rest part sum : Ends) → sum ≡ add_ends rest part → rest ≡ take_ends sum part
+kept_ends rest part sum e = ends-same (kept_whole rest.lo part.lo sum.lo (lower-same e)) (kept_whole rest.hi part.hi sum.hi (upper-same e))
 
-pub take_fits : (sum part rest : Interval) → sum.lo ≡ rest.lo +ℤ part.lo → sum.hi ≡ rest.hi +ℤ part.hi → TakeFits sum part
-take_fits sum part rest l h =
-    let o = rest.ordered in
-    let a = rest.low_end in
-    let b = rest.high_end in
-    record {
-      ordered = omega (arith, ints);
-      low_end = record { above = omega (arith, ints); below = omega (arith, ints) };
-      high_end = record { above = omega (arith, ints); below = omega (arith, ints) };
-    }
-
--- of what was added, the part that stays is what was there
-left_whole : (a b c : ℤ) → c ≡ a +ℤ b → c -ℤ b ≡ a
-left_whole a b c e = omega (arith, ints)
-
-pub left_is : (rest part sum : BoxEnds) → sum ≡ add_box rest part → left_box sum part ≡ rest
-left_is rest part sum e =
-    let p = left_whole rest.re.lo part.re.lo sum.re.lo (ap (λ (b : BoxEnds). b.re.lo) e) in
-    let q = left_whole rest.re.hi part.re.hi sum.re.hi (ap (λ (b : BoxEnds). b.re.hi) e) in
-    let r = left_whole rest.im.lo part.im.lo sum.im.lo (ap (λ (b : BoxEnds). b.im.lo) e) in
-    let s = left_whole rest.im.hi part.im.hi sum.im.hi (ap (λ (b : BoxEnds). b.im.hi) e) in
-    λ i. record { re = record { lo = p i; hi = q i }; im = record { lo = r i; hi = s i } }
+take_fits : (sum part : Ends) (rest : Interval) → sum ≡ add_ends (ends_of rest) part → AreEnds (take_ends sum part)
+take_fits sum part rest e = subst AreEnds (kept_ends (ends_of rest) part sum e) (record { ordered = rest.ordered; within = always_within rest })
 
 added_whole : (b c : ℤ) → c ≡ c -ℤ b +ℤ b
 added_whole b c = omega (arith, ints)
 
-pub left_adds : (part sum : BoxEnds) → sum ≡ add_box (left_box sum part) part
-left_adds part sum =
-    let p = added_whole part.re.lo sum.re.lo in
-    let q = added_whole part.re.hi sum.re.hi in
-    let r = added_whole part.im.lo sum.im.lo in
-    let s = added_whole part.im.hi sum.im.hi in
-    λ i. record { re = record { lo = p i; hi = q i }; im = record { lo = r i; hi = s i } }
+pub take_adds : (part sum : BoxEnds) → sum ≡ add_box (take_box sum part) part
+take_adds part sum =
+    parts-same (ends-same (added_whole part.re.lo sum.re.lo) (added_whole part.re.hi sum.re.hi)) (ends-same (added_whole part.im.lo sum.im.lo) (added_whole part.im.hi sum.im.hi))
 
 -- ---- reading
 -- the box that an index gives
 pub row_read : (xs : List CBox) (k : ℕ) (r : CBox) → k < length xs → r ≡ slice_index_or xs k r → box_ends r ≡ row_of xs k
 row_read xs k r h e = ap box_ends (get_or_read xs k r h e zero_cbox)
 
+pub row_got : (xs : List CBox) (k : ℕ) {r : CBox} → slice_get xs k ≡ Some r → box_ends r ≡ row_of xs k
+row_got xs k {r} e = ap box_ends (sym (get_or_from_slice_get xs k r zero_cbox e))
+
 -- a box of the sum and the one of its part
-pub box_take_fits : (P k : ℕ) (sum part : ℕ → BoxEnds) (b c : CBox) → k < P → box_ends b ≡ sum k → box_ends c ≡ part k → HasPart P sum part → TakeFits b.re c.re × TakeFits b.im c.im
+pub box_take_fits : (P k : ℕ) (sum part : ℕ → BoxEnds) (b c : CBox) → k < P → box_ends b ≡ sum k → box_ends c ≡ part k → HasPart P sum part → TakeFits (box_ends b) (box_ends c)
 box_take_fits P k sum part b c l e f h =
-    let g : box_ends b ≡ add_box (box_ends (h.rest k)) (box_ends c) = e ∙ h.adds k l ∙ ap (add_box (box_ends (h.rest k))) (sym f) in (
-      take_fits b.re c.re (h.rest k).re (ap (λ (x : BoxEnds). x.re.lo) g) (ap (λ (x : BoxEnds). x.re.hi) g),
-      take_fits b.im c.im (h.rest k).im (ap (λ (x : BoxEnds). x.im.lo) g) (ap (λ (x : BoxEnds). x.im.hi) g),
-    )
+    let g : box_ends b ≡ add_box (box_ends (h.rest k)) (box_ends c) = e ∙ h.adds k l ∙ ap (add_box (box_ends (h.rest k))) (sym f) in
+    record {
+      re = take_fits (ends_of b.re) (ends_of c.re) (h.rest k).re (ap (λ (x : BoxEnds). x.re) g);
+      im = take_fits (ends_of b.im) (ends_of c.im) (h.rest k).im (ap (λ (x : BoxEnds). x.im) g);
+    }
 
 -- a sum that has a contribution in it has what was computed of it
 pub has_part : (P : ℕ) (sum part contribution : ℕ → BoxEnds) → ((k : ℕ) → k < P → part k ≡ contribution k) → HasPart P sum contribution → HasPart P sum part

@@ -27,7 +27,7 @@ module _ (S : CommutativeRing) (L : LinearFunctional complex_rationals S) (x X :
     round_holds : (r i : ℕ) → r + i < P → EnclosesBox (up_round m q r i) (L.apply (mixed r i))
     unfolding up_round
     round_holds zero i h = subst (λ u. EnclosesBox (m i) (L.apply u)) (ring1 S (pow S x i) (λ p. search quotes depth 9) tt) (contains i (omega arith))
-    round_holds (suc r) i h = EnclosesBox-quot (pos 4) (omega (arith, ints)) (subst (EnclosesBox (add_box (scale_box (pos 2) (up_round m q r (suc i))) (gscale_box (up_round m q r i) q))) (sym (value_step r i))
+    round_holds (suc r) i h = EnclosesBox-quot (pos 4) (omega (arith, ints)) (subst (EnclosesBox (add_box (scale_box (up_round m q r (suc i)) (pos 2)) (gscale_box (up_round m q r i) q))) (sym (value_step r i))
         (EnclosesBox-add (EnclosesBox-scale (pos 2) (round_holds r (suc i) (omega arith))) (EnclosesBox-gscale q (round_holds r i (omega arith)))))
 
     -- the moments about the parent's centre

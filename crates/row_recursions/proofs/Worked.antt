@@ -21,7 +21,7 @@ corner = gaussian (negsuc 0) (negsuc 0)
 
 -- nine charges 1 at (0, 0), in the cell of side 1 whose corner that is
 abbrev nine : ℕ → BoxEnds
-nine k = scale_box (pos 9) (source_moment 1 one none corner k)
+nine k = scale_box (source_moment 1 one none corner k) (pos 9)
 
 -- their value at (2, 0), through the row of the cell 2 sides away, at order 4
 converted_value : local_value 4 (converted 4 (kernel_entry (gaussian (pos 2) (pos 0))) nine) 1 corner

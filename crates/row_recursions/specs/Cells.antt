@@ -2,13 +2,13 @@
 use Rattle.std.specs.Prelude.{ℕ, Bool, cond, ℤ, pos, negsuc}
 use Rattle.exact_math.specs.Ends.{BoxEnds}
 use Rattle.exact_math.specs.Gaussian.{Gaussian, gaussian}
-use Rattle.truncation.specs.Places.{doubled_offset}
 use Rattle.cell_name.specs.Cell.{square}
-use Rattle.cell_name.specs.Square.{side, doubled_centre_x, doubled_centre_y}
+use Rattle.cell_name.specs.Square.{side}
 use Rattle.cell_name.specs.declared.cell.Cell.{Cell}
 use Rattle.cell_name.specs.declared.cell.Quadrant.{Quadrant}
 use Rattle.points.specs.declared.Point.{Point}
 use Rattle.points.specs.Points.{place, pole, dipole}
+use Rattle.row_recursions.specs.Geometry.{doubled_centre, offset}
 use Rattle.row_recursions.specs.Rows.{source_moment, far_source}
 
 abbrev pub side_of : Cell → ℕ
@@ -16,7 +16,7 @@ side_of c = side (square c)
 
 -- twice the centre
 abbrev pub centre_of : Cell → Gaussian
-centre_of c = gaussian (doubled_centre_x (square c)) (doubled_centre_y (square c))
+centre_of c = doubled_centre (square c)
 
 -- 1 or -1
 abbrev pub sign : Bool → ℤ
@@ -28,7 +28,7 @@ quadrant_of q = gaussian (sign q.right) (sign q.top)
 
 -- the doubled offset of the place z from the centre
 abbrev pub offset_from : Cell → Gaussian → Gaussian
-offset_from c z = doubled_offset z (centre_of c)
+offset_from c z = offset (square c) z
 
 -- what a point in the cell adds to its multipole row
 abbrev pub moments_of : Cell → Point → ℕ → BoxEnds

@@ -1,11 +1,12 @@
 -- What the rounded recursions contain, for every order, side and centre. c and b are doubled centres.
-use Rattle.std.specs.Prelude.{ℕ, ◌*◌, ◌^◌, ◌<◌, ◌≤◌, ◌<ℤ◌, pos, List, [], ◌∷◌, ◌++◌}
+use Rattle.std.specs.Prelude.{ℕ, ◌*◌, ◌<◌, ◌≤◌, ◌<ℤ◌, pos, List, [], ◌∷◌, ◌++◌}
 use Rattle.exact_math.specs.Ends.{BoxEnds, BoxEndsContain, zero_box, add_box}
-use Rattle.exact_math.specs.Gaussian.{Gaussian, add_gaussian, norm_gaussian}
-use Rattle.exact_math.specs.Ratio.{ComplexRatio, SameComplex, zero_complex, add_complex}
+use Rattle.exact_math.specs.Gaussian.{Gaussian, add_gaussian, norm_gaussian, scale_gaussian}
+use Rattle.exact_math.specs.Ratio.{ComplexRatio, SameComplex, zero_complex, ◌+ᶜ◌}
 use Rattle.exact_math.specs.Sums.{sum_terms}
+use Rattle.exact_math.specs.Units.{unit}
 use Rattle.truncation.specs.Entries.{Source, pair_cut, multipole_cut, local_cut}
-use Rattle.truncation.specs.Places.{times_side, doubled_offset}
+use Rattle.truncation.specs.Places.{doubled_offset}
 use Rattle.kernel_table.specs.Kernel.{kernel_entry}
 use Rattle.row_recursions.specs.Fields.{HoldsField}
 use Rattle.row_recursions.specs.Moments.{HoldsMoments, pole_of, dipole_of}
@@ -28,12 +29,12 @@ SumOfMoments = (P s : ℕ) (c : Gaussian) (xs ys : List Source) (m n : ℕ → B
 -- from a child of side s with the quadrant q to its parent: the moments of the same sources about the parent's centre
 abbrev pub MomentsUp : Type 0
 MomentsUp = (P s : ℕ) (q c : Gaussian) (xs : List Source) (m : ℕ → BoxEnds) → 1 ≤ s
-    → HoldsMoments P s (add_gaussian c (times_side s q)) xs m → HoldsMoments P (2 * s) c xs (shifted_up m q)
+    → HoldsMoments P s (add_gaussian c (scale_gaussian s q)) xs m → HoldsMoments P (2 * s) c xs (shifted_up m q)
 
 -- the value at another place than the centre: the cut terms of the sources
 abbrev pub MultipoleValues : Type 0
 MultipoleValues = (P s : ℕ) (c t : Gaussian) (xs : List Source) (m : ℕ → BoxEnds) → 1 ≤ s → pos 0 <ℤ norm_gaussian (doubled_offset t c)
-    → HoldsMoments P s c xs m → BoxEndsContain (pos (2 ^ 40)) (multipole_value P m s (doubled_offset t c)) (sum_terms (multipole_cut P c t) xs)
+    → HoldsMoments P s c xs m → BoxEndsContain unit (multipole_value P m s (doubled_offset t c)) (sum_terms (multipole_cut P c t) xs)
 
 -- ---- local rows
 -- no field
@@ -43,7 +44,7 @@ NoField = (P s : ℕ) (b : Gaussian) → 1 ≤ s → HoldsField P s b (λ t. zer
 -- two fields in one cell
 abbrev pub SumOfFields : Type 0
 SumOfFields = (P s : ℕ) (b : Gaussian) (f g : Gaussian → ComplexRatio) (m n : ℕ → BoxEnds) → 1 ≤ s → HoldsField P s b f m → HoldsField P s b g n
-    → HoldsField P s b (λ t. add_complex (f t) (g t)) (λ l. add_box (m l) (n l))
+    → HoldsField P s b (λ t. f t +ᶜ g t) (λ l. add_box (m l) (n l))
 
 -- a field has one list of coefficients, whatever rows hold it
 abbrev pub OneField : Type 0
@@ -63,9 +64,9 @@ FieldOfSource = (P s : ℕ) (b : Gaussian) (x : Source) → 1 ≤ s → pos 0 <�
 -- from the parent to its child of side s with the quadrant q: the same field
 abbrev pub FieldDown : Type 0
 FieldDown = (P s : ℕ) (q b : Gaussian) (f : Gaussian → ComplexRatio) (m : ℕ → BoxEnds) → 1 ≤ s
-    → HoldsField P (2 * s) b f m → HoldsField P s (add_gaussian b (times_side s q)) f (shifted_down P m q)
+    → HoldsField P (2 * s) b f m → HoldsField P s (add_gaussian b (scale_gaussian s q)) f (shifted_down P m q)
 
 -- the value at any place: that of the field
 abbrev pub LocalValues : Type 0
 LocalValues = (P s : ℕ) (b t : Gaussian) (f : Gaussian → ComplexRatio) (m : ℕ → BoxEnds) → 1 ≤ s
-    → HoldsField P s b f m → BoxEndsContain (pos (2 ^ 40)) (local_value P m s (doubled_offset t b)) (f t)
+    → HoldsField P s b f m → BoxEndsContain unit (local_value P m s (doubled_offset t b)) (f t)

@@ -1,12 +1,12 @@
 -- The rounded recursions on rows of boxes, which count units of 2^-40. A row is a function of its index. s is the side of a cell; an offset is doubled, twice
 -- a place less the doubled centre of the cell; a quadrant q has the parts 1 and -1, 1 for the right and for the top half.
-use Rattle.std.specs.Prelude.{ℕ, zero, suc, ◌-◌, ◌*◌, ◌^◌, ◌<◌, ◌≡◌, pos, ◌*ℤ◌, List}
+use Rattle.std.specs.Prelude.{ℕ, zero, suc, ◌-◌, ◌*◌, ◌<◌, ◌≡◌, pos, ◌*ℤ◌, List}
 use Rattle.exact_math.specs.Ends.{BoxEnds, zero_box, point_box, add_box, neg_box, scale_box, times_box, gscale_box, quot_box, gquot_box}
-use Rattle.exact_math.specs.Gaussian.{Gaussian, norm_gaussian}
+use Rattle.exact_math.specs.Gaussian.{Gaussian, norm_gaussian, conj, scale_gaussian}
+use Rattle.exact_math.specs.Units.{unit}
 use Rattle.complex_box.specs.Box.{box_ends}
 use Rattle.complex_box.specs.Rows.{at}
 use Rattle.complex_box.specs.declared.CBox.{CBox}
-use Rattle.kernel_table.specs.Kernel.{conj_multiple}
 
 -- the row that a list of boxes holds
 abbrev pub row_of : List CBox → ℕ → BoxEnds
@@ -23,7 +23,7 @@ pub record HasPart (P : ℕ) (sum part : ℕ → BoxEnds) : Type 0 where
 
 -- 2^40 a
 abbrev pub units_box : Gaussian → BoxEnds
-units_box a = point_box (pos (2 ^ 40) *ℤ a.re) (pos (2 ^ 40) *ℤ a.im)
+units_box a = point_box (unit *ℤ a.re) (unit *ℤ a.im)
 
 -- 2^40 b/s, which is exact where s divides 2^40
 abbrev pub units_over : Gaussian → ℕ → BoxEnds
@@ -31,7 +31,7 @@ units_over b s = quot_box (units_box b) (pos s)
 
 -- m/g times the box: its exact product with m conj g, over the norm of g, rounded once
 abbrev pub ratio_box : ℕ → Gaussian → BoxEnds → BoxEnds
-ratio_box m g b = gquot_box b (conj_multiple m g) (norm_gaussian g)
+ratio_box m g b = gquot_box b (conj (scale_gaussian m g)) (norm_gaussian g)
 
 -- f 0 + .. + f (n - 1)
 abbrev pub sum_boxes : ℕ → (ℕ → BoxEnds) → BoxEnds
@@ -52,13 +52,13 @@ dipole_moment s b o (suc k) = gquot_box (dipole_moment s b o k) o (pos (2 * s))
 -- of a pole a and a dipole b at one place: the pole's, and k times the dipole's before
 unfoldable pub source_moment : ℕ → Gaussian → Gaussian → Gaussian → ℕ → BoxEnds
 source_moment s a b o zero = pole_moment s a o zero
-source_moment s a b o (suc k) = add_box (pole_moment s a o (suc k)) (scale_box (pos (suc k)) (dipole_moment s b o k))
+source_moment s a b o (suc k) = add_box (pole_moment s a o (suc k)) (scale_box (dipole_moment s b o k) (pos (suc k)))
 
 -- ---- the shift up
 -- after r rounds, each a quarter of twice the next coefficient and q times this one
 unfoldable pub up_round : (ℕ → BoxEnds) → Gaussian → ℕ → ℕ → BoxEnds
 up_round m q zero i = m i
-up_round m q (suc r) i = quot_box (add_box (scale_box (pos 2) (up_round m q r (suc i))) (gscale_box (up_round m q r i) q)) (pos 4)
+up_round m q (suc r) i = quot_box (add_box (scale_box (up_round m q r (suc i)) (pos 2)) (gscale_box (up_round m q r i) q)) (pos 4)
 
 -- the row m of a child with the quadrant q, about the parent's centre
 unfoldable pub shifted_up : (ℕ → BoxEnds) → Gaussian → ℕ → BoxEnds
@@ -67,7 +67,7 @@ shifted_up m q k = up_round m q k 0
 -- ---- contributions to a local row
 -- of the multipole row m, by the entries of a kernel: the sum of products, rounded once
 unfoldable pub converted : ℕ → (ℕ → ℕ → BoxEnds) → (ℕ → BoxEnds) → ℕ → BoxEnds
-converted P kernel m l = quot_box (sum_boxes P (λ k. times_box (kernel k l) (m k))) (pos (2 ^ 40))
+converted P kernel m l = quot_box (sum_boxes P (λ k. times_box (kernel k l) (m k))) unit
 
 -- of a source with the offset zeta: 2^40 a times 2 s/zeta, and again each time
 unfoldable pub far_pole : ℕ → Gaussian → Gaussian → ℕ → BoxEnds
@@ -81,14 +81,14 @@ far_dipole s b zeta (suc l) = ratio_box (2 * s) zeta (far_dipole s b zeta l)
 
 -- less the pole's, and l + 1 times the dipole's after
 unfoldable pub far_source : ℕ → Gaussian → Gaussian → Gaussian → ℕ → BoxEnds
-far_source s a b zeta l = add_box (neg_box (far_pole s a zeta l)) (scale_box (pos (suc l)) (far_dipole s b zeta (suc l)))
+far_source s a b zeta l = add_box (neg_box (far_pole s a zeta l)) (scale_box (far_dipole s b zeta (suc l)) (pos (suc l)))
 
 -- ---- the shift down, with Horner's scheme from the last coefficient on
 -- after n rounds, the last of which took in the coefficient P - n
 unfoldable pub down_round : ℕ → (ℕ → BoxEnds) → Gaussian → ℕ → ℕ → BoxEnds
 down_round P m q zero k = zero_box
 down_round P m q (suc n) zero = add_box (m (P - suc n)) (quot_box (gscale_box (down_round P m q n zero) q) (pos 4))
-down_round P m q (suc n) (suc k) = quot_box (add_box (gscale_box (down_round P m q n (suc k)) q) (scale_box (pos 2) (down_round P m q n k))) (pos 4)
+down_round P m q (suc n) (suc k) = quot_box (add_box (gscale_box (down_round P m q n (suc k)) q) (scale_box (down_round P m q n k) (pos 2))) (pos 4)
 
 -- the local row m of the parent, about the centre of the child with the quadrant q
 unfoldable pub shifted_down : ℕ → (ℕ → BoxEnds) → Gaussian → ℕ → BoxEnds

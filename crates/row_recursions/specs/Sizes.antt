@@ -3,7 +3,7 @@ use Rattle.std.specs.Prelude.{ℕ, suc, ◌+◌, ◌*◌, ◌^◌, ◌<◌, ◌�
 use Rattle.exact_math.specs.Ends.{BoxEnds, BoxEndsWithin}
 use Rattle.exact_math.specs.Gaussian.{Gaussian}
 use Rattle.exact_math.specs.Sizes.{abs_gaussian}
-use Rattle.truncation.specs.Places.{GaussianWithin, GaussianBeyond}
+use Rattle.exact_math.specs.Within.{GaussianWithin, GaussianBeyond}
 use Rattle.kernel_table.specs.Kernel.{IsKernelDistance, kernel_entry}
 use Rattle.row_recursions.specs.Rows.{source_moment, shifted_up, converted, far_source, shifted_down, local_value, multipole_value}
 

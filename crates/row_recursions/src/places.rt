@@ -1,20 +1,14 @@
 //! Places of the program's points in its cells, as the recursions take them.
 ghost use Rattle.std.specs.Prelude.{◌≡◌, ◌*◌, ◌^◌, ◌≤◌, pos, ◌≤ℤ◌};
-ghost use Rattle.exact_math.specs.Ends.{BoxEndsWithin};
-ghost use Rattle.exact_math.specs.Gaussian.{gaussian, norm_gaussian};
-ghost use Rattle.exact_math.specs.Within.{Within};
-ghost use Rattle.truncation.specs.Places.{GaussianWithin, GaussianBeyond};
-ghost use Rattle.complex_box.specs.Box.{box_ends, number};
-ghost use Rattle.kernel_table.specs.Kernel.{conj_multiple};
+ghost use Rattle.exact_math.specs.Gaussian.{gaussian, norm_gaussian, conj, scale_gaussian};
+ghost use Rattle.exact_math.specs.Within.{Within, GaussianWithin, GaussianBeyond};
+ghost use Rattle.complex_box.specs.Box.{box_ends, number, BoxWithin};
 ghost use Rattle.points.specs.Limits.{InGrid};
 ghost use Rattle.row_recursions.specs.Cells.{side_of, offset_from};
 ghost use Rattle.row_recursions.specs.Rows.{units_box};
 
 use cell_name::Cell;
-use complex_box::{CBox, Gauss};
-
-/// How many units a box counts in 1.
-const UNIT: i128 = 1_099_511_627_776;
+use complex_box::{CBox, Gauss, UNIT};
 
 /// The number of bits by which the side is 1 shifted.
 pub fn side_bits(cell: Cell) -> u32
@@ -39,7 +33,7 @@ pub fn units(re: i64, im: i64) -> CBox
     requires re { Within (2 ^ 20) re }
     requires im { Within (2 ^ 20) im }
     ensures ends { box_ends result ≡ units_box (gaussian re im) }
-    ensures size { BoxEndsWithin (2 ^ 60) (box_ends result) }
+    ensures size { BoxWithin (2 ^ 60) result }
 {
     CBox::point(UNIT * i128::from(re), UNIT * i128::from(im))
 }
@@ -57,7 +51,7 @@ pub fn far_ratio(zeta: Gauss, bits: u32) -> FarRatio
     requires bits { bits ≤ 16 }
     requires size { GaussianWithin (2 ^ 17) (number zeta) }
     requires far { GaussianBeyond (3 * 2 ^ bits) (number zeta) }
-    ensures factor { number result.factor ≡ conj_multiple (2 * 2 ^ bits) (number zeta) }
+    ensures factor { number result.factor ≡ conj (scale_gaussian (2 * 2 ^ bits) (number zeta)) }
     ensures small { GaussianWithin (2 ^ 34) (number result.factor) }
     ensures divisor { result.divisor ≡ norm_gaussian (number zeta) }
     ensures positive { pos 1 ≤ℤ result.divisor }

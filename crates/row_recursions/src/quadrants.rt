@@ -1,8 +1,8 @@
 //! Products of boxes with a quadrant, by signs alone, and with 2.
 ghost use Rattle.std.specs.Prelude.{◌≡◌, ◌^◌, pos};
-ghost use Rattle.exact_math.specs.Ends.{BoxEndsWithin, scale_ends, scale_box, gscale_box};
+ghost use Rattle.exact_math.specs.Ends.{scale_ends, scale_box, gscale_box};
 ghost use Rattle.fixed_interval.specs.Interval.{ends_of};
-ghost use Rattle.complex_box.specs.Box.{box_ends};
+ghost use Rattle.complex_box.specs.Box.{box_ends, BoxWithin};
 ghost use Rattle.row_recursions.specs.Cells.{sign, quadrant_of};
 
 use cell_name::Quadrant;
@@ -12,7 +12,7 @@ use fixed_interval::Interval;
 /// The interval or its negative.
 #[inline(always)]
 fn signed(x: Interval, plus: bool) -> Interval
-    ensures { ends_of result ≡ scale_ends (sign plus) (ends_of x) }
+    ensures { ends_of result ≡ scale_ends (ends_of x) (sign plus) }
 {
     if plus {
         return x;
@@ -24,7 +24,7 @@ fn signed(x: Interval, plus: bool) -> Interval
 /// 2^120 in size.
 #[inline]
 pub fn turned(b: CBox, q: Quadrant) -> CBox
-    requires { BoxEndsWithin (2 ^ 120) (box_ends b) }
+    requires { BoxWithin (2 ^ 120) b }
     ensures { box_ends result ≡ gscale_box (box_ends b) (quadrant_of q) }
 {
     CBox {
@@ -36,8 +36,8 @@ pub fn turned(b: CBox, q: Quadrant) -> CBox
 /// Twice the box. Condition: all ends are at most 2^120 in size.
 #[inline]
 pub fn doubled(b: CBox) -> CBox
-    requires { BoxEndsWithin (2 ^ 120) (box_ends b) }
-    ensures { box_ends result ≡ scale_box (pos 2) (box_ends b) }
+    requires { BoxWithin (2 ^ 120) b }
+    ensures { box_ends result ≡ scale_box (box_ends b) (pos 2) }
 {
     b.add(b)
 }

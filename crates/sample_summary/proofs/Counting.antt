@@ -9,17 +9,17 @@ use Rattle.std.proofs.lemmas.List.Sums.{count_by_more_yes, count_by_more_no}
 use mathlib.Core.Logic.{⊎_elim}
 use Rattle.cell_name.specs.Cell.{square}
 use Rattle.cell_name.specs.Square.{Square, root}
-use Rattle.cell_lists.specs.Lists.{lists_of, AreLists}
-use Rattle.cell_lists.specs.Row.{row}
-use Rattle.cell_lists.specs.declared.entry_lists.EntryLists.{EntryLists}
-use Rattle.cell_lists.proofs.TreeNumbers.{tree_cell_at}
+use Rattle.cell_lists.specs.EntryLists.{lists_of, EntryListsModel}
+use Rattle.cell_lists.specs.Lists.{AreLists}
+use Rattle.cell_lists.specs.ListAt.{list_at}
+use Rattle.quadtree.proofs.TreeChildren.{tree_cell_at}
 use Rattle.letters.specs.declared.Letter.{Letter}
 use Rattle.points.specs.declared.Point.{Point}
 use Rattle.quadtree.specs.Tree.{count_in, AreInGrid, IsTreeCell, IsLeaf}
 use Rattle.quadtree.specs.TreeModel.{TreeModel, squares, size, square_of, node_of, IsTreeOf}
 use Rattle.tree_field.specs.Lists.{TreeLists, AreTreeLists}
 use Rattle.tree_field.proofs.Leaves.{same_test}
-use Rattle.tree_field.proofs.Members.{All-from_members, range_below}
+use Rattle.quadtree.proofs.Lists.{All-from_members, range_below}
 use Rattle.tree_field.proofs.Program.{lists_of_tree}
 use Rattle.tree_field.proofs.Sums.{sum_by-map, sum_by-same}
 use Rattle.tree_field.proofs.Work.{sum_by_numbers, sum_by_rows}
@@ -50,7 +50,7 @@ leaf_is points cap c b here h = same_test b (is_leaf points cap c) (λ e. passes
     end : is_leaf points cap c ≡ true → (count_in points c ≤ cap) ⊎ (c.level ≡ 16)
     end e = ⊎_elim (λ few. inl (ltb-false cap (count_in points c) (not-true over few))) (λ last. inr (eqb-true c.level 16 last)) (or_cases (not over) (c.level == 16) e)
 
-module _ (tree : TreeModel) (lists : EntryLists) (points : List Point) (cap : ℕ) (these : TreeLists) (inside : AreInGrid 16 points) (h : IsTreeOf 16 tree points cap) (are : AreLists tree lists) (a : AreTreeLists 16 points cap these) where
+module _ (tree : TreeModel) (lists : EntryListsModel) (points : List Point) (cap : ℕ) (these : TreeLists) (inside : AreInGrid 16 points) (h : IsTreeOf 16 tree points cap) (are : AreLists tree lists) (a : AreTreeLists 16 points cap these) where
   pub cells_are : size tree ≡ length these.cells
   cells_are = sym (ap length (lists_of_tree tree lists points cap these inside h are a).cells ∙ length-map tree.cells square)
 
@@ -64,4 +64,4 @@ module _ (tree : TreeModel) (lists : EntryLists) (points : List Point) (cap : �
       let of = lists_of_tree tree lists points cap these inside h are a in
       sum_by_rows (lists_of lists letter) (size tree) (λ list. length list) (are.as_many letter)
       ∙ sym (ap (sum_by (λ b. length (these.entries letter b))) of.cells
-      ∙ sum_by_numbers tree (λ b. length (these.entries letter b)) (λ n. length (row (lists_of lists letter) n)) (λ n lt. ap length (of.entries letter n lt) ∙ length-map (row (lists_of lists letter) n) (square_of tree)))
+      ∙ sum_by_numbers tree (λ b. length (these.entries letter b)) (λ n. length (list_at (lists_of lists letter) n)) (λ n lt. ap length (of.entries letter n lt) ∙ length-map (list_at (lists_of lists letter) n) (square_of tree)))

@@ -4,7 +4,7 @@ use borrow.Author.Differences.{ints}
 use Rattle.std.proofs.lemmas.Option.{slice_get-get_or}
 use Rattle.cell_name.specs.Square.{Square, IsInGrid, IsName, IsInsideGrid, Holds}
 use Rattle.cell_name.proofs.Cells.{inside_from_name, square_at-name}
-use Rattle.cell_lists.proofs.TreeNumbers.{tree_cell_at}
+use Rattle.quadtree.proofs.TreeChildren.{tree_cell_at}
 use Rattle.points.specs.declared.Point.{Point}
 use Rattle.quadtree.specs.Tree.{AreInGrid}
 use Rattle.quadtree.specs.TreeModel.{TreeModel, square_of, leaf_of, IsTree, IsTreeOf}

@@ -1,5 +1,5 @@
 -- Summaries that are known from elsewhere.
-use Rattle.std.specs.Prelude.{ℕ, ℤ, pos, neg_ℤ, ◌≡◌, List, [], ◌∷◌, codes}
+use Rattle.std.specs.Prelude.{ℕ, ℤ, pos, neg_ℤ, ◌^◌, ◌≡◌, List, [], ◌∷◌, codes}
 use Rattle.std.specs.Fmt.{digits}
 use mathlib.Core.Path.{refl}
 use Rattle.cell_name.specs.Square.{Square, root}
@@ -34,6 +34,21 @@ charges_are = refl
 charges_text : summary_text 0 2 8 32 charges_numbers ≡ codes "sample 0 2 order 8 cap 32\npoints 2 sources 2 targets 0\ntree cells 1 leaves 1\nlists u 0 v 0 w 0 x 0\nwork translations 0 pairs 0\nwidest re 0 im 0\nend\n"
 unfolding digits
 charges_text = refl
+
+-- ---- the texts of the numbers of another program, and of the largest command
+abbrev five_hundred : Summary
+five_hundred = record { points = 500; sources = 378; targets = 122; cells = 178; leaves = 133; u = 563; v = 1014; w = 176; x = 130; translations = 1306; pairs = 2921; widest_re = 96731787224548; widest_im = 96731787224550 }
+
+five_hundred_text : summary_text 1 500 4 8 five_hundred ≡ codes "sample 1 500 order 4 cap 8\npoints 500 sources 378 targets 122\ntree cells 178 leaves 133\nlists u 563 v 1014 w 176 x 130\nwork translations 1306 pairs 2921\nwidest re 96731787224548 im 96731787224550\nend\n"
+unfolding digits
+five_hundred_text = refl
+
+abbrev wide : Summary
+wide = record { points = 500; sources = 378; targets = 122; cells = 178; leaves = 133; u = 563; v = 1014; w = 176; x = 130; translations = 1306; pairs = 2921; widest_re = 2 ^ 85; widest_im = 0 }
+
+wide_text : summary_text 4294967295 500 24 1024 wide ≡ codes "sample 4294967295 500 order 24 cap 1024\npoints 500 sources 378 targets 122\ntree cells 178 leaves 133\nlists u 563 v 1014 w 176 x 130\nwork translations 1306 pairs 2921\nwidest re 38685626227668133590597632 im 0\nend\n"
+unfolding digits
+wide_text = refl
 
 -- ---- a charge 1 at (0, 0) and a target at (3, 4): one leaf, whose counts of 0.12 and -0.16 are two apart
 abbrev pair : List Point

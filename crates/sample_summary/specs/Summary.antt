@@ -10,7 +10,8 @@ use Rattle.points.specs.Points.{is_source}
 use Rattle.points.specs.declared.Mode.TheVariants.{Field}
 use Rattle.points.specs.declared.Point.{Point}
 use Rattle.sample_summary.specs.declared.numbers.Summary.{Summary}
-use Rattle.tree_field.specs.Field.{targets, is_over, target_boxes}
+use Rattle.quadtree.specs.Tree.{is_over}
+use Rattle.tree_field.specs.Field.{targets, target_boxes}
 use Rattle.tree_field.specs.Lists.{TreeLists}
 use Rattle.tree_field.specs.Work.{translations, pairs}
 

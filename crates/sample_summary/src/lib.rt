@@ -7,6 +7,3 @@ mod widths;
 mod write;
 
 pub use write::write_summary;
-
-#[cfg(test)]
-mod tests;

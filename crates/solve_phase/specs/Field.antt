@@ -1,11 +1,11 @@
 -- The field of a list of points, as a solve keeps it.
-use Rattle.std.specs.Prelude.{ℕ, ◌≡◌, ◌+◌, ◌*◌, ◌≤◌, ◌^◌, ℤ, pos, List, length, map, sum_by}
+use Rattle.std.specs.Prelude.{ℕ, ◌≡◌, ◌+◌, ◌*◌, ◌≤◌, ℤ, List, length, map, sum_by}
 use Rattle.std.specs.List.{AllZip}
-use Rattle.exact_math.specs.Ends.{BoxEndsContain}
-use Rattle.complex_box.specs.Box.{box_ends}
+use Rattle.exact_math.specs.Units.{unit}
+use Rattle.complex_box.specs.Box.{box_ends, BoxContains}
 use Rattle.complex_box.specs.declared.CBox.{CBox}
 use Rattle.cell_lists.specs.Lists.{AreLists}
-use Rattle.cell_lists.specs.declared.entry_lists.EntryLists.{EntryLists}
+use Rattle.cell_lists.specs.EntryLists.{EntryListsModel}
 use Rattle.letters.specs.declared.Letter.TheVariants.{V}
 use Rattle.near_field.specs.DirectSum.{direct_sum}
 use Rattle.points.specs.Points.{place}
@@ -21,7 +21,7 @@ use Rattle.solve_phase.specs.declared.field.Field.{Field}
 pub record FieldParts : Type 0 where
   pub cap : ℕ
   pub tree : TreeModel
-  pub lists : EntryLists
+  pub lists : EntryListsModel
   pub up : List CBox
   pub local : List CBox
   pub radii : List ℤ
@@ -61,4 +61,4 @@ pub record IsSolved (points : List Point) (cap P : ℕ) (f : FieldParts) : Type 
 
 -- the box of each target contains the direct sum there
 abbrev pub BoxesContain : List Point → List CBox → Type 0
-BoxesContain points values = AllZip (λ t v. BoxEndsContain (pos (2 ^ 40)) (box_ends v) (direct_sum (place t) points)) (targets points) values
+BoxesContain points values = AllZip (λ t v. BoxContains unit v (direct_sum (place t) points)) (targets points) values

@@ -1,7 +1,6 @@
 //! The field that a solve gives.
 ghost use Rattle.std.specs.Prelude.{◌≡◌, ◌^◌, ◌<◌, true, false, length, pos, slice_index_or, MatchOption};
-ghost use Rattle.exact_math.specs.Ends.{BoxEndsWithin};
-ghost use Rattle.complex_box.specs.Box.{box_ends};
+ghost use Rattle.complex_box.specs.Box.{BoxWithin};
 ghost use Rattle.complex_box.specs.Rows.{at};
 ghost use Rattle.quadtree.specs.TreeModel.{size, node_of};
 ghost use Rattle.row_recursions.specs.Rows.{row_of};
@@ -95,7 +94,7 @@ impl<const P: usize> Field<P> {
     pub fn value(&self, k: usize) -> CBox
         requires { k < length (kept self.now).values }
         ensures value { result ≡ at (kept self.now).values k }
-        ensures size { BoxEndsWithin (2 ^ 84) (box_ends result) }
+        ensures size { BoxWithin (2 ^ 84) result }
     {
         self.values[k]
     }

@@ -23,8 +23,9 @@ use Rattle.row_recursions.proofs.ConvertLaws.{field_converted}
 use Rattle.row_recursions.proofs.MomentLaws.{multipole_values}
 use Rattle.row_recursions.proofs.Points.{strength_field}
 use Rattle.truncation.specs.Entries.{weight, pair_cut, multipole_cut, local_cut}
-use Rattle.truncation.specs.Places.{GaussianWithin, GaussianBeyond, doubled_offset}
-use Rattle.truncation.specs.Tails.{ceiling, pair_tail, single_tail}
+use Rattle.exact_math.specs.Within.{GaussianWithin, GaussianBeyond}
+use Rattle.truncation.specs.Places.{doubled_offset}
+use Rattle.truncation.specs.Tails.{pair_tail, single_tail, pair_radius, single_radius}
 use Rattle.truncation.proofs.EntryBounds.{pair_entries, multipole_entries, local_entries}
 use Rattle.soundness.specs.Squares.{doubled_centre, offset, sides_between, IsIn, IsFarFrom, CellsAreApart}
 use Rattle.soundness.specs.Accounts.{LeafSource}
@@ -84,21 +85,21 @@ multipole_held P c xs m t h held =
 
 -- ---- how near the cut terms are
 pub pair_near : (P : ℕ) (b c : Square) (t : Gaussian) (xs : List LeafSource) → 1 ≤ P → CellsAreApart b c → IsIn b t → All (λ x. IsIn c (place x.point)) xs
-    → IsNear (ceiling (weight_of P xs * pair_tail P) (side b)) (sum_list complex_rationals (term_in_units t) xs) (pair_sum P b c xs t)
+    → IsNear (pair_radius P (weight_of P xs) (side b)) (sum_list complex_rationals (term_in_units t) xs) (pair_sum P b c xs t)
 pair_near P b c t xs order h target sources =
     entry_near P t (pair_cut P (side b) (sides_between b c) (doubled_centre b) (doubled_centre c) t) (pair_tail P) (side b) (λ x. GaussianWithin (side b) (doubled_offset x.place (doubled_centre c)))
     (λ ys each. pair_entries P (side b) (sides_between b c) (doubled_centre b) (doubled_centre c) t order (side_positive b) h.apart (centres_of-apart b c h) target ys each) (side_positive b) xs
     (λ k d l. subst (λ s. GaussianWithin s (offset c (place (get_or xs k d).point))) (sym (sides_of-apart b c h)) (sources k d l))
 
 pub multipole_near : (P : ℕ) (c : Square) (t : Gaussian) (xs : List LeafSource) → 2 ≤ P → IsFarFrom c t → All (λ x. IsIn c (place x.point)) xs
-    → IsNear (ceiling (weight_of P xs * single_tail P) (side c)) (sum_list complex_rationals (term_in_units t) xs) (multipole_sum P c xs t)
+    → IsNear (single_radius P (weight_of P xs) (side c)) (sum_list complex_rationals (term_in_units t) xs) (multipole_sum P c xs t)
 multipole_near P c t xs order far sources =
     entry_near P t (multipole_cut P (doubled_centre c) t) (single_tail P) (side c) (λ x. GaussianWithin (side c) (doubled_offset x.place (doubled_centre c)))
     (λ ys each. multipole_entries P (side c) (doubled_centre c) t order (side_positive c) far ys each) (side_positive c) xs
     sources
 
 pub far_near : (P : ℕ) (b : Square) (t : Gaussian) (xs : List LeafSource) → 2 ≤ P → IsIn b t → All (λ x. IsFarFrom b (place x.point)) xs
-    → IsNear (ceiling (weight_of P xs * single_tail P) (side b)) (sum_list complex_rationals (term_in_units t) xs) (far_sum P b xs t)
+    → IsNear (single_radius P (weight_of P xs) (side b)) (sum_list complex_rationals (term_in_units t) xs) (far_sum P b xs t)
 far_near P b t xs order near far =
     entry_near P t (local_cut P (doubled_centre b) t) (single_tail P) (side b) (λ x. GaussianBeyond (3 * side b) (doubled_offset x.place (doubled_centre b)))
     (λ ys each. local_entries P (side b) (doubled_centre b) t order (side_positive b) near ys each) (side_positive b) xs

@@ -3,7 +3,7 @@ use Rattle.std.proofs.Common.{◌≡◌, refl, sym, ap, ap₂, subst, ◌∙◌,
 use Rattle.std.specs.Prelude.{pos, [], ◌∷◌, fold, All}
 use Rattle.exact_math.specs.Ends.{BoxEnds, zero_box, add_box}
 use Rattle.exact_math.specs.Gaussian.{Gaussian}
-use Rattle.exact_math.specs.Ratio.{ComplexRatio, zero_complex, add_complex}
+use Rattle.exact_math.specs.Ratio.{ComplexRatio, zero_complex, ◌+ᶜ◌}
 use Rattle.exact_math.proofs.RingTactic.{quotes, ring1}
 use Rattle.exact_math.proofs.Sums.{sum_list}
 use Rattle.exact_math.proofs.ComplexRationals.{ℂ, complex_rationals, of_int_ℂ, ◌+ℂ◌, ◌*ℂ◌}
@@ -59,7 +59,7 @@ module _ (P : ℕ) (b : Square) where
 
   pub Local-add : (f g : Gaussian → ℂ) (m n : ℕ → BoxEnds) → Local P b f m → Local P b g n → Local P b (λ t. f t +ℂ g t) (λ l. add_box (m l) (n l))
   Local-add f g m n h k = record {
-    field = λ t. add_complex (h.field t) (k.field t);
+    field = λ t. h.field t +ᶜ k.field t;
     holds = sum_of_fields P (side b) (doubled_centre b) h.field k.field m n (side_positive b) h.holds k.holds;
     is = λ t.
         ap (λ z. units *ℂ z) (Stands-add (Stands-itself (h.field t) (h.holds.fraction t)) (Stands-itself (k.field t) (k.holds.fraction t))).is

@@ -1,62 +1,50 @@
 -- What truncation cuts off the terms of all sources of an entry is at most its radius.
+use Rattle.std.specs.Int.{div_ceil}
 use Rattle.std.proofs.Common.{◌≡◌, sym, ap, subst, subst₂, ◌∙◌, zero, suc, arith, List, get_or}
-use Rattle.std.specs.Prelude.{ℕ, ◌+◌, ◌*◌, ◌^◌, ◌≤◌, ℤ, pos, neg_ℤ, ◌<ℤ◌, [], ◌∷◌, All, sum_by}
-use Rattle.std.proofs.lemmas.Int.{ints}
+use Rattle.std.specs.Prelude.{ℕ, ◌+◌, ◌*◌, ◌^◌, ◌≤◌, ℤ, pos, ◌<ℤ◌, [], ◌∷◌, All, sum_by}
 use Rattle.std.proofs.lemmas.List.Elements.{All-map}
-use Rattle.std.proofs.lemmas.List.Sums.{sum_by_from, sum_by-cons}
-use Rattle.exact_math.specs.Contains.{Contains}
+use Rattle.std.proofs.lemmas.List.Sums.{sum_by-cons}
 use Rattle.exact_math.specs.Gaussian.{Gaussian}
-use Rattle.exact_math.specs.Ratio.{Ratio, ComplexRatio}
-use Rattle.exact_math.specs.Rounding.{floor_div, ceil_div}
+use Rattle.exact_math.specs.Ratio.{ComplexRatio}
 use Rattle.exact_math.specs.Sums.{sum_terms}
-use Rattle.exact_math.proofs.Ring.{int_ring}
-use Rattle.exact_math.proofs.RingTactic.{quotes, int_quotes, ring1, ring3}
+use Rattle.exact_math.proofs.RingTactic.{quotes, ring3}
 use Rattle.exact_math.proofs.Sums.{sum_list}
 use Rattle.exact_math.proofs.ComplexRationals.{complex_rationals, ◌*ℂ◌}
 use Rattle.exact_math.proofs.Fractions.{complex_value, Stands-itself, Stands-sub}
 use Rattle.exact_math.proofs.BoxEnclosures.{EnclosesBox, enclosed_from_contained}
-use Rattle.exact_math.proofs.Bridges.{contains-units}
 use Rattle.row_recursions.proofs.BoxSums.{units}
-use Rattle.truncation.specs.Entries.{Source, weight, sum_weights, exact_term}
-use Rattle.truncation.specs.Tails.{ceiling}
+use Rattle.truncation.specs.Entries.{Source, weight, exact_term}
 use Rattle.truncation.specs.Truncation.{Truncated}
-use Rattle.truncation.proofs.Counting.{neg_floor}
-use Rattle.truncation.proofs.Tails.{ceiling_is}
+use Rattle.truncation.proofs.Counting.{contains-div_ceil}
 use Rattle.soundness.specs.Accounts.{LeafSource}
 use Rattle.soundness.proofs.Boxes.{slack, IsNear}
 use Rattle.soundness.proofs.Terms.{source_in, sources_in, term_in_units, one_positive, exact_sum}
 
 -- a bound over s, rounded up, in units
-pub cut_off : (exact cut : ComplexRatio) (m s : ℕ) → 1 ≤ s → Truncated exact cut m s → IsNear (ceiling m s) (units *ℂ complex_value exact) (units *ℂ complex_value cut)
-cut_off exact cut m s least t = subst (EnclosesBox (slack (ceiling m s)))
+pub cut_off : (exact cut : ComplexRatio) (m s : ℕ) → 1 ≤ s → Truncated exact cut m s → IsNear (div_ceil m s) (units *ℂ complex_value exact) (units *ℂ complex_value cut)
+cut_off exact cut m s least t = subst (EnclosesBox (slack (div_ceil m s)))
     (ring3 complex_rationals units (complex_value exact) (complex_value cut) (λ u a b. search quotes depth 12) tt)
-    (enclosed_from_contained (pos (2 ^ 40)) (slack (ceiling m s)) (Stands-sub (Stands-itself exact t.exact_fraction) (Stands-itself cut t.cut_fraction)) (record { re = near t.re; im = near t.im }))
-  where
-    near : {x : Ratio} → Contains (pos (2 ^ 40 * s)) (neg_ℤ (pos m)) (pos m) x → Contains (pos (2 ^ 40)) (neg_ℤ (pos (ceiling m s))) (pos (ceiling m s)) x
-    near {x} k = subst₂ (λ l h. Contains (pos (2 ^ 40)) l h x) (neg_floor m s ∙ ap neg_ℤ (sym (ceiling_is m s least))) (sym (ceiling_is m s least)) (contains-units (pos (2 ^ 40)) (pos s) (omega (arith, ints)) k)
+    (enclosed_from_contained (pos (2 ^ 40)) (slack (div_ceil m s)) (Stands-sub (Stands-itself exact t.exact_fraction) (Stands-itself cut t.cut_fraction)) (record {
+      re = contains-div_ceil (pos (2 ^ 40)) m s least t.re;
+      im = contains-div_ceil (pos (2 ^ 40)) m s least t.im;
+    }))
 
 -- ---- all sources of an entry
 module _ (P : ℕ) (t : Gaussian) (cut : Source → ComplexRatio) (T s : ℕ) (Q : Source → Type 0)
-    (bound : (xs : List Source) → All Q xs → Truncated (sum_terms (exact_term t) xs) (sum_terms cut xs) (sum_weights P xs * T) s) where
-  weights_are : (xs : List LeafSource) → sum_weights P (sources_in xs) ≡ sum_by (λ x. weight P (source_in x)) xs
-  weights_are xs = sum_by_from (weight P) 0 (sources_in xs) ∙ from_nothing (sum_by (weight P) (sources_in xs)) ∙ images xs
-    where
-      from_nothing : (n : ℕ) → 0 + n ≡ n
-      from_nothing n = omega arith
-
-      images : (xs : List LeafSource) → sum_by (weight P) (sources_in xs) ≡ sum_by (λ x. weight P (source_in x)) xs
-      images [] = omega arith
-      images (x ∷ xs) = sum_by-cons (weight P) (source_in x) (sources_in xs) ∙ ap (λ n. weight P (source_in x) + n) (images xs) ∙ sym (sum_by-cons (λ x. weight P (source_in x)) x xs)
+    (bound : (xs : List Source) → All Q xs → Truncated (sum_terms (exact_term t) xs) (sum_terms cut xs) (sum_by (weight P) xs * T) s) where
+  weights_are : (xs : List LeafSource) → sum_by (weight P) (sources_in xs) ≡ sum_by (λ x. weight P (source_in x)) xs
+  weights_are [] = omega arith
+  weights_are (x ∷ xs) = sum_by-cons (weight P) (source_in x) (sources_in xs) ∙ ap (λ n. weight P (source_in x) + n) (weights_are xs) ∙ sym (sum_by-cons (λ x. weight P (source_in x)) x xs)
 
   single : (x : Source) → Q x → All Q (x ∷ [])
   single x h zero d l = h
   single x h (suc k) d l = absurd (omega arith)
 
   pub entry_near : 1 ≤ s → (xs : List LeafSource) → All (λ x. Q (source_in x)) xs
-      → IsNear (ceiling (sum_by (λ x. weight P (source_in x)) xs * T) s) (sum_list complex_rationals (term_in_units t) xs) (units *ℂ complex_value (sum_terms cut (sources_in xs)))
+      → IsNear (div_ceil (sum_by (λ x. weight P (source_in x)) xs * T) s) (sum_list complex_rationals (term_in_units t) xs) (units *ℂ complex_value (sum_terms cut (sources_in xs)))
   entry_near least xs each =
-      subst₂ (λ w z. IsNear (ceiling (w * T) s) z (units *ℂ complex_value (sum_terms cut (sources_in xs)))) (weights_are xs) (exact_sum t xs positive)
-      (cut_off _ _ (sum_weights P (sources_in xs) * T) s least (bound (sources_in xs) (All-map Q source_in xs each)))
+      subst₂ (λ w z. IsNear (div_ceil (w * T) s) z (units *ℂ complex_value (sum_terms cut (sources_in xs)))) (weights_are xs) (exact_sum t xs positive)
+      (cut_off _ _ (sum_by (weight P) (sources_in xs) * T) s least (bound (sources_in xs) (All-map Q source_in xs each)))
     where
       positive : All (λ x. pos 0 <ℤ (exact_term t (source_in x)).denominator) xs
       positive k d l = one_positive t (source_in (get_or xs k d)) (bound (source_in (get_or xs k d) ∷ []) (single (source_in (get_or xs k d)) (each k d l))).exact_fraction

@@ -5,13 +5,12 @@ use Rattle.std.proofs.Math.Nat.{pow-succ'}
 use Rattle.std.proofs.lemmas.Bool.{eqb-true, or_cases}
 use Rattle.std.proofs.lemmas.Int.{ints}
 use mathlib.Core.Logic.{⊎_elim, inl, inr}
-use Rattle.exact_math.specs.Gaussian.{Gaussian, gaussian, add_gaussian, sub_gaussian, norm_gaussian}
-use Rattle.exact_math.specs.Within.{Within}
+use Rattle.exact_math.specs.Gaussian.{Gaussian, gaussian, add_gaussian, sub_gaussian, norm_gaussian, scale_gaussian}
+use Rattle.exact_math.specs.Within.{Within, GaussianBeyond}
 use Rattle.cell_name.specs.Square.{Square, side, parent, doubled_centre_x, doubled_centre_y}
 use Rattle.cell_name.proofs.Distances.{same_side, centres_differ}
 use Rattle.near_field.proofs.PairContains.{norm_positive_re, norm_positive_im}
 use Rattle.row_recursions.specs.Cells.{sign}
-use Rattle.truncation.specs.Places.{GaussianBeyond, times_side}
 use Rattle.soundness.specs.Squares.{doubled_centre, quadrant, sides_between, IsQuarterOf, IsIn, CellsAreApart}
 use Rattle.soundness.specs.Accounts.{under}
 use Rattle.soundness.proofs.Nodes.{strong, under-root, under-parent}
@@ -67,21 +66,21 @@ along h m s t e = ⊎_elim
         omega (arith, ints)
 
 -- the quarter's centre from the parent's
-pub centre_of-quarter : (d c : Square) → IsQuarterOf d c → doubled_centre d ≡ add_gaussian (doubled_centre c) (times_side (side d) (quadrant d))
+pub centre_of-quarter : (d c : Square) → IsQuarterOf d c → doubled_centre d ≡ add_gaussian (doubled_centre c) (scale_gaussian (side d) (quadrant d))
 centre_of-quarter d c h =
     let e : side (parent d) ≡ 2 * side d = side_above d h.below_root h.in_grid in
-    subst (λ p. doubled_centre d ≡ add_gaussian (doubled_centre p) (times_side (side d) (quadrant d))) h.parent_is
+    subst (λ p. doubled_centre d ≡ add_gaussian (doubled_centre p) (scale_gaussian (side d) (quadrant d))) h.parent_is
     (ap₂ gaussian (along (pos (2 ^ (d.grid - 1))) d.i (side d) (side (parent d)) e) (along (pos (2 ^ (d.grid - 1))) d.j (side d) (side (parent d)) e))
 
 -- ---- cells that are apart
 pub sides_of-apart : (b c : Square) → CellsAreApart b c → side b ≡ side c
 sides_of-apart b c h = same_side b c h.grid h.level
 
-pub centres_of-apart : (b c : Square) → CellsAreApart b c → sub_gaussian (doubled_centre b) (doubled_centre c) ≡ times_side (2 * side b) (sides_between b c)
+pub centres_of-apart : (b c : Square) → CellsAreApart b c → sub_gaussian (doubled_centre b) (doubled_centre c) ≡ scale_gaussian (2 * side b) (sides_between b c)
 centres_of-apart b c h =
     let e = centres_differ b c h.grid h.level in
     ap₂ gaussian (moved (doubled_centre_x b) (doubled_centre_x c) _ e.0) (moved (doubled_centre_y b) (doubled_centre_y c) _ e.1)
-    ∙ ap (λ s. times_side (2 * s) (sides_between b c)) (sym (sides_of-apart b c h))
+    ∙ ap (λ s. scale_gaussian (2 * s) (sides_between b c)) (sym (sides_of-apart b c h))
   where
     moved : (x y d : ℤ) → x ≡ y +ℤ d → x -ℤ y ≡ d
     moved x y d e = omega (arith, ints)

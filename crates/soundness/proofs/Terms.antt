@@ -7,7 +7,7 @@ use Rattle.std.proofs.lemmas.Bool.{and_parts}
 use Rattle.std.proofs.lemmas.Bool.Decides.{Decides-int_eq}
 use Rattle.std.proofs.lemmas.List.Elements.{All-map, filter_passes}
 use Rattle.exact_math.specs.Ends.{zero_box}
-use Rattle.exact_math.specs.Gaussian.{Gaussian, sub_gaussian, norm_gaussian}
+use Rattle.exact_math.specs.Gaussian.{Gaussian, sub_gaussian, norm_gaussian, zero_gaussian}
 use Rattle.exact_math.specs.Sums.{sum_terms}
 use Rattle.exact_math.proofs.RingTactic.{quotes, ring1}
 use Rattle.exact_math.proofs.Sums.{sum_list, sum_list-congruence, sum_list-mul}
@@ -25,7 +25,6 @@ use Rattle.near_field.proofs.PairContains.{distance_positive, term_denominator, 
 use Rattle.points.specs.declared.Point.{Point}
 use Rattle.points.specs.declared.Strength.{Strength}
 use Rattle.points.specs.declared.Strength.TheVariants.{Pole, Dipole, Nothing}
-use Rattle.row_recursions.specs.Moments.{nothing}
 use Rattle.row_recursions.specs.Sources.{source_at, source_of}
 use Rattle.row_recursions.proofs.BoxSums.{units}
 use Rattle.row_recursions.proofs.MomentLaws.{value-nothing}
@@ -117,7 +116,7 @@ elsewhere t p h = by (is_at t p) refl
 same_term : (t z : Gaussian) (a : Strength) → complex_value (exact_term t (source_at z a)) ≡ complex_value (strength_term a (sub_gaussian t z))
 same_term t z (Pole re im) = refl
 same_term t z (Dipole re im) = refl
-same_term t z Nothing = pole-value nothing (sub_gaussian t z) ∙ ap (λ a. a *ℂ inverse_ℂ (value (sub_gaussian t z))) value-nothing ∙ times_zero (inverse_ℂ (value (sub_gaussian t z))) ∙ sym (Stands-zero.is)
+same_term t z Nothing = pole-value zero_gaussian (sub_gaussian t z) ∙ ap (λ a. a *ℂ inverse_ℂ (value (sub_gaussian t z))) value-nothing ∙ times_zero (inverse_ℂ (value (sub_gaussian t z))) ∙ sym (Stands-zero.is)
   where
     times_zero : (z : ℂ) → of_int_ℂ (pos 0) *ℂ z ≡ of_int_ℂ (pos 0)
     times_zero z = ring1 complex_rationals z (λ z. search quotes depth 9) tt

@@ -12,7 +12,7 @@ use Rattle.points.specs.declared.Point.{Point}
 use Rattle.row_recursions.specs.Rows.{source_moment, shifted_up, converted, far_source, shifted_down, local_value, multipole_value}
 use Rattle.row_recursions.specs.Sources.{source_of}
 use Rattle.truncation.specs.Entries.{weight}
-use Rattle.truncation.specs.Tails.{ceiling, pair_tail, single_tail}
+use Rattle.truncation.specs.Tails.{pair_radius, single_radius}
 use Rattle.soundness.specs.Squares.{offset, quadrant, sides_between}
 use Rattle.soundness.specs.Accounts.{LeafTarget, Accounting, children, sources_under, entries_of}
 
@@ -58,18 +58,18 @@ module _ (P : ℕ) (A : Accounting) where
   abbrev pub weight_under : ℕ → ℕ
   weight_under n = sum_by (λ x. weight P (source_of x.point)) (sources_under A n)
 
-  abbrev pub pair_radius : ℕ → Entry → ℕ
-  pair_radius s e = ceiling (weight_under e.c * pair_tail P) s
+  abbrev pub pair_radius_of : ℕ → Entry → ℕ
+  pair_radius_of s e = pair_radius P (weight_under e.c) s
 
-  abbrev pub single_radius : ℕ → Entry → ℕ
-  single_radius s e = ceiling (weight_under e.c * single_tail P) s
+  abbrev pub single_radius_of : ℕ → Entry → ℕ
+  single_radius_of s e = single_radius P (weight_under e.c) s
 
   abbrev pub radius_above : ℕ → ℕ
   radius_above zero = 0
   radius_above (suc n) = A.radius (A.parent (suc n))
 
   abbrev pub local_radius : ℕ → ℕ
-  local_radius n = radius_above n + (sum_by (pair_radius (side (A.cell n))) (entries_of A V n) + sum_by (single_radius (side (A.cell n))) (entries_of A X n))
+  local_radius n = radius_above n + (sum_by (pair_radius_of (side (A.cell n))) (entries_of A V n) + sum_by (single_radius_of (side (A.cell n))) (entries_of A X n))
 
   -- ---- the box of a target: the value of its leaf's local row, those of the W entries, and the pairs of the U entries
   abbrev pub local_at : ℕ → Gaussian → BoxEnds
@@ -82,7 +82,7 @@ module _ (P : ℕ) (A : Accounting) where
   pairs_at n t = total_box (λ e. total_box (λ x. pair_box t x.point) (sources_under A e.c)) (entries_of A U n)
 
   abbrev pub target_radius : ℕ → ℕ
-  target_radius n = A.radius n + sum_by (λ e. single_radius (side (A.cell e.c)) e) (entries_of A W n)
+  target_radius n = A.radius n + sum_by (λ e. single_radius_of (side (A.cell e.c)) e) (entries_of A W n)
 
   -- widened by what all its entries can lose
   abbrev pub target_box : LeafTarget → BoxEnds

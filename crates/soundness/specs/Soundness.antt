@@ -1,13 +1,14 @@
 -- The soundness of an accounting.
-use Rattle.std.specs.Prelude.{ℕ, ◌≤◌, ◌^◌, pos, All}
+use Rattle.std.specs.Prelude.{ℕ, ◌≤◌, All}
 use Rattle.exact_math.specs.Ends.{BoxEndsContain}
+use Rattle.exact_math.specs.Units.{unit}
 use Rattle.near_field.specs.DirectSum.{direct_sum}
 use Rattle.soundness.specs.Accounts.{Accounting, points_of}
 use Rattle.soundness.specs.Rules.{Rules}
 
 -- the box of each target contains the direct sum of all sources
 abbrev pub BoxesContain : Accounting → Type 0
-BoxesContain A = All (λ t. BoxEndsContain (pos (2 ^ 40)) t.box (direct_sum t.place (points_of A.sources))) A.targets
+BoxesContain A = All (λ t. BoxEndsContain unit t.box (direct_sum t.place (points_of A.sources))) A.targets
 
 -- at every order from 2 on, whatever is presented
 abbrev pub RulesImplyContainment : Type 0

@@ -2,13 +2,9 @@
 use Rattle.std.specs.Prelude.{◌≡◌, ◌%◌, ◌*◌, ◌≤◌, ◌<◌, ◌==◌}
 use Rattle.exact_math.specs.Gaussian.{Gaussian, gaussian}
 use Rattle.cell_name.specs.Square.{Square, side, parent}
-use Rattle.truncation.specs.Places.{GaussianWithin, GaussianBeyond, doubled_offset}
+use Rattle.exact_math.specs.Within.{GaussianWithin, GaussianBeyond}
 use Rattle.row_recursions.specs.Cells.{sign}
-pub use Rattle.row_recursions.specs.Geometry.{doubled_centre, sides_between}
-
--- the doubled offset of a place from the centre
-abbrev pub offset : Square → Gaussian → Gaussian
-offset c z = doubled_offset z (doubled_centre c)
+pub use Rattle.row_recursions.specs.Geometry.{doubled_centre, offset, sides_between}
 
 -- the quadrant of a cell in its parent: 1 for the right and for the top half, -1 for the other
 abbrev pub quadrant : Square → Gaussian

@@ -43,20 +43,3 @@ pub fn single_tail(order: u32) -> i128
     }
     i128::from(tail)
 }
-
-#[cfg(test)]
-mod tests {
-    use super::*;
-    use std::test::Fail;
-
-    #[test]
-    fn tails_of_the_orders(rt: HostRuntime) -> Result<(), Fail> {
-        assert_eq!(rt; pair_tail(1), 1_205_915_978_852);
-        assert_eq!(rt; pair_tail(4), 198_874_331_312);
-        assert_eq!(rt; pair_tail(8), 17_985_712_319);
-        assert_eq!(rt; single_tail(1), 519_213_824_228);
-        assert_eq!(rt; single_tail(4), 54_674_586_730);
-        assert_eq!(rt; single_tail(8), 2_718_762_002);
-        Ok(())
-    }
-}

@@ -1,22 +1,22 @@
 -- How much an entry can lose at most.
 use Rattle.std.proofs.Common.{ℕ, ◌≡◌, ◌+◌, ◌-◌, ◌*◌, ◌^◌, ◌<◌, ◌≤◌, ℤ, pos, ◌+ℤ◌, ◌≤ℤ◌, unsigned_abs, to_z, of_z, arith}
-use Rattle.std.specs.Int.{w128}
+use Rattle.std.specs.Int.{w128, div_ceil}
 use Rattle.std.proofs.lemmas.Int.{ints}
-use Rattle.std.proofs.Math.Nat.{div-le_self, mul-le-mul_right}
-use Rattle.truncation.specs.Tails.{ceiling, single_tail}
-use Rattle.truncation.proofs.Tails.{single_tail_le}
+use Rattle.std.proofs.Math.Nat.{mul-le-mul_right}
+use Rattle.truncation.specs.Tails.{single_radius}
+use Rattle.truncation.proofs.Tails.{single_tail_le, div_ceil-le}
 use Rattle.tree_rows.specs.FlatRows.{IsWeight}
 
-loss_small : (w t s : ℕ) → w ≤ 2 ^ 32 → t ≤ 2 ^ 40 → s ≤ 65536 → ceiling (w * t) s ≤ 2 ^ 73
+loss_small : (w t s : ℕ) → w ≤ 2 ^ 32 → t ≤ 2 ^ 40 → 1 ≤ s → div_ceil (w * t) s ≤ 2 ^ 73
 loss_small w t s hw ht hs =
-    let a = div-le_self (w * t + (s - 1)) s in
+    let a = div_ceil-le (w * t) s hs in
     let b : w * t ≤ 2 ^ 32 * t = mul-le-mul_right t hw in
-    omega (arith, a, b, ht, hs)
+    omega (arith, a, b, ht)
 
-pub loss_at : (weight : ℤ) (order : ℕ) (side : ℤ) → IsWeight weight → pos 1 ≤ℤ side → side ≤ℤ pos 65536 → ceiling (unsigned_abs weight * single_tail order) (unsigned_abs side) ≤ 2 ^ 73
+pub loss_at : (weight : ℤ) (order : ℕ) (side : ℤ) → IsWeight weight → pos 1 ≤ℤ side → side ≤ℤ pos 65536 → single_radius order (unsigned_abs weight) (unsigned_abs side) ≤ 2 ^ 73
 loss_at weight order side w least most =
     let a : unsigned_abs weight ≤ 2 ^ 32 = omega (arith, ints, w.least, w.most) in
-    let s : unsigned_abs side ≤ 65536 = omega (arith, ints, least, most) in
+    let s : 1 ≤ unsigned_abs side = omega (arith, ints, least) in
     loss_small _ _ _ a (single_tail_le order) s
 
 -- the sum of two radii, as it is computed

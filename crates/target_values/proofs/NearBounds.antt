@@ -5,9 +5,9 @@ use Rattle.std.proofs.lemmas.List.Sums.{sum_by-le, sum_by-le-sum_by}
 use Rattle.exact_math.specs.Gaussian.{Gaussian}
 use Rattle.cell_name.specs.Square.{Square}
 use Rattle.cell_lists.specs.Lists.{AreLists}
-use Rattle.cell_lists.specs.Row.{row}
-use Rattle.cell_lists.specs.declared.entry_lists.EntryLists.{EntryLists}
-use Rattle.cell_lists.proofs.TreeNumbers.{tree_cell_at}
+use Rattle.cell_lists.specs.ListAt.{list_at}
+use Rattle.cell_lists.specs.EntryLists.{EntryListsModel}
+use Rattle.quadtree.proofs.TreeChildren.{tree_cell_at}
 use Rattle.letters.specs.declared.Letter.TheVariants.{U}
 use Rattle.field_sizes.proofs.Disjoint.{entries_share_no_source}
 use Rattle.near_field.specs.Pair.{is_at}
@@ -31,16 +31,16 @@ count_apart-le z some = sum_by-le-sum_by (λ p. cond (not (is_at z p)) 1 0) (λ 
     one true = omega arith
     one false = omega arith
 
-pub near_count-le : (tree : TreeModel) (lists : EntryLists) (points : List Point) (cap : ℕ) → AreInGrid 16 points → IsTreeOf 16 tree points cap → AreLists tree lists → (b : ℕ) → b < size tree → (z : Gaussian) → near_count tree lists points b z ≤ length points
+pub near_count-le : (tree : TreeModel) (lists : EntryListsModel) (points : List Point) (cap : ℕ) → AreInGrid 16 points → IsTreeOf 16 tree points cap → AreLists tree lists → (b : ℕ) → b < size tree → (z : Gaussian) → near_count tree lists points b z ≤ length points
 near_count-le tree lists points cap inside h are b lt z =
     let f : Square → ℕ = λ c. count (sources_in points c) in
     let field = each_list_has_tree 16 points cap (lit< tt) inside in
     let entries = (lists_of_tree tree lists points cap field.0 inside h are field.1).entries U b lt in
     let below = (are.each points cap inside h U b lt).numbers in
-    let near = sum_by-le-sum_by (λ c. count_apart z (sources_of tree lists points c)) (λ c. count (sources_of tree lists points c)) (row lists.u b) (λ c. count_apart-le z (sources_of tree lists points c)) in
-    let same : sum_by (λ c. count (sources_of tree lists points c)) (row lists.u b) ≡ sum_by f (field.0.entries U (square_of tree b)) =
-    sum_by-same (λ c. count (sources_of tree lists points c)) (λ c. f (square_of tree c)) (row lists.u b) (λ i d l. ap count ((nodes_of_tree tree points cap inside h (get_or (row lists.u b) i d) (below i d l)).members no_point))
-    ∙ sym (ap (sum_by f) entries ∙ sum_by-map f (square_of tree) (row lists.u b)) in
+    let near = sum_by-le-sum_by (λ c. count_apart z (sources_of tree lists points c)) (λ c. count (sources_of tree lists points c)) (list_at lists.u b) (λ c. count_apart-le z (sources_of tree lists points c)) in
+    let same : sum_by (λ c. count (sources_of tree lists points c)) (list_at lists.u b) ≡ sum_by f (field.0.entries U (square_of tree b)) =
+    sum_by-same (λ c. count (sources_of tree lists points c)) (λ c. f (square_of tree c)) (list_at lists.u b) (λ i d l. ap count ((nodes_of_tree tree points cap inside h (get_or (list_at lists.u b) i d) (below i d l)).members no_point))
+    ∙ sym (ap (sum_by f) entries ∙ sum_by-map f (square_of tree) (list_at lists.u b)) in
     let most = entries_share_no_source 16 points cap field.0 (lit< tt) inside field.1 U (square_of tree b) (tree_cell_at tree points cap b h lt) (λ p. 1) in
     let all = sum_by-le (λ (p : Point). 1) 1 points (λ k d l. omega arith) in
     omega (arith, near, same, most, all)

@@ -10,9 +10,9 @@ use Rattle.std.proofs.lemmas.List.Sums.{length-filter, count_by-le-length}
 use Rattle.std.proofs.Math.Nat.{mul-le-mul_right}
 use Rattle.exact_math.specs.Ends.{BoxEndsWithin}
 use Rattle.cell_lists.specs.Entries.{IsEntry}
-use Rattle.cell_lists.specs.Lists.{IsListOf, AreLists, lists_of}
-use Rattle.cell_lists.specs.Row.{row}
-use Rattle.cell_lists.specs.declared.entry_lists.EntryLists.{EntryLists}
+use Rattle.cell_lists.specs.EntryLists.{lists_of, EntryListsModel}
+use Rattle.cell_lists.specs.Lists.{IsListOf, AreLists}
+use Rattle.cell_lists.specs.ListAt.{list_at}
 use Rattle.letters.specs.declared.Letter.{Letter}
 use Rattle.complex_box.specs.Box.{box_ends, BoxWithin}
 use Rattle.complex_box.specs.Rows.{zero_cbox}
@@ -25,7 +25,7 @@ use Rattle.quadtree.specs.TreeModel.{TreeModel, IsTreeOf, size, square_of, node_
 use Rattle.quadtree.proofs.Distinct.{Contains-filter}
 use Rattle.row_recursions.specs.Rows.{row_of}
 use Rattle.row_recursions.specs.Sizes.{RowWithin}
-use Rattle.tree_field.proofs.Members.{All-from_members, range_below}
+use Rattle.quadtree.proofs.Lists.{All-from_members, range_below}
 use Rattle.tree_rows.specs.FlatRows.{row_at, AreSameRows}
 
 -- ascending numbers below n are no more than n
@@ -46,8 +46,8 @@ few_below n (x ∷ xs) below up =
         omega (arith, next, f, h)
 
 -- ---- a list of entries, as it is read
-module _ (tree : TreeModel) (lists : EntryLists) (points : List Point) (cap : ℕ) (inside : AreInGrid 16 points) (h : IsTreeOf 16 tree points cap) (are : AreLists tree lists) (letter : Letter) (b : ℕ) (lt : b < size tree)
-    (items : List ℕ) (is : items ≡ row (lists_of lists letter) b) where
+module _ (tree : TreeModel) (lists : EntryListsModel) (points : List Point) (cap : ℕ) (inside : AreInGrid 16 points) (h : IsTreeOf 16 tree points cap) (are : AreLists tree lists) (letter : Letter) (b : ℕ) (lt : b < size tree)
+    (items : List ℕ) (is : items ≡ list_at (lists_of lists letter) b) where
   pub list_of : IsListOf tree points cap letter b items
   list_of = subst (IsListOf tree points cap letter b) (sym is) (are.each points cap inside h letter b lt)
 

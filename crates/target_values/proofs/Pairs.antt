@@ -7,8 +7,8 @@ use Rattle.std.proofs.lemmas.Option.{slice_get-get_or}
 use Rattle.cell_name.specs.Square.{Square, holds_test}
 use Rattle.cell_name.proofs.HoldsTest.{Holds-from_test, test-from_Holds}
 use Rattle.cell_lists.specs.Lists.{AreLists}
-use Rattle.cell_lists.specs.Row.{row}
-use Rattle.cell_lists.specs.declared.entry_lists.EntryLists.{EntryLists}
+use Rattle.cell_lists.specs.ListAt.{list_at}
+use Rattle.cell_lists.specs.EntryLists.{EntryListsModel}
 use Rattle.cell_lists.proofs.CellNumbers.{same_number}
 use Rattle.letters.specs.declared.Letter.TheVariants.{U}
 use Rattle.points.specs.Points.{is_source, place}
@@ -19,7 +19,7 @@ use Rattle.tree_field.specs.Field.{sources_in}
 use Rattle.tree_field.specs.Lists.{TreeLists, AreTreeLists}
 use Rattle.tree_field.specs.Work.{targets_in, pairs_between, pairs}
 use Rattle.tree_field.proofs.Leaves.{only_leaf}
-use Rattle.tree_field.proofs.Members.{All-from_members, AllPairs-both, AllPairs-range, Contains-range, filter-filter, range_below}
+use Rattle.quadtree.proofs.Lists.{All-from_members, AllPairs-both, AllPairs-range, Contains-range, filter-filter, range_below}
 use Rattle.tree_field.proofs.Program.{nodes_of_tree, leaves_of_tree}
 use Rattle.tree_field.proofs.Sums.{sum_by-map, sum_by-same}
 use Rattle.tree_field.proofs.Work.{work_of_tree}
@@ -35,10 +35,10 @@ no_members [] none = refl
 no_members (x ∷ xs) none = absurd (none x (0, omega arith, refl))
 
 -- the pairs of the target at a position with the sources of the U entries of a leaf
-abbrev pub count_at : TreeModel → EntryLists → List Point → ℕ → ℕ → ℕ
+abbrev pub count_at : TreeModel → EntryListsModel → List Point → ℕ → ℕ → ℕ
 count_at tree lists points n k = near_count tree lists points n (place (point_at points k))
 
-module _ (tree : TreeModel) (lists : EntryLists) (points : List Point) (cap : ℕ) (inside : AreInGrid 16 points) (h : IsTreeOf 16 tree points cap) (are : AreLists tree lists) where
+module _ (tree : TreeModel) (lists : EntryListsModel) (points : List Point) (cap : ℕ) (inside : AreInGrid 16 points) (h : IsTreeOf 16 tree points cap) (are : AreLists tree lists) where
   abbrev counted : ℕ → ℕ → ℕ
   counted n k = count_at tree lists points n k
 
@@ -47,10 +47,10 @@ module _ (tree : TreeModel) (lists : EntryLists) (points : List Point) (cap : �
   share n k = cond (holds_test (square_of tree n) (point_at points k).x (point_at points k).y) (counted n k) 0
 
   -- the pairs of one cell, target after target
-  pairs_of_cell : (n : ℕ) → n < size tree → sum_by (λ m. pairs_between points (square_of tree n) (square_of tree m)) (row lists.u n) ≡ sum_by (share n) (target_positions points)
+  pairs_of_cell : (n : ℕ) → n < size tree → sum_by (λ m. pairs_between points (square_of tree n) (square_of tree m)) (list_at lists.u n) ≡ sum_by (share n) (target_positions points)
   pairs_of_cell n lt =
       let b : Square = square_of tree n in
-      let us : List ℕ = row lists.u n in
+      let us : List ℕ = list_at lists.u n in
       let f : Point → ℕ = λ t. near_count tree lists points n (place t) in
       let held : Point → Bool = λ t. holds_test b t.x t.y in
       let below = (are.each points cap inside h U n lt).numbers in
@@ -68,7 +68,7 @@ module _ (tree : TreeModel) (lists : EntryLists) (points : List Point) (cap : �
   no_pairs n lt k is ne = step (holds_test (square_of tree n) (point_at points k).x (point_at points k).y) none
     where
       none : holds_test (square_of tree n) (point_at points k).x (point_at points k).y ≡ true → counted n k ≡ 0
-      none held = ap (sum_by (λ c. count_apart (place (point_at points k)) (sources_of tree lists points c))) (no_members (row lists.u n) (λ c m.
+      none held = ap (sum_by (λ c. count_apart (place (point_at points k)) (sources_of tree lists points c))) (no_members (list_at lists.u n) (λ c m.
           let l = are.each points cap inside h U n lt in
           let p : Point = point_at points k in
           let e = (l.exact c (numbers_below c m)).0 m in
@@ -77,7 +77,7 @@ module _ (tree : TreeModel) (lists : EntryLists) (points : List Point) (cap : �
           ne (same_number tree h.cells_are.ascending n (leaf_of tree k) lt (leaf_at_position tree points cap h k no_point is.inside).in_range
           (leaf ∙ leaves_of_tree tree points cap inside h k p (slice_get-get_or points k no_point is.inside)))))
         where
-          numbers_below : (c : ℕ) → Contains (row lists.u n) c → c < size tree
+          numbers_below : (c : ℕ) → Contains (list_at lists.u n) c → c < size tree
           numbers_below c m = let all = (are.each points cap inside h U n lt).numbers m.0 c m.1 in omega (arith, all, m.2)
 
       step : (b : Bool) → (b ≡ true → counted n k ≡ 0) → cond b (counted n k) 0 ≡ 0
@@ -101,6 +101,6 @@ module _ (tree : TreeModel) (lists : EntryLists) (points : List Point) (cap : �
       let r : List ℕ = range_with_len 0 (size tree) in
       let positions : List ℕ = target_positions points in
       sym ((work_of_tree tree lists points cap field inside h are given).pairs_are
-      ∙ sum_by-same (λ n. sum_by (λ m. pairs_between points (square_of tree n) (square_of tree m)) (row lists.u n)) (λ n. sum_by (share n) positions) r (All-from_members (λ n. sum_by (λ m. pairs_between points (square_of tree n) (square_of tree m)) (row lists.u n) ≡ sum_by (share n) positions) r (λ n m. pairs_of_cell n (range_below (size tree) n m)))
+      ∙ sum_by-same (λ n. sum_by (λ m. pairs_between points (square_of tree n) (square_of tree m)) (list_at lists.u n)) (λ n. sum_by (share n) positions) r (All-from_members (λ n. sum_by (λ m. pairs_between points (square_of tree n) (square_of tree m)) (list_at lists.u n) ≡ sum_by (share n) positions) r (λ n m. pairs_of_cell n (range_below (size tree) n m)))
       ∙ sum_by-exchange share r positions
       ∙ sum_by-same (λ k. sum_by (λ n. share n k) r) (λ k. counted (leaf_of tree k) k) positions (λ i d l. pairs_of_target (get_or positions i d) (positions_are points i d l)))

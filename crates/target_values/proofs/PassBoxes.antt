@@ -8,7 +8,7 @@ use Rattle.std.proofs.lemmas.Simd.{map-map}
 use Rattle.exact_math.specs.Ends.{BoxEnds, BoxEndsContain, BoxEndsWithin}
 use Rattle.exact_math.specs.Orders.{IsOrder}
 use Rattle.cell_lists.specs.Lists.{AreLists}
-use Rattle.cell_lists.specs.declared.entry_lists.EntryLists.{EntryLists}
+use Rattle.cell_lists.specs.EntryLists.{EntryListsModel}
 use Rattle.complex_box.specs.Box.{box_ends, BoxWithin}
 use Rattle.complex_box.specs.declared.CBox.{CBox}
 use Rattle.field_sizes.proofs.Bounds.{boxes_within}
@@ -53,7 +53,7 @@ module _ {A : Type 0} (f : A → BoxEnds) (xs : List A) (values : List CBox) (i 
       ∙ sym (map_more f xs i d lx)
 
 -- ---- all boxes
-module _ (points : List Point) (P : ℕ) (tree : TreeModel) (lists : EntryLists) (up local : List CBox) (weights radii : List ℤ) where
+module _ (points : List Point) (P : ℕ) (tree : TreeModel) (lists : EntryListsModel) (up local : List CBox) (weights radii : List ℤ) where
   -- the value of the target at a position
   abbrev pub value_of : ℕ → BoxEnds
   value_of k = value_at P tree lists points up local weights (get_or radii (leaf_of tree k) (pos 0)) (leaf_of tree k) (place (point_at points k))

@@ -9,8 +9,8 @@ use Rattle.std.proofs.lemmas.List.Folds.{map_fixed}
 use Rattle.std.proofs.lemmas.List.FromFn.{fill_by_all, filter_of_map_range_with_len_more, length-range_with_len}
 use Rattle.std.proofs.lemmas.List.Sums.{length-filter, count_by-le-length}
 use Rattle.cell_lists.specs.Lists.{AreLists}
-use Rattle.cell_lists.specs.Row.{row}
-use Rattle.cell_lists.specs.declared.entry_lists.EntryLists.{EntryLists}
+use Rattle.cell_lists.specs.ListAt.{list_at}
+use Rattle.cell_lists.specs.EntryLists.{EntryListsModel}
 use Rattle.letters.specs.declared.Letter.TheVariants.{W}
 use Rattle.complex_box.specs.declared.CBox.{CBox}
 use Rattle.points.proofs.Slices.{first_point}
@@ -21,7 +21,7 @@ use Rattle.quadtree.specs.TreeModel.{TreeModel, IsTreeOf, size, square_of, leaf_
 use Rattle.quadtree.proofs.Distinct.{Contains-filter}
 use Rattle.tree_field.specs.Field.{targets}
 use Rattle.tree_field.specs.Lists.{TreeLists}
-use Rattle.tree_field.proofs.Members.{All-from_members, filter-map, range_below}
+use Rattle.quadtree.proofs.Lists.{All-from_members, filter-map, range_below}
 use Rattle.tree_rows.specs.FieldRows.{AreFieldRows, AreWeights}
 use Rattle.target_values.specs.Field.{AreRowsOfLeaf}
 use Rattle.target_values.specs.Points.{no_point, point_at}
@@ -94,7 +94,7 @@ leaf_in_tree points cap tree h positions e i lt b is =
     omega (arith, is, l.in_range)
 
 -- its rows are among those of all cells
-pub rows_of_leaf : (points : List Point) (cap P : ℕ) (tree : TreeModel) (lists : EntryLists) (field : TreeLists) → AreInGrid 16 points → AreLists tree lists → (up local : List CBox) (weights radii : List ℤ)
+pub rows_of_leaf : (points : List Point) (cap P : ℕ) (tree : TreeModel) (lists : EntryListsModel) (field : TreeLists) → AreInGrid 16 points → AreLists tree lists → (up local : List CBox) (weights radii : List ℤ)
     → AreFieldRows points cap P tree field up local radii → AreWeights points P tree weights → (k : ℕ) → IsTargetPosition points k
     → AreRowsOfLeaf points cap P tree lists field up local weights (get_or radii (leaf_of tree k) (pos 0)) (leaf_of tree k)
 rows_of_leaf points cap P tree lists field inside are up local weights radii rows weigh k is =
@@ -104,7 +104,7 @@ rows_of_leaf points cap P tree lists field inside are up local weights radii row
     let target = has_target points cap tree h k is in
     record {
       field_is = rows.field_is;
-      up_are = record { each = λ n m. rows.up_are.each n (All-contains (λ n. n < size tree) (row lists.w b) n (are.each points cap inside h W b lt).numbers m) };
+      up_are = record { each = λ n m. rows.up_are.each n (All-contains (λ n. n < size tree) (list_at lists.w b) n (are.each points cap inside h W b lt).numbers m) };
       weights_are = weigh;
       local_is = (rows.local_are.each b lt).row_is target;
       radius_is = (rows.radii_are.each b lt).radius_is target;

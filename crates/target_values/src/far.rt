@@ -1,6 +1,5 @@
 //! The values of the rows of a leaf's W entries at a target, and what they can lose.
 ghost use Rattle.std.specs.Prelude.{◌≡◌, ◌+◌, ◌*◌, ◌^◌, ◌<◌, ◌≤◌, length, pos, unsigned_abs, All};
-ghost use Rattle.exact_math.specs.Ends.{BoxEndsWithin};
 ghost use Rattle.exact_math.specs.Orders.{IsOrder};
 ghost use Rattle.complex_box.specs.Box.{box_ends, BoxWithin};
 ghost use Rattle.cell_lists.specs.Lists.{AreLists};
@@ -11,8 +10,8 @@ ghost use Rattle.points.specs.Points.{place};
 ghost use Rattle.quadtree.specs.TreeModel.{size, square_of, IsTree};
 ghost use Rattle.row_recursions.specs.Cells.{side_of, offset_from};
 ghost use Rattle.row_recursions.specs.Rows.{multipole_value};
-ghost use Rattle.truncation.specs.Places.{GaussianBeyond};
-ghost use Rattle.truncation.specs.Tails.{ceiling, single_tail};
+ghost use Rattle.exact_math.specs.Within.{GaussianBeyond};
+ghost use Rattle.truncation.specs.Tails.{single_radius};
 ghost use Rattle.tree_rows.specs.FlatRows.{IsWeight, row_at};
 ghost use Rattle.target_values.specs.Values.{far_values, far_radius};
 
@@ -33,7 +32,7 @@ fn far_value<const P: usize>(up: &[CBox], n: usize, cell: Cell, target: &Point) 
     requires far { GaussianBeyond (3 * side_of cell) (offset_from cell (place target.now)) }
     requires size { All (BoxWithin (2 ^ 80)) up.now }
     ensures ends { box_ends result ≡ multipole_value P (row_at P up.now n) (side_of cell) (offset_from cell (place target.now)) }
-    ensures size { BoxEndsWithin (2 ^ 85) (box_ends result) }
+    ensures size { BoxWithin (2 ^ 85) result }
 {
     let row = Row::<P>::new(&up[n * P..(n + 1) * P]);
     at_multipole(row, cell, target.x, target.y)
@@ -56,7 +55,7 @@ pub(crate) fn far_values<const P: usize>(
     requires len { length up.now ≡ size tree.now * P }
     requires size { All (BoxWithin (2 ^ 80)) up.now }
     ensures ends { box_ends result ≡ far_values P tree.now lists.now up.now b (place target.now) }
-    ensures size { BoxEndsWithin (2 ^ 101) (box_ends result) }
+    ensures size { BoxWithin (2 ^ 101) result }
 {
     let mut sum = CBox::zero();
     for c in lists.w_list(b) {
@@ -71,9 +70,9 @@ fn add_loss(ledger: &mut Ledger, weight: i128, cell: Cell, order: u32)
     requires weight { IsWeight weight }
     requires least { 1 ≤ order }
     requires most { order ≤ 32 }
-    requires room { ledger.old.radius ≤ 2 ^ 99 }
-    ensures added { ledger.new.radius ≡ ledger.old.radius + ceiling (unsigned_abs weight * single_tail order) (side (square cell)) }
-    ensures little { ledger.new.radius ≤ ledger.old.radius + 2 ^ 73 }
+    requires room { ledger.old ≤ 2 ^ 99 }
+    ensures added { ledger.new ≡ ledger.old + single_radius order (unsigned_abs weight) (side (square cell)) }
+    ensures little { ledger.new ≤ ledger.old + 2 ^ 73 }
 {
     ledger.add_single(weight, cell.side(), order);
 }

@@ -8,8 +8,6 @@ mod far;
 mod near;
 mod pass;
 mod targets;
-#[cfg(test)]
-mod tests;
 mod value;
 
 pub use pass::value_pass;

@@ -1,8 +1,9 @@
 //! The pairs of a target with the sources of its leaf's U entries.
 ghost use Rattle.std.specs.Prelude.{◌≡◌, ℕ, ◌+◌, ◌^◌, ◌<◌, ◌≤◌, length, [], ◌∷◌, fold, All};
-ghost use Rattle.exact_math.specs.Ends.{BoxEndsWithin, add_box};
-ghost use Rattle.complex_box.specs.Box.{box_ends};
+ghost use Rattle.exact_math.specs.Ends.{add_box};
+ghost use Rattle.complex_box.specs.Box.{box_ends, BoxWithin};
 ghost use Rattle.cell_lists.specs.Lists.{AreLists};
+ghost use Rattle.cell_lists.specs.ListAt.{list_at};
 ghost use Rattle.points.specs.Points.{place};
 ghost use Rattle.near_field.specs.Pair.{pair_box};
 ghost use Rattle.points.specs.Limits.{InGrid, InRange};
@@ -22,10 +23,10 @@ use quadtree::Tree;
 fn with_pair(sum: CBox, p: &Point, target: &Point, work: &mut Work) -> CBox
     requires range { InRange p.now }
     requires grid { InGrid target.now.x target.now.y }
-    requires size { BoxEndsWithin (2 ^ 100) (box_ends sum) }
+    requires size { BoxWithin (2 ^ 100) sum }
     requires room { work.old.pairs < 2 ^ 63 }
     ensures ends { box_ends result ≡ fold (λ b q. add_box b (pair_box (place target.now) q)) (box_ends sum) (sources (p.now ∷ [])) }
-    ensures size { (n : ℕ) → BoxEndsWithin n (box_ends sum) → BoxEndsWithin (n + 2 ^ 67) (box_ends result) }
+    ensures size { (n : ℕ) → BoxWithin n sum → BoxWithin (n + 2 ^ 67) result }
     ensures pairs { work.new.pairs ≡ work.old.pairs + count_apart (place target.now) (sources (p.now ∷ [])) }
     ensures translations { work.new.translations ≡ work.old.translations }
 {
@@ -43,7 +44,7 @@ fn pairs_with(points: &[Point], members: &[u32], target: &Point, work: &mut Work
     requires grid { InGrid target.now.x target.now.y }
     requires room { work.old.pairs + length members.now < 2 ^ 63 }
     ensures ends { box_ends result ≡ total_box (pair_box (place target.now)) (sources_at points.now members.now) }
-    ensures size { BoxEndsWithin (2 ^ 83) (box_ends result) }
+    ensures size { BoxWithin (2 ^ 83) result }
     ensures pairs { work.new.pairs ≡ work.old.pairs + count_apart (place target.now) (sources_at points.now members.now) }
     ensures few { work.new.pairs ≤ work.old.pairs + 2 ^ 16 }
     ensures translations { work.new.translations ≡ work.old.translations }
@@ -70,7 +71,7 @@ pub(crate) fn near_pairs(
     requires grid { InGrid target.now.x target.now.y }
     requires room { work.old.pairs < 2 ^ 62 }
     ensures ends { box_ends result ≡ near_pairs tree.now lists.now points.now b (place target.now) }
-    ensures size { BoxEndsWithin (2 ^ 99) (box_ends result) }
+    ensures size { BoxWithin (2 ^ 99) result }
     ensures pairs { work.new.pairs ≡ work.old.pairs + near_count tree.now lists.now points.now b (place target.now) }
     ensures few { work.new.pairs ≤ work.old.pairs + length points.now }
     ensures translations { work.new.translations ≡ work.old.translations }

@@ -1,9 +1,9 @@
 //! The boxes of all targets.
 ghost use Rattle.std.specs.Prelude.{ℕ, ◌≡◌, ◌+◌, ◌*◌, ◌^◌, ◌<◌, pos, ◌≤ℤ◌, length, map, All};
 ghost use Rattle.std.specs.List.{AllZip};
-ghost use Rattle.exact_math.specs.Ends.{BoxEndsContain};
 ghost use Rattle.exact_math.specs.Orders.{IsOrder};
-ghost use Rattle.complex_box.specs.Box.{box_ends, BoxWithin};
+ghost use Rattle.exact_math.specs.Units.{unit};
+ghost use Rattle.complex_box.specs.Box.{box_ends, BoxWithin, BoxContains};
 ghost use Rattle.near_field.specs.DirectSum.{direct_sum};
 ghost use Rattle.points.specs.Points.{place};
 ghost use Rattle.quadtree.specs.TreeModel.{size};
@@ -59,7 +59,7 @@ pub fn value_pass<const P: usize>(
     requires room { work.old.pairs < 2 ^ 61 }
     ensures len { length values.new ≡ length values.old }
     ensures values { (cap : ℕ) (field : TreeLists) → AreFieldRows points.now cap P tree.now field up.now local.now radii.now → map box_ends values.new ≡ target_boxes points.now cap P field 16 }
-    ensures contains { (cap : ℕ) (field : TreeLists) → AreFieldRows points.now cap P tree.now field up.now local.now radii.now → AllZip (λ t v. BoxEndsContain (pos (2 ^ 40)) (box_ends v) (direct_sum (place t) points.now)) (targets points.now) values.new }
+    ensures contains { (cap : ℕ) (field : TreeLists) → AreFieldRows points.now cap P tree.now field up.now local.now radii.now → AllZip (λ t v. BoxContains unit v (direct_sum (place t) points.now)) (targets points.now) values.new }
     ensures small { (cap : ℕ) (field : TreeLists) → AreFieldRows points.now cap P tree.now field up.now local.now radii.now → All (BoxWithin (2 ^ 84)) values.new }
     ensures pairs { (cap : ℕ) (field : TreeLists) → IsFieldOf points.now cap tree.now field → work.new.pairs ≡ work.old.pairs + pairs points.now field }
     ensures translations { work.new.translations ≡ work.old.translations }

@@ -1,8 +1,8 @@
 //! The box of a target.
 ghost use Rattle.std.specs.Prelude.{◌≡◌, ℕ, ◌+◌, ◌*◌, ◌^◌, ◌<◌, ◌≤◌, length, pos, ◌≤ℤ◌, All, Contains};
-ghost use Rattle.exact_math.specs.Ends.{BoxEndsWithin, BoxEndsContain};
 ghost use Rattle.exact_math.specs.Orders.{IsOrder};
-ghost use Rattle.complex_box.specs.Box.{box_ends, BoxWithin};
+ghost use Rattle.exact_math.specs.Units.{unit};
+ghost use Rattle.complex_box.specs.Box.{box_ends, BoxWithin, BoxContains};
 ghost use Rattle.cell_lists.specs.Lists.{AreLists};
 ghost use Rattle.near_field.specs.DirectSum.{direct_sum};
 ghost use Rattle.points.specs.Points.{place};
@@ -38,7 +38,7 @@ fn near_value<const P: usize>(local: &[CBox], n: usize, cell: Cell, target: &Poi
     requires held { Holds (square cell) target.now.x target.now.y }
     requires size { All (BoxWithin (2 ^ 90)) local.now }
     ensures ends { box_ends result ≡ local_value P (row_at P local.now n) (side_of cell) (offset_from cell (place target.now)) }
-    ensures size { BoxEndsWithin (2 ^ 95) (box_ends result) }
+    ensures size { BoxWithin (2 ^ 95) result }
 {
     let row = Row::<P>::new(&local[n * P..(n + 1) * P]);
     at_local(row, cell, target.x, target.y)
@@ -73,7 +73,7 @@ fn value_in<const P: usize>(
     requires grid { InGrid target.now.x target.now.y }
     requires room { work.old.pairs < 2 ^ 62 }
     ensures ends { box_ends result ≡ value_at P tree.now lists.now points.now up.now local.now weights.now radius b (place target.now) }
-    ensures size { BoxEndsWithin (2 ^ 103) (box_ends result) }
+    ensures size { BoxWithin (2 ^ 103) result }
     ensures pairs { work.new.pairs ≡ work.old.pairs + near_count tree.now lists.now points.now b (place target.now) }
     ensures few { work.new.pairs ≤ work.old.pairs + length points.now }
     ensures translations { work.new.translations ≡ work.old.translations }
@@ -119,8 +119,8 @@ pub fn target_value<const P: usize>(
     requires room { work.old.pairs < 2 ^ 62 }
     ensures ends { box_ends result ≡ value_at P tree.now lists.now points.now up.now local.now weights.now radius (leaf_of tree.now k) (place (point_at points.now k)) }
     ensures field { (cap : ℕ) (field : TreeLists) → AreRowsOfLeaf points.now cap P tree.now lists.now field up.now local.now weights.now radius (leaf_of tree.now k) → box_ends result ≡ target_box points.now cap P field 16 (place (point_at points.now k)) }
-    ensures contains { (cap : ℕ) (field : TreeLists) → AreRowsOfLeaf points.now cap P tree.now lists.now field up.now local.now weights.now radius (leaf_of tree.now k) → Contains (targets points.now) (point_at points.now k) → BoxEndsContain (pos (2 ^ 40)) (box_ends result) (direct_sum (place (point_at points.now k)) points.now) }
-    ensures size { BoxEndsWithin (2 ^ 103) (box_ends result) }
+    ensures contains { (cap : ℕ) (field : TreeLists) → AreRowsOfLeaf points.now cap P tree.now lists.now field up.now local.now weights.now radius (leaf_of tree.now k) → Contains (targets points.now) (point_at points.now k) → BoxContains unit result (direct_sum (place (point_at points.now k)) points.now) }
+    ensures size { BoxWithin (2 ^ 103) result }
     ensures pairs { work.new.pairs ≡ work.old.pairs + near_count tree.now lists.now points.now (leaf_of tree.now k) (place (point_at points.now k)) }
     ensures few { work.new.pairs ≤ work.old.pairs + length points.now }
     ensures translations { work.new.translations ≡ work.old.translations }

@@ -17,9 +17,10 @@ use Rattle.soundness.specs.Accounts.{LeafSource, LeafTarget, Accounting, under, 
 use Rattle.soundness.specs.Computed.{total_box}
 use Rattle.tree_field.specs.Lists.{TreeLists, AreTreeLists}
 use Rattle.tree_field.specs.Field.{is_source_in, sources_in, targets, multipole_row, leaf_at, local_row, local_radius, target_box}
-use Rattle.tree_field.proofs.Ascending.{ascending_differ}
+use Rattle.quadtree.proofs.Ascending.{ascending_differ}
 use Rattle.tree_field.proofs.Leaves.{under_is_holding}
-use Rattle.tree_field.proofs.Members.{All-from_members, filter-map, filter-filter, filter_same, filter_none, filter_whole, filter_piece}
+use Rattle.quadtree.proofs.Lists.{All-from_members, filter-map, filter-filter, filter_same, filter_none, filter_whole}
+use Rattle.tree_field.proofs.Members.{filter_piece}
 use Rattle.tree_field.proofs.Numbers.{number, cell_at, above, tree_cell, number_below, cell_of_number, number_of_cell}
 use Rattle.tree_field.proofs.Sums.{total_box-map, total_box-same, sum_by-map, sum_by-same}
 

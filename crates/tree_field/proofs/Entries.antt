@@ -24,9 +24,10 @@ use Rattle.soundness.specs.Squares.{IsFarFrom, CellsAreApart}
 use Rattle.tree_field.specs.Lists.{TreeLists, AreTreeLists}
 use Rattle.tree_field.specs.Field.{targets}
 use Rattle.tree_field.proofs.Accounts.{leaf_number, leaf_source, leaf_target, sources, entry, entries_from, of_cell, accounting, All-of_cell}
-use Rattle.tree_field.proofs.Ascending.{ascending_differ}
+use Rattle.quadtree.proofs.Ascending.{ascending_differ}
 use Rattle.tree_field.proofs.Leaves.{leaf_holds, only_leaf, cell_of_leaf, under_is_holding}
-use Rattle.tree_field.proofs.Members.{All-from_members, Contains-into_map, AllPairs-map, AllPairs-both, count_one}
+use Rattle.quadtree.proofs.Lists.{All-from_members, Contains-into_map, AllPairs-map, AllPairs-both}
+use Rattle.tree_field.proofs.Members.{count_one}
 use Rattle.tree_field.proofs.Numbers.{number, cell_at, above, number_below, cell_of_number}
 
 letter_itself : (l : Letter) → is_letter l l ≡ true
@@ -81,7 +82,7 @@ module _ (grid : ℕ) (points : List Point) (cap P : ℕ) (lists : TreeLists) (p
       let grids : b.grid ≡ c.grid = tb.of_grid ∙ sym tc.of_grid in
       let a = e.come_apart in
       subst (λ s. CellsAreApart s (cell (number lists.cells c))) (sym (is b tb)) (subst (λ s. CellsAreApart b s) (sym (is c tc))
-      (record { grid = grids; level = a.same_level; apart = (pairs_of_cells b c grids a.same_level a.apart a.parents_touch).beyond }))
+      (record { grid = grids; level = a.same_level; apart = (pairs_of_cells b c grids a.same_level a.apart a.parents_touch).kernel.apart }))
   apart_of W b c tb tc e =
       let a = e.comes_apart in
       All-map (λ (t : LeafTarget). under (above grid lists.cells) t.leaf (number lists.cells b) ≡ true → IsFarFrom (cell (number lists.cells c)) t.place) (leaf_target grid points cap P lists) (targets points)

@@ -9,12 +9,12 @@ use Rattle.points.specs.Points.{place}
 use Rattle.cell_name.specs.Square.{Square, parent, IsInGrid, Holds, holds_test}
 use Rattle.cell_name.proofs.Cells.{Holds-square_at, Holds-parent, parent-square_at}
 use Rattle.cell_name.proofs.HoldsTest.{Holds-from_test, test-from_Holds}
-use Rattle.cell_lists.proofs.OneEntry.{cell_is}
-use Rattle.quadtree.specs.Tree.{count_in, AreInGrid, IsTreeCell, IsLeaf, AreTreeCells}
+use Rattle.cell_lists.proofs.OneEntry.{cell_is, listed}
+use Rattle.quadtree.specs.Tree.{count_in, AreInGrid, IsTreeCell, IsLeaf, AreTreeCells, is_over}
 use Rattle.quadtree.proofs.LeafLevel.{cell_of, IsListed, IsLeafLevel, leaf_level_exists, tree_at_next}
 use Rattle.soundness.specs.Accounts.{under}
 use Rattle.soundness.proofs.Nodes.{strong, under-root, under-parent, under-self, under-le}
-use Rattle.tree_field.specs.Field.{is_over, leaf_below, leaf_at}
+use Rattle.tree_field.specs.Field.{leaf_below, leaf_at}
 use Rattle.tree_field.proofs.Numbers.{number, cell_at, above, tree_cell, number_below, cell_of_number, number_of_cell, level_positive, above_root, above_first, cell_above, above_number}
 
 -- tests that say the same
@@ -47,9 +47,6 @@ pub record HasLeaf (grid : ℕ) (points : List Point) (cap : ℕ) (p : Point) : 
   pub is_cell : leaf_at points cap grid (place p) ≡ cell_of grid p level
   pub leaf_level : IsLeafLevel grid points cap p level
 
-pub listed_point : (grid : ℕ) (points : List Point) (p : Point) → AreInGrid grid points → Contains points p → IsListed grid points p
-listed_point grid points p inside h = record { listed = h; in_grid = All-contains (λ p. IsInGrid grid p.x p.y) points p inside h }
-
 pub has_leaf : (grid : ℕ) (points : List Point) (cap : ℕ) (p : Point) → 0 < grid → IsListed grid points p → HasLeaf grid points cap p
 has_leaf grid points cap p positive given =
     let l = leaf_level_exists grid points cap p positive given in
@@ -64,19 +61,19 @@ module _ (grid : ℕ) (points : List Point) (cap : ℕ) (cells : List Square) (p
 
   pub leaf_is : (p : Point) → Contains points p → IsLeaf grid points cap (leaf_at points cap grid (place p))
   leaf_is p h =
-      let l = has_leaf grid points cap p positive (listed_point grid points p inside h) in
+      let l = has_leaf grid points cap p positive (listed grid points p inside h) in
       subst (IsLeaf grid points cap) (sym l.is_cell) l.leaf_level.leaf
 
   pub leaf_holds : (p : Point) → Contains points p → Holds (leaf_at points cap grid (place p)) p.x p.y
   leaf_holds p h =
-      let given = listed_point grid points p inside h in
+      let given = listed grid points p inside h in
       let l = has_leaf grid points cap p positive given in
       subst (λ c. Holds c p.x p.y) (sym l.is_cell) (Holds-square_at grid l.level p.x p.y given.in_grid)
 
   -- the only leaf that holds the point
   pub only_leaf : (p : Point) → Contains points p → (c : Square) → IsLeaf grid points cap c → Holds c p.x p.y → c ≡ leaf_at points cap grid (place p)
   only_leaf p h c leaf held =
-      let given = listed_point grid points p inside h in
+      let given = listed grid points p inside h in
       let l = has_leaf grid points cap p positive given in
       let e : c ≡ cell_of grid p c.level = cell_is grid c p leaf.in_tree.of_grid given.in_grid held in
       e ∙ ap (cell_of grid p) (l.leaf_level.no_other c.level (subst (IsLeaf grid points cap) e leaf)) ∙ sym l.is_cell
@@ -141,7 +138,7 @@ module _ (grid : ℕ) (points : List Point) (cap : ℕ) (cells : List Square) (p
   under_is_holding p h n lt = same_test _ _
       (λ e. test-from_Holds (cell_at grid cells n) p.x p.y (holds_above p (leaf_number p) n (leaf_number_below p h) e (subst (λ c. Holds c p.x p.y) (sym (cell_of_leaf p h)) (leaf_holds p h))))
       (λ e.
-      let given = listed_point grid points p inside h in
+      let given = listed grid points p inside h in
       let l = has_leaf grid points cap p positive given in
       let c : Square = cell_at grid cells n in
       let here = tree_cell grid points cap cells positive inside are n lt in

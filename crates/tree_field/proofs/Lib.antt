@@ -1,6 +1,5 @@
 -- What the proofs of this crate rest on.
 pub mod Accounts
-pub mod Ascending
 pub mod EachList
 pub mod Entries
 pub mod Leaves
@@ -12,6 +11,7 @@ pub mod Occupants
 pub mod OneTree
 pub mod Program
 pub mod Sorting
+pub mod SourceChildren
 pub mod Sums
 pub mod Whole
 pub mod Work

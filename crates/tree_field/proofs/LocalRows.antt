@@ -1,5 +1,5 @@
 -- Local rows, radii and boxes of the field as what is computed of an accounting.
-use Rattle.std.proofs.Common.{ℕ, ◌≡◌, ◌+◌, ◌*◌, ◌<◌, zero, suc, List, [], ◌∷◌, length, refl, sym, ap, ap₂, ◌∙◌, arith}
+use Rattle.std.proofs.Common.{ℕ, ◌≡◌, ◌+◌, ◌<◌, zero, suc, List, [], ◌∷◌, length, refl, sym, ap, ap₂, ◌∙◌, arith}
 use Rattle.std.specs.Prelude.{pos, Contains, sum_by}
 use Rattle.exact_math.specs.Ends.{zero_box, add_box, widen_box}
 use Rattle.exact_math.specs.Gaussian.{Gaussian}
@@ -10,17 +10,17 @@ use Rattle.kernel_table.specs.Kernel.{kernel_entry}
 use Rattle.near_field.specs.Pair.{pair_box}
 use Rattle.points.specs.declared.Point.{Point}
 use Rattle.quadtree.specs.Tree.{AreInGrid}
-use Rattle.row_recursions.proofs.ZeroBoxes.{zero_left}
+use Rattle.complex_box.proofs.ZeroBoxes.{zero_left}
 use Rattle.row_recursions.specs.Rows.{converted, shifted_down, multipole_value}
 use Rattle.row_recursions.specs.Sources.{source_of}
 use Rattle.soundness.specs.Accounts.{LeafTarget, Accounting, sources_under}
-use Rattle.soundness.specs.Computed.{total_box, total_row, far_coefficients_in, weight_under, local_row as given_local_row, converted_rows as given_converted_rows, far_rows as given_far_rows, local_radius as given_local_radius, pair_radius as given_pair_radius, single_radius as given_single_radius, target_box as given_target_box, multipoles_at, pairs_at as given_pairs_at}
+use Rattle.soundness.specs.Computed.{total_box, total_row, far_coefficients_in, weight_under, local_row as given_local_row, converted_rows as given_converted_rows, far_rows as given_far_rows, local_radius as given_local_radius, pair_radius_of as given_pair_radius, single_radius_of as given_single_radius, target_box as given_target_box, multipoles_at, pairs_at as given_pairs_at}
 use Rattle.soundness.specs.Accounts.{entries_of}
 use Rattle.soundness.specs.Squares.{offset, quadrant, sides_between}
 use Rattle.truncation.specs.Entries.{weight}
-use Rattle.truncation.specs.Tails.{ceiling, pair_tail, single_tail}
+use Rattle.truncation.specs.Tails.{pair_radius, single_radius}
 use Rattle.tree_field.specs.Lists.{TreeLists, AreTreeLists}
-use Rattle.tree_field.specs.Field.{sources_in, multipole_row, converted_rows, far_rows, local_at_level, local_row, weight_in, pair_radius, single_radius, radius_at_level, local_radius, local_value_at, multipole_values_at, pairs_at, radius_in, box_in}
+use Rattle.tree_field.specs.Field.{sources_in, multipole_row, converted_rows, far_rows, local_at_level, local_row, weight_in, pair_radius_in, single_radius_in, radius_at_level, local_radius, local_value_at, multipole_values_at, pairs_at, radius_in, box_in}
 use Rattle.tree_field.proofs.Accounts.{accounting, over_sources, sum_over_sources, over_entries, sum_over_entries}
 use Rattle.tree_field.proofs.Numbers.{cell_at, tree_cell, first_is_root, level_positive, cell_above}
 
@@ -50,13 +50,13 @@ pub local_radius-root : (points : List Point) (cap P : ℕ) (lists : TreeLists) 
 local_radius-root points cap P lists b e = root_radius points cap P lists b.level b e
 
 below_radius : (points : List Point) (cap P : ℕ) (lists : TreeLists) (level : ℕ) (b : Square) → level ≡ b.level → 0 < level
-    → radius_at_level points cap P lists level b ≡ local_radius points cap P lists (parent b) + (sum_by (pair_radius points P (side b)) (lists.entries V b) + sum_by (single_radius points P (side b)) (lists.entries X b))
+    → radius_at_level points cap P lists level b ≡ local_radius points cap P lists (parent b) + (sum_by (pair_radius_in points P (side b)) (lists.entries V b) + sum_by (single_radius_in points P (side b)) (lists.entries X b))
 unfolding radius_at_level
 below_radius points cap P lists zero b e lo = absurd (omega arith)
-below_radius points cap P lists (suc level) b e lo = ap (λ l. radius_at_level points cap P lists l (parent b) + (sum_by (pair_radius points P (side b)) (lists.entries V b) + sum_by (single_radius points P (side b)) (lists.entries X b))) (omega arith)
+below_radius points cap P lists (suc level) b e lo = ap (λ l. radius_at_level points cap P lists l (parent b) + (sum_by (pair_radius_in points P (side b)) (lists.entries V b) + sum_by (single_radius_in points P (side b)) (lists.entries X b))) (omega arith)
 
 pub local_radius-below : (points : List Point) (cap P : ℕ) (lists : TreeLists) (b : Square) → 0 < b.level
-    → local_radius points cap P lists b ≡ local_radius points cap P lists (parent b) + (sum_by (pair_radius points P (side b)) (lists.entries V b) + sum_by (single_radius points P (side b)) (lists.entries X b))
+    → local_radius points cap P lists b ≡ local_radius points cap P lists (parent b) + (sum_by (pair_radius_in points P (side b)) (lists.entries V b) + sum_by (single_radius_in points P (side b)) (lists.entries X b))
 local_radius-below points cap P lists b lo = below_radius points cap P lists b.level b refl lo
 
 pub empty_from : (xs : List Square) → ((c : Square) → Contains xs c → ⊥) → xs ≡ []
@@ -122,23 +122,23 @@ module _ (grid : ℕ) (points : List Point) (cap P : ℕ) (lists : TreeLists) (p
   weight_same : (n : ℕ) → n < length lists.cells → weight_under P given n ≡ weight_in points P (cell n)
   weight_same n lt = sum_over_sources grid points cap P lists positive inside are (λ p. weight P (source_of p)) n lt
 
-  pairs_lose : (n : ℕ) → n < length lists.cells → sum_by (given_pair_radius P given (side (cell n))) (entries_of given V n) ≡ sum_by (pair_radius points P (side (cell n))) (lists.entries V (cell n))
+  pairs_lose : (n : ℕ) → n < length lists.cells → sum_by (given_pair_radius P given (side (cell n))) (entries_of given V n) ≡ sum_by (pair_radius_in points P (side (cell n))) (lists.entries V (cell n))
   pairs_lose n lt = sum_over_entries grid points cap P lists positive inside are V n lt
-      (λ m. ceiling (weight_under P given m * pair_tail P) (side (cell n)))
-      (pair_radius points P (side (cell n)))
-      (λ m lm. ap (λ w. ceiling (w * pair_tail P) (side (cell n))) (weight_same m lm))
+      (λ m. pair_radius P (weight_under P given m) (side (cell n)))
+      (pair_radius_in points P (side (cell n)))
+      (λ m lm. ap (λ w. pair_radius P w (side (cell n))) (weight_same m lm))
 
-  singles_lose : (n : ℕ) → n < length lists.cells → sum_by (given_single_radius P given (side (cell n))) (entries_of given X n) ≡ sum_by (single_radius points P (side (cell n))) (lists.entries X (cell n))
+  singles_lose : (n : ℕ) → n < length lists.cells → sum_by (given_single_radius P given (side (cell n))) (entries_of given X n) ≡ sum_by (single_radius_in points P (side (cell n))) (lists.entries X (cell n))
   singles_lose n lt = sum_over_entries grid points cap P lists positive inside are X n lt
-      (λ m. ceiling (weight_under P given m * single_tail P) (side (cell n)))
-      (single_radius points P (side (cell n)))
-      (λ m lm. ap (λ w. ceiling (w * single_tail P) (side (cell n))) (weight_same m lm))
+      (λ m. single_radius P (weight_under P given m) (side (cell n)))
+      (single_radius_in points P (side (cell n)))
+      (λ m lm. ap (λ w. single_radius P w (side (cell n))) (weight_same m lm))
 
   pub radii_same : (n : ℕ) → n < length lists.cells → given_local_radius P given n ≡ local_radius points cap P lists (cell n)
   radii_same zero lt =
       ap₂ (λ a b. 0 + (a + b))
-      (pairs_lose 0 lt ∙ ap (sum_by (pair_radius points P (side (cell 0)))) (root_V lt))
-      (singles_lose 0 lt ∙ ap (sum_by (single_radius points P (side (cell 0)))) (root_X lt))
+      (pairs_lose 0 lt ∙ ap (sum_by (pair_radius_in points P (side (cell 0)))) (root_V lt))
+      (singles_lose 0 lt ∙ ap (sum_by (single_radius_in points P (side (cell 0)))) (root_X lt))
       ∙ sym (local_radius-root points cap P lists (cell 0) (root_cell lt))
   radii_same (suc m) lt =
       ap₂ (λ a b. a + b)
@@ -161,9 +161,9 @@ module _ (grid : ℕ) (points : List Point) (cap P : ℕ) (lists : TreeLists) (p
 
   widened_same : (n : ℕ) → n < length lists.cells → given.radius n + sum_by (λ e. given_single_radius P given (side (given.cell e.c)) e) (entries_of given W n) ≡ radius_in points cap P lists (cell n)
   widened_same n lt = ap (λ r. local_radius points cap P lists (cell n) + r) (sum_over_entries grid points cap P lists positive inside are W n lt
-      (λ m. ceiling (weight_under P given m * single_tail P) (side (cell m)))
-      (λ c. single_radius points P (side c) c)
-      (λ m lm. ap (λ w. ceiling (w * single_tail P) (side (cell m))) (weight_same m lm)))
+      (λ m. single_radius P (weight_under P given m) (side (cell m)))
+      (λ c. single_radius_in points P (side c) c)
+      (λ m lm. ap (λ w. single_radius P w (side (cell m))) (weight_same m lm)))
 
   pub boxes_same : (t : LeafTarget) → t.leaf < length lists.cells → given_target_box P given t ≡ box_in points cap P lists (cell t.leaf) t.place
   boxes_same t lt = ap₂ (λ b r. widen_box (add_box (local_value_at points cap P lists (cell t.leaf) t.place) b) (pos r))

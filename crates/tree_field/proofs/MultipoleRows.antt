@@ -15,22 +15,23 @@ use Rattle.cell_name.proofs.Cells.{Holds-parent, parent-square_at}
 use Rattle.cell_name.proofs.HoldsTest.{Holds-from_test, test-from_Holds}
 use Rattle.points.specs.Points.{is_source}
 use Rattle.points.specs.declared.Point.{Point}
-use Rattle.quadtree.specs.Splitting.{quarters}
-use Rattle.quadtree.specs.Tree.{count_in, AreInGrid, IsTreeCell, IsSplit, IsLeaf}
+use Rattle.cell_name.specs.Quarters.{quarters}
+use Rattle.quadtree.specs.Tree.{count_in, AreInGrid, IsTreeCell, IsSplit, IsLeaf, is_over}
 use Rattle.quadtree.proofs.Distinct.{Contains-filter, Contains-into_filter}
 use Rattle.quadtree.proofs.LeafLevel.{cell_of, tree_at_next}
 use Rattle.quadtree.proofs.Parents.{cell_of_point, leaf_or_split, IsTreeCell-below, IsTreeCell-from_below}
-use Rattle.quadtree.proofs.TreeCells.{IsQuarter, quarters_are, quarters_contain}
-use Rattle.row_recursions.proofs.ZeroBoxes.{zero_scaled, zero_gscaled, zero_over, zero_right}
+use Rattle.cell_name.proofs.Quarters.{IsQuarter, quarters_are, quarters_contain}
+use Rattle.complex_box.proofs.ZeroBoxes.{zero_scaled, zero_gscaled, zero_over, zero_right}
 use Rattle.row_recursions.specs.Rows.{up_round, shifted_up}
 use Rattle.soundness.specs.Accounts.{Accounting, is_child, is_leaf, children}
 use Rattle.soundness.specs.Computed.{total_box, total_row, moments_in, shifted_rows, leaf_row as given_leaf_row}
 use Rattle.soundness.specs.Squares.{quadrant}
 use Rattle.tree_field.specs.Lists.{TreeLists, AreTreeLists}
-use Rattle.tree_field.specs.Field.{is_source_in, has_source, leaf_row, is_over, multipole_above, multipole_row}
+use Rattle.tree_field.specs.Field.{is_source_in, has_source, leaf_row, multipole_above, multipole_row}
 use Rattle.tree_field.proofs.Accounts.{accounting, over_sources}
-use Rattle.tree_field.proofs.Ascending.{same_list, quarters_ascend}
-use Rattle.tree_field.proofs.Members.{image_of, Contains-into_map, AllPairs-map, AllPairs-range, Contains-range, range_below, filter_none, found, list_any-member, none_passes}
+use Rattle.quadtree.proofs.Ascending.{same_list, quarters_ascend}
+use Rattle.quadtree.proofs.Lists.{image_of, Contains-into_map, AllPairs-map, AllPairs-range, Contains-range, range_below, filter_none}
+use Rattle.tree_field.proofs.Members.{found, list_any-member, none_passes}
 use Rattle.tree_field.proofs.Occupants.{occupied_from_source}
 use Rattle.tree_field.proofs.Numbers.{number, cell_at, above, tree_cell, number_below, cell_of_number, number_of_cell, first_is_root, level_positive, cell_above, above_number}
 use Rattle.tree_field.proofs.Sums.{total_box-map, total_box-same, total_box-fewer}
@@ -97,7 +98,7 @@ zero_round : (m : ℕ → BoxEnds) (q : Gaussian) → ((i : ℕ) → m i ≡ zer
 unfolding up_round
 zero_round m q h zero i = h i
 zero_round m q h (suc r) i =
-    ap₂ (λ a b. quot_box (add_box (scale_box (pos 2) a) (gscale_box b q)) (pos 4)) (zero_round m q h r (suc i)) (zero_round m q h r i)
+    ap₂ (λ a b. quot_box (add_box (scale_box a (pos 2)) (gscale_box b q)) (pos 4)) (zero_round m q h r (suc i)) (zero_round m q h r i)
     ∙ ap₂ (λ a b. quot_box (add_box a b) (pos 4)) (zero_scaled (pos 2)) (zero_gscaled q)
     ∙ ap (λ b. quot_box b (pos 4)) (zero_right zero_box)
     ∙ zero_over (pos 4) (omega (arith, ints))

@@ -3,7 +3,7 @@ use Rattle.std.proofs.lemmas.List.Elements.{All-contains}
 use Rattle.cell_lists.specs.Entries.{IsEntry}
 use Rattle.quadtree.specs.Tree.{IsTreeCell}
 use Rattle.tree_field.specs.Laws.{OneTree}
-use Rattle.tree_field.proofs.Ascending.{same_list}
+use Rattle.quadtree.proofs.Ascending.{same_list}
 
 pub one_tree : OneTree
 one_tree grid points cap these others p q = (

@@ -1,39 +1,38 @@
 -- A tree of the program and its lists, in the words of the field.
-use Rattle.std.proofs.Common.{ℕ, ◌≡◌, ◌+◌, ◌<◌, ◌≤◌, inl, inr, List, [], ◌∷◌, ◌++◌, length, map, get_or, Bool, true, false, cond, ◌&&◌, filter, Some, refl, sym, ap, ap₂, ◌∙◌, subst, arith, lit<, append_assoc, length-append}
-use Rattle.std.specs.Prelude.{◌==◌, nat_lt, Contains}
+use Rattle.std.proofs.Common.{ℕ, ◌≡◌, ◌+◌, ◌<◌, ◌≤◌, List, [], ◌∷◌, ◌++◌, length, map, get_or, Bool, true, false, cond, ◌&&◌, filter, Some, refl, sym, ap, ap₂, ◌∙◌, subst, arith, lit<, append_assoc, length-append}
+use Rattle.std.specs.Prelude.{nat_lt, All, Contains}
 use Rattle.std.specs.List.{range_with_len}
-use Rattle.std.proofs.lemmas.Bool.{false≢true, cases_lt, and_parts, and_from, ltb-true, lt-ltb, eqb-true, eq-eqb}
+use Rattle.std.proofs.lemmas.Bool.{false≢true, and_from, lt-ltb}
 use Rattle.std.proofs.lemmas.List.{length-map}
 use Rattle.std.proofs.lemmas.List.Elements.{All-contains, filter_agree}
-use Rattle.std.proofs.lemmas.List.Kept.{AllPairs-filter, AllPairs-from_increasing}
+use Rattle.std.proofs.lemmas.List.Kept.{AllPairs-from_increasing}
 use Rattle.std.proofs.lemmas.Option.{slice_get-get_or}
 use mathlib.Core.Logic.{⊎_elim}
 use Rattle.cell_name.specs.Cell.{square}
 use Rattle.cell_name.specs.Order.{IsBefore}
-use Rattle.cell_name.specs.Square.{Square, parent, holds_test}
+use Rattle.cell_name.specs.Square.{Square, holds_test}
 use Rattle.cell_lists.specs.Entries.{IsEntry}
-use Rattle.cell_lists.specs.Lists.{lists_of}
-use Rattle.cell_lists.specs.Row.{row}
-use Rattle.cell_lists.proofs.CellNumbers.{number_listed, number_before, same_number}
+use Rattle.cell_lists.specs.EntryLists.{lists_of}
+use Rattle.cell_lists.specs.ListAt.{list_at}
+use Rattle.cell_lists.proofs.CellNumbers.{number_listed, number_before}
 use Rattle.cell_lists.proofs.OneEntry.{in_tree_of}
-use Rattle.cell_lists.proofs.TreeNumbers.{tree_cell_at}
 use Rattle.points.specs.Points.{is_source}
 use Rattle.points.specs.declared.Point.{Point}
 use Rattle.quadtree.specs.Members.{holds_point, holds_position, members_of}
-use Rattle.quadtree.specs.Splitting.{quarters}
-use Rattle.quadtree.specs.Tree.{AreInGrid, IsTreeCell, IsSplit}
-use Rattle.quadtree.specs.TreeModel.{TreeModel, squares, size, square_of, node_of, leaf_of, IsTreeOf}
-use Rattle.quadtree.proofs.Distinct.{Contains-filter, Contains-into_filter}
-use Rattle.quadtree.proofs.Parents.{leaf_or_split, IsTreeCell-from_below}
+use Rattle.cell_name.specs.Quarters.{quarters}
+use Rattle.quadtree.specs.Tree.{AreInGrid, count_in, IsTreeCell, IsSplit}
+use Rattle.quadtree.specs.TreeModel.{TreeModel, squares, size, square_of, node_of, leaf_of, is_child, children_of, IsTreeOf}
+use Rattle.quadtree.proofs.Distinct.{Contains-filter}
+use Rattle.quadtree.proofs.Levels.{below-split}
+use Rattle.quadtree.proofs.Parents.{leaf_or_split}
 use Rattle.quadtree.proofs.PointKinds.{point_at}
-use Rattle.quadtree.proofs.TreeCells.{IsQuarter, quarters_are, quarters_contain}
+use Rattle.quadtree.proofs.TreeChildren.{children_squares, tree_cell_at}
 use Rattle.tree_field.specs.Field.{is_source_in, sources_in, has_source}
 use Rattle.tree_field.specs.Program.{ListsOfTree, source_children, IsNodeOfField, NodesOfTree, LeavesOfTree}
 use Rattle.tree_field.specs.Work.{has_target}
-use Rattle.tree_field.proofs.Ascending.{same_list, quarters_ascend}
+use Rattle.quadtree.proofs.Ascending.{same_list}
 use Rattle.tree_field.proofs.Leaves.{same_test, only_leaf}
-use Rattle.tree_field.proofs.Members.{image_of, Contains-into_map, AllPairs-map, AllPairs-both, AllPairs-range, Contains-range, range_below, filter-filter}
-use Rattle.tree_field.proofs.Numbers.{first_is_root, level_positive}
+use Rattle.quadtree.proofs.Lists.{image_of, Contains-into_map, AllPairs-map, AllPairs-both, All-from_members, range_below, filter-filter, filter-map, filter_same}
 use Rattle.tree_field.proofs.Occupants.{HasTarget-from_test, test-from_HasTarget, HasSource-from_test, test-from_HasSource, occupied_from_source}
 
 -- ---- cells and entries
@@ -44,7 +43,7 @@ lists_of_tree tree lists points cap these inside h are a = record {
       (λ c m. a.cells_are.whole c (All-contains (IsTreeCell 16 points cap) (squares tree) c h.cells_are.in_tree m));
   entries = λ letter n lt.
       let b : Square = square_of tree n in
-      let rows : List ℕ = row (lists_of lists letter) n in
+      let rows : List ℕ = list_at (lists_of lists letter) n in
       let es = a.entries_are letter b (tree_cell_at tree points cap n h lt) in
       let is = are.each points cap inside h letter n lt in
       same_list (these.entries letter b) (map (square_of tree) rows) es.ascending
@@ -116,57 +115,26 @@ module _ (tree : TreeModel) (points : List Point) (cap : ℕ) (inside : AreInGri
   room_is : (n : ℕ) → n < size tree → (node_of tree n).is_leaf ≡ false → (square_of tree n).level < 16
   room_is n lt e = ⊎_elim (λ leaf. absurd (false≢true (sym e ∙ (h.nodes_are n lt).leaf.1 leaf))) (λ split. split.1) (leaf_or_split 16 points cap (square_of tree n) (tree_cell_at tree points cap n h lt))
 
-  abbrev is_child : ℕ → ℕ → Bool
-  is_child n d = nat_lt 0 d && ((node_of tree d).parent == n) && (node_of tree d).has_source
+  -- a quarter with a source has a point
+  with_point : (q : Square) → (nat_lt 0 (count_in points q) && has_source points q) ≡ has_source points q
+  with_point q = step (has_source points q) refl
+    where
+      step : (b : Bool) → has_source points q ≡ b → (nat_lt 0 (count_in points q) && b) ≡ b
+      step true e = let some = occupied_from_source points q e in and_from (nat_lt 0 (count_in points q)) true (lt-ltb 0 (count_in points q) (omega (arith, some))) refl
+      step false e = and_turned (nat_lt 0 (count_in points q)) false
 
   children_are : (n : ℕ) → n < size tree → (node_of tree n).is_leaf ≡ false → map (square_of tree) (source_children tree n) ≡ filter (has_source points) (quarters (square_of tree n))
-  children_are n lt leaf = same_list (map (square_of tree) (source_children tree n)) (filter (has_source points) (quarters (square_of tree n)))
-      (AllPairs-map IsBefore (square_of tree) (source_children tree n) (AllPairs-filter (λ a b. IsBefore (square_of tree a) (square_of tree b)) (is_child n) (range_with_len 0 (size tree))
-      (λ i j d l in_range. let r = AllPairs-range (size tree) i j d l in_range in number_before tree h.cells_are.ascending _ _ r.0 r.1)))
-      (AllPairs-filter IsBefore (has_source points) (quarters (square_of tree n)) (quarters_ascend (square_of tree n)))
-      down
-      up
+  children_are n lt leaf =
+      ap (map (square_of tree)) (filter_same (λ m. (node_of tree m).has_source) (λ m. has_source points (square_of tree m)) (children_of tree n) sources)
+      ∙ sym (filter-map (has_source points) (square_of tree) (children_of tree n))
+      ∙ ap (λ l. filter (has_source points) (map (square_of tree) l)) (sym (h.nodes_are n lt).children_are)
+      ∙ ap (filter (has_source points)) (children_squares tree points cap inside h n lt (room_is n lt leaf) ∙ below-split points cap (square_of tree n) (split_is n lt leaf).over_cap)
+      ∙ filter-filter (has_source points) (λ q. nat_lt 0 (count_in points q)) (quarters (square_of tree n))
+      ∙ filter_agree (λ q. nat_lt 0 (count_in points q) && has_source points q) (has_source points) with_point (quarters (square_of tree n))
     where
-      down : (q : Square) → Contains (map (square_of tree) (source_children tree n)) q → Contains (filter (has_source points) (quarters (square_of tree n))) q
-      down q m =
-          let i = image_of (square_of tree) (source_children tree n) q m in
-          let d : ℕ = i.source in
-          let kept = Contains-filter (is_child n) (range_with_len 0 (size tree)) d i.listed in
-          let last = and_parts (nat_lt 0 d && ((node_of tree d).parent == n)) (node_of tree d).has_source kept.1 in
-          let first = and_parts (nat_lt 0 d) ((node_of tree d).parent == n) last.0 in
-          let ld = range_below (size tree) d kept.0 in
-          let lo : 0 < d = ltb-true 0 d first.0 in
-          let below : 0 < (square_of tree d).level = level_positive 16 points cap (squares tree) positive inside h.cells_are d lo (omega (arith, as_many)) in
-          let up : parent (square_of tree d) ≡ square_of tree n = sym ((h.nodes_are d ld).parent_is.of_others lo) ∙ ap (square_of tree) (eqb-true (node_of tree d).parent n first.1) in
-          subst (Contains (filter (has_source points) (quarters (square_of tree n)))) i.gives
-          (Contains-into_filter (has_source points) (quarters (square_of tree n)) (square_of tree d) (subst (λ s. Contains (quarters s) (square_of tree d)) up (quarters_contain (square_of tree d) below)) (sym (source_is d ld) ∙ last.1))
-
-      up : (q : Square) → Contains (filter (has_source points) (quarters (square_of tree n))) q → Contains (map (square_of tree) (source_children tree n)) q
-      up q m =
-          let c : Square = square_of tree n in
-          let kept = Contains-filter (has_source points) (quarters c) q m in
-          let quarter = All-contains (IsQuarter c) (quarters c) q (quarters_are c) kept.0 in
-          let here = tree_cell_at tree points cap n h lt in
-          let room = room_is n lt leaf in
-          let in_tree : IsTreeCell 16 points cap q = IsTreeCell-from_below 16 points cap q (quarter.of_grid ∙ here.of_grid) (omega (arith, quarter.level)) (omega (arith, quarter.level)) (occupied_from_source points q kept.1) (subst (IsSplit points cap) (sym quarter.parent_is) (split_is n lt leaf)) in
-          let k = number_listed tree q (h.cells_are.whole q in_tree) in
-          let d : ℕ = k.0 in
-          let lo : 0 < d = not_first d k.1 (ap (λ (s : Square). s.level) k.2) quarter.level in
-          let has = (h.nodes_are d k.1).parent_is in
-          let e : (node_of tree d).parent ≡ n = same_number tree h.cells_are.ascending _ n has.in_range lt (has.of_others lo ∙ ap parent k.2 ∙ quarter.parent_is) in
-          subst (Contains (map (square_of tree) (source_children tree n))) k.2
-          (Contains-into_map (square_of tree) (source_children tree n) d (Contains-into_filter (is_child n) (range_with_len 0 (size tree)) d (Contains-range (size tree) d k.1)
-          (and_from (nat_lt 0 d && ((node_of tree d).parent == n)) (node_of tree d).has_source (and_from (nat_lt 0 d) ((node_of tree d).parent == n) (lt-ltb 0 d lo) (eq-eqb (node_of tree d).parent n e)) (source_is d k.1 ∙ ap (has_source points) k.2 ∙ kept.1))))
-        where
-          not_first : (d : ℕ) → d < size tree → (square_of tree d).level ≡ q.level → q.level ≡ (square_of tree n).level + 1 → 0 < d
-          not_first d ld level next =
-              elim (cases_lt 0 d) [
-                | inl lo ↦ lo
-                | inr le ↦ absurd (let e : (square_of tree d).level ≡ 0 = ap (λ k. (square_of tree k).level) (zero_is d le) ∙ ap (λ (s : Square). s.level) (first_is_root 16 points cap (squares tree) positive inside h.cells_are (omega (arith, as_many))) in omega arith)
-              ]
-            where
-              zero_is : (d : ℕ) → d ≤ 0 → d ≡ 0
-              zero_is d le = omega arith
+      sources : All (λ m. (node_of tree m).has_source ≡ has_source points (square_of tree m)) (children_of tree n)
+      sources = All-from_members (λ m. (node_of tree m).has_source ≡ has_source points (square_of tree m)) (children_of tree n) (λ m listed.
+          source_is m (range_below (size tree) m (Contains-filter (is_child tree n) (range_with_len 0 (size tree)) m listed).0))
 
   node_is : (n : ℕ) → n < size tree → IsNodeOfField tree points n
   node_is n lt = record {

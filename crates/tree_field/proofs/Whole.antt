@@ -8,7 +8,7 @@ use Rattle.std.proofs.lemmas.List.Elements.{All-map, filter_agree}
 use mathlib.Core.Logic.{⊎_elim}
 use Rattle.exact_math.specs.Ends.{BoxEndsInside, BoxEndsContain}
 use Rattle.exact_math.specs.Gaussian.{Gaussian}
-use Rattle.exact_math.specs.Ratio.{zero_complex, add_complex}
+use Rattle.exact_math.specs.Ratio.{zero_complex, ◌+ᶜ◌}
 use Rattle.cell_name.specs.Square.{Square}
 use Rattle.near_field.specs.DirectSum.{acts_on, direct_sum}
 use Rattle.points.specs.Points.{is_source, place}
@@ -30,7 +30,7 @@ use Rattle.tree_field.proofs.Accounts.{leaf_number, leaf_source, leaf_target, so
 use Rattle.tree_field.proofs.Entries.{entries_in_range, entries_apart, accounted_once}
 use Rattle.tree_field.proofs.Leaves.{leaf_is, leaf_holds, leaf_number_below, cell_of_leaf, under_in_range}
 use Rattle.tree_field.proofs.LocalRows.{local_rows_same, radii_same, boxes_same}
-use Rattle.tree_field.proofs.Members.{All-from_members, filter-filter}
+use Rattle.quadtree.proofs.Lists.{All-from_members, filter-filter}
 use Rattle.tree_field.proofs.MultipoleRows.{split_from_node, leaf_rows_same, inner_rows_same}
 use Rattle.tree_field.proofs.Numbers.{cell_at, above, tree_cell, level_positive, above_root, above_first, cell_above}
 
@@ -122,7 +122,7 @@ points_back grid points cap P lists [] = refl
 points_back grid points cap P lists (x ∷ xs) = ap (λ l. x ∷ l) (points_back grid points cap P lists xs)
 
 sum_of_sources : (t : Gaussian) (points : List Point) → direct_sum t (filter (λ p. is_source p.kind) points) ≡ direct_sum t points
-sum_of_sources t points = ap (fold (λ sum p. add_complex sum (term_of t p)) zero_complex)
+sum_of_sources t points = ap (fold (λ sum p. sum +ᶜ term_of t p) zero_complex)
     (filter-filter (acts_on t) (λ p. is_source p.kind) points
     ∙ filter_agree (λ p. is_source p.kind && acts_on t p) (acts_on t) (λ p. and_again (is_source p.kind) (not (is_at t p))) points)
 

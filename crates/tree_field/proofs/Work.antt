@@ -9,7 +9,7 @@ use Rattle.std.proofs.lemmas.List.Sums.{count_by-le-length}
 use Rattle.std.specs.Prelude.{cond}
 use Rattle.cell_name.specs.Cell.{square}
 use Rattle.cell_name.specs.Square.{Square, root}
-use Rattle.cell_lists.specs.Row.{row}
+use Rattle.cell_lists.specs.ListAt.{list_at}
 use Rattle.letters.specs.declared.Letter.TheVariants.{U, V}
 use Rattle.points.specs.declared.Point.{Point}
 use Rattle.quadtree.specs.Tree.{AreInGrid}
@@ -19,7 +19,7 @@ use Rattle.tree_field.specs.Laws.{TranslationsAreFew}
 use Rattle.tree_field.specs.Program.{WorkOfTree}
 use Rattle.tree_field.specs.Work.{has_target, pairs_between}
 use Rattle.tree_field.proofs.Leaves.{same_test}
-use Rattle.tree_field.proofs.Members.{All-from_members, range_below}
+use Rattle.quadtree.proofs.Lists.{All-from_members, range_below}
 use Rattle.tree_field.proofs.Numbers.{first_is_root, level_positive}
 use Rattle.tree_field.proofs.Program.{lists_of_tree, nodes_of_tree}
 use Rattle.tree_field.proofs.Sums.{sum_by-map, sum_by-same}
@@ -35,8 +35,8 @@ zero_is : (n : ℕ) → n ≤ 0 → n ≡ 0
 zero_is n le = omega arith
 
 -- a sum over the rows of lists
-pub sum_by_rows : (rows : List (List ℕ)) (n : ℕ) (f : List ℕ → ℕ) → length rows ≡ n → sum_by f rows ≡ sum_by (λ k. f (row rows k)) (range_with_len 0 n)
-sum_by_rows rows n f e = ap (sum_by f) (fill_by_all (row rows) rows n [] e (λ k lt. refl)) ∙ sum_by-map f (row rows) (range_with_len 0 n)
+pub sum_by_rows : (rows : List (List ℕ)) (n : ℕ) (f : List ℕ → ℕ) → length rows ≡ n → sum_by f rows ≡ sum_by (λ k. f (list_at rows k)) (range_with_len 0 n)
+sum_by_rows rows n f e = ap (sum_by f) (fill_by_all (list_at rows) rows n [] e (λ k lt. refl)) ∙ sum_by-map f (list_at rows) (range_with_len 0 n)
 
 module _ (tree : TreeModel) (points : List Point) (cap : ℕ) (inside : AreInGrid 16 points) (h : IsTreeOf 16 tree points cap) where
   level_is : (n : ℕ) → n < size tree → nat_lt 0 (square_of tree n).level ≡ nat_lt 0 n
@@ -60,11 +60,11 @@ work_of_tree tree lists points cap these inside h are a =
       translations_are = ap₂ (λ m n. m + n) (ap (count_by (λ c. nat_lt 0 c.level && has_source points c)) of.cells ∙ sources_counted tree points cap inside h)
           (ap₂ (λ m n. m + n) (ap (sum_by (λ b. length (these.entries V b))) of.cells ∙ converted (of.entries V)) (ap (count_by (λ c. nat_lt 0 c.level && has_target points c)) of.cells ∙ targets_counted tree points cap inside h));
       pairs_are = ap (sum_by (λ b. sum_by (pairs_between points b) (these.entries U b))) of.cells ∙ sum_by_numbers tree _ _ (λ n lt.
-          ap (sum_by (pairs_between points (square_of tree n))) (of.entries U n lt) ∙ sum_by-map (pairs_between points (square_of tree n)) (square_of tree) (row lists.u n));
+          ap (sum_by (pairs_between points (square_of tree n))) (of.entries U n lt) ∙ sum_by-map (pairs_between points (square_of tree n)) (square_of tree) (list_at lists.u n));
     }
   where
-    converted : ((n : ℕ) → n < size tree → these.entries V (square_of tree n) ≡ map (square_of tree) (row lists.v n)) → sum_by (λ b. length (these.entries V b)) (squares tree) ≡ sum_by (λ list. length list) lists.v
-    converted e = sum_by_numbers tree _ _ (λ n lt. ap length (e n lt) ∙ length-map (row lists.v n) (square_of tree)) ∙ sym (sum_by_rows lists.v (size tree) (λ list. length list) (are.as_many V))
+    converted : ((n : ℕ) → n < size tree → these.entries V (square_of tree n) ≡ map (square_of tree) (list_at lists.v n)) → sum_by (λ b. length (these.entries V b)) (squares tree) ≡ sum_by (λ list. length list) lists.v
+    converted e = sum_by_numbers tree _ _ (λ n lt. ap length (e n lt) ∙ length-map (list_at lists.v n) (square_of tree)) ∙ sym (sum_by_rows lists.v (size tree) (λ list. length list) (are.as_many V))
 
 pub translations_are_few : TranslationsAreFew
 translations_are_few points lists =

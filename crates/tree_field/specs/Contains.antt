@@ -1,6 +1,7 @@
 -- The boxes of the field contain the direct sum.
-use Rattle.std.specs.Prelude.{ℕ, ◌<◌, ◌≤◌, ◌^◌, pos, List, All}
+use Rattle.std.specs.Prelude.{ℕ, ◌<◌, ◌≤◌, List, All}
 use Rattle.exact_math.specs.Ends.{BoxEndsContain}
+use Rattle.exact_math.specs.Units.{unit}
 use Rattle.near_field.specs.DirectSum.{direct_sum}
 use Rattle.points.specs.Points.{place}
 use Rattle.points.specs.declared.Point.{Point}
@@ -11,4 +12,4 @@ use Rattle.tree_field.specs.Lists.{TreeLists, AreTreeLists}
 -- for each list within a grid, each capacity of the leaves and each order from 2 on, at each target
 abbrev pub FieldContains : Type 0
 FieldContains = (grid : ℕ) (points : List Point) (cap P : ℕ) (lists : TreeLists) → 0 < grid → 2 ≤ P → AreInGrid grid points → AreTreeLists grid points cap lists
-    → All (λ t. BoxEndsContain (pos (2 ^ 40)) (target_box points cap P lists grid (place t)) (direct_sum (place t) points)) (targets points)
+    → All (λ t. BoxEndsContain unit (target_box points cap P lists grid (place t)) (direct_sum (place t) points)) (targets points)

@@ -1,5 +1,5 @@
 -- The field of the method: rows and radii of the cells of the tree, and the box of each target. Rows and boxes count units of 2^-40; a row is a function of its index.
-use Rattle.std.specs.Prelude.{ℕ, zero, suc, ◌+◌, ◌-◌, ◌*◌, pos, Bool, ◌&&◌, not, cond, nat_lt, List, map, filter, sum_by}
+use Rattle.std.specs.Prelude.{ℕ, zero, suc, ◌+◌, ◌-◌, ◌*◌, pos, Bool, ◌&&◌, not, cond, List, map, filter, sum_by}
 use Rattle.std.specs.List.{list_any}
 use Rattle.exact_math.specs.Ends.{BoxEnds, zero_box, add_box, widen_box}
 use Rattle.exact_math.specs.Gaussian.{Gaussian}
@@ -9,14 +9,14 @@ use Rattle.kernel_table.specs.Kernel.{kernel_entry}
 use Rattle.points.specs.Points.{is_source, place}
 use Rattle.near_field.specs.Pair.{pair_box}
 use Rattle.points.specs.declared.Point.{Point}
-use Rattle.quadtree.specs.Splitting.{quarters}
-use Rattle.quadtree.specs.Tree.{count_in}
+use Rattle.cell_name.specs.Quarters.{quarters}
+use Rattle.quadtree.specs.Tree.{is_over}
 use Rattle.row_recursions.specs.Rows.{shifted_up, converted, shifted_down, local_value, multipole_value}
 use Rattle.row_recursions.specs.Sources.{source_of}
 use Rattle.soundness.specs.Computed.{total_box, total_row, moments_in, far_coefficients_in}
 use Rattle.soundness.specs.Squares.{offset, quadrant, sides_between}
 use Rattle.truncation.specs.Entries.{weight}
-use Rattle.truncation.specs.Tails.{ceiling, pair_tail, single_tail}
+use Rattle.truncation.specs.Tails.{pair_radius, single_radius}
 use Rattle.tree_field.specs.Lists.{TreeLists}
 
 -- ---- points and cells
@@ -47,23 +47,19 @@ module _ (points : List Point) where
     weight_in c = sum_by (λ p. weight P (source_of p)) (sources_in c)
 
     -- two cells of the side s
-    abbrev pub pair_radius : ℕ → Square → ℕ
-    pair_radius s c = ceiling (weight_in c * pair_tail P) s
+    abbrev pub pair_radius_in : ℕ → Square → ℕ
+    pair_radius_in s c = pair_radius P (weight_in c) s
 
     -- a cell of the side s, and the other seen by its points
-    abbrev pub single_radius : ℕ → Square → ℕ
-    single_radius s c = ceiling (weight_in c * single_tail P) s
+    abbrev pub single_radius_in : ℕ → Square → ℕ
+    single_radius_in s c = single_radius P (weight_in c) s
 
   module _ (cap : ℕ) where
-    -- whether the cell has more points than a leaf may have
-    abbrev pub is_over : Square → Bool
-    is_over c = nat_lt cap (count_in points c)
-
     -- of a cell with that many levels below its own: the sum of the rows of its quarters with a source, shifted up, and of a leaf that of its sources
     unfoldable pub multipole_above : ℕ → Square → ℕ → BoxEnds
     multipole_above zero c = leaf_row c
     multipole_above (suc levels) c =
-        cond (is_over c)
+        cond (is_over points cap c)
         (total_row (λ q. shifted_up (multipole_above levels q) (quadrant q)) (filter has_source (quarters c)))
         (leaf_row c)
 
@@ -75,7 +71,7 @@ module _ (points : List Point) where
     leaf_below zero grid z = square_at grid grid z.re z.im
     leaf_below (suc levels) grid z =
         let c = square_at grid (grid - suc levels) z.re z.im in
-        cond (is_over c) (leaf_below levels grid z) c
+        cond (is_over points cap c) (leaf_below levels grid z) c
 
     abbrev pub leaf_at : ℕ → Gaussian → Square
     leaf_at grid z = leaf_below grid grid z
@@ -101,7 +97,7 @@ module _ (points : List Point) where
       -- ---- radii
       unfoldable pub radius_at_level : ℕ → Square → ℕ
       radius_at_level zero b = 0
-      radius_at_level (suc level) b = radius_at_level level (parent b) + (sum_by (pair_radius P (side b)) (lists.entries V b) + sum_by (single_radius P (side b)) (lists.entries X b))
+      radius_at_level (suc level) b = radius_at_level level (parent b) + (sum_by (pair_radius_in P (side b)) (lists.entries V b) + sum_by (single_radius_in P (side b)) (lists.entries X b))
 
       abbrev pub local_radius : Square → ℕ
       local_radius b = radius_at_level b.level b
@@ -118,7 +114,7 @@ module _ (points : List Point) where
 
       -- what all entries on the way to the leaf can lose
       abbrev pub radius_in : Square → ℕ
-      radius_in b = local_radius b + sum_by (λ c. single_radius P (side c) c) (lists.entries W b)
+      radius_in b = local_radius b + sum_by (λ c. single_radius_in P (side c) c) (lists.entries W b)
 
       abbrev pub box_in : Square → Gaussian → BoxEnds
       box_in b z = widen_box (add_box (local_value_at b z) (add_box (multipole_values_at b z) (pairs_at b z))) (pos (radius_in b))

@@ -5,12 +5,12 @@ use Rattle.cell_name.specs.Square.{Square, side, parent}
 use Rattle.letters.specs.declared.Letter.{Letter}
 use Rattle.letters.specs.declared.Letter.TheVariants.{V, X}
 use Rattle.points.specs.declared.Point.{Point}
-use Rattle.quadtree.specs.Splitting.{quarters}
+use Rattle.cell_name.specs.Quarters.{quarters}
 use Rattle.quadtree.specs.Tree.{AreInGrid, count_in, IsTreeCell}
 use Rattle.row_recursions.specs.Rows.{shifted_up, shifted_down}
 use Rattle.soundness.specs.Computed.{total_row}
 use Rattle.soundness.specs.Squares.{quadrant}
-use Rattle.tree_field.specs.Field.{has_source, leaf_row, multipole_row, converted_rows, far_rows, local_row, pair_radius, single_radius, local_radius}
+use Rattle.tree_field.specs.Field.{has_source, leaf_row, multipole_row, converted_rows, far_rows, local_row, pair_radius_in, single_radius_in, local_radius}
 use Rattle.tree_field.specs.Lists.{TreeLists, AreTreeLists}
 use Rattle.tree_field.specs.Work.{translations}
 
@@ -36,7 +36,7 @@ RootRadius = (points : List Point) (cap P : ℕ) (lists : TreeLists) (b : Square
 
 abbrev pub Radii : Type 0
 Radii = (points : List Point) (cap P : ℕ) (lists : TreeLists) (b : Square) → 0 < b.level
-    → local_radius points cap P lists b ≡ local_radius points cap P lists (parent b) + (sum_by (pair_radius points P (side b)) (lists.entries V b) + sum_by (single_radius points P (side b)) (lists.entries X b))
+    → local_radius points cap P lists b ≡ local_radius points cap P lists (parent b) + (sum_by (pair_radius_in points P (side b)) (lists.entries V b) + sum_by (single_radius_in points P (side b)) (lists.entries X b))
 
 -- each list of points within a grid has a tree with its entries
 abbrev pub EachListHasTree : Type 0

@@ -15,11 +15,11 @@ use Rattle.points.specs.declared.Point.{Point}
 use Rattle.quadtree.specs.Members.{holds_position, members_of}
 use Rattle.quadtree.specs.TreeModel.{TreeModel, size, square_of, node_of}
 use Rattle.quadtree.proofs.Distinct.{Contains-filter}
-use Rattle.row_recursions.specs.Sources.{source_of}
-use Rattle.row_recursions.proofs.Points.{grid_of, source_weight-light, source_weight-nothing}
+use Rattle.row_recursions.specs.Sources.{source_at, source_of}
+use Rattle.row_recursions.proofs.Points.{grid_of, weight-le-weight64, source_weight-nothing}
 use Rattle.truncation.specs.Entries.{weight}
 use Rattle.tree_field.specs.Field.{is_source_in, weight_in}
-use Rattle.tree_field.proofs.Members.{range_below}
+use Rattle.quadtree.proofs.Lists.{range_below}
 use Rattle.tree_field.proofs.Program.{nodes_of_tree}
 use Rattle.tree_field.proofs.Sums.{sum_by-map}
 use Rattle.tree_rows.specs.Trees.{IsTreeOfPoints}
@@ -34,7 +34,7 @@ weighs_at P points k = weighs P (get_or points k first_point)
 pub cell_light : (points : List Point) (P : ℕ) (c : Square) → P ≤ 32 → weight_in points P c ≤ total_weight points
 cell_light points P c few =
     let a = sum_by-filter_both (is_source_in c) (λ p. not (is_source_in c p)) (λ p. refl) (weighs P) points in
-    let b = sum_by-le-sum_by (weighs P) weight64 points (λ p. source_weight-light P p few) in
+    let b = sum_by-le-sum_by (weighs P) weight64 points (λ p. weight-le-weight64 P p few) in
     omega (arith, a, b)
 
 sum_of_kept : {X : Type 0} (f : X → ℕ) (p : X → Bool) (xs : List X) → ((x : X) → p x ≡ false → f x ≡ 0) → sum_by f (filter p xs) ≡ sum_by f xs

@@ -6,4 +6,4 @@ use Rattle.quadtree.specs.TreeModel.{TreeModel, IsTree}
 use Rattle.tree_rows.specs.Trees.{IsTreeOfPoints}
 
 pub some_tree : (points : List Point) (tree : TreeModel) → IsTreeOfPoints points tree → IsTree tree
-some_tree points tree h = record { points = points; cap = h.cap; in_grid = in_grid points h.range; few_points = h.few; is_tree = h.is_tree }
+some_tree points tree h = record { points = points; cap = h.cap; in_grid = in_grid points h.range; few_points = h.few; capacity = h.capacity; is_tree = h.is_tree }

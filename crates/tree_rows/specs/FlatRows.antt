@@ -13,8 +13,8 @@ abbrev pub AreSameRows : ℕ → (ℕ → BoxEnds) → (ℕ → BoxEnds) → Typ
 AreSameRows P m n = (k : ℕ) → k < P → m k ≡ n k
 
 -- the weight of cell n
-abbrev pub weight_at : List ℤ → ℕ → ℕ
-weight_at weights n = unsigned_abs (slice_index_or weights n (pos 0))
+abbrev pub stored_weight : List ℤ → ℕ → ℕ
+stored_weight weights n = unsigned_abs (slice_index_or weights n (pos 0))
 
 -- what a weight may be: 0 to the greatest total of a list
 pub record IsWeight (w : ℤ) : Type 0 where

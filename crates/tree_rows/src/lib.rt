@@ -1,8 +1,6 @@
 //! Rows, radii and weights of all cells of a tree, end to end in slices in the order of the cells: the words for them, and the weights.
 #![tactic(auto)]
 
-#[cfg(test)]
-mod tests;
 mod weights;
 
 pub use weights::weigh_cells;

@@ -1,7 +1,7 @@
 -- From bounds on complex numbers to the bound in whole numbers, and sums of it.
-use Rattle.exact_math.proofs.Common.{◌≡◌, subst, ℕ, suc, arith, ints, ℤ, pos, neg_ℤ, ◌+ℤ◌, ◌*ℤ◌, ◌<ℤ◌, int_ring, int_quotes, quotes, combine, ring1, ring4, ring6, ring8, ℚ, rational_ring, of_int, of_int-mul, ◌*ℚ◌, neg_ℚ, inverse, ◌≤ℚ◌, ≤ℚ-trans, le_equal, le_using, mul_mono, nonneg_int, int-<, inverse_right, absolute, ℂ, ◌-ℂ◌}
+use Rattle.exact_math.proofs.Common.{◌≡◌, sym, ap, subst, subst₂, ◌∙◌, ℕ, suc, arith, ints, ℤ, pos, neg_ℤ, ◌+ℤ◌, ◌*ℤ◌, ◌<ℤ◌, int_ring, int_quotes, quotes, combine, ring1, ring4, ring6, ring8, ℚ, rational_ring, of_int, of_int-mul, ◌*ℚ◌, neg_ℚ, inverse, ◌≤ℚ◌, ≤ℚ-trans, le_equal, le_using, mul_mono, nonneg_int, int-<, inverse_right, absolute, ℂ, ◌-ℂ◌}
 use Rattle.exact_math.specs.Contains.{Contains}
-use Rattle.exact_math.specs.Ratio.{Ratio, ComplexRatio, add_complex, sub_complex, zero_complex, re_part, im_part}
+use Rattle.exact_math.specs.Ratio.{Ratio, ComplexRatio, zero_complex, re_part, im_part, ◌+ᶜ◌, ◌-ᶜ◌}
 use Rattle.exact_math.specs.Rounding.{floor_div, ceil_div}
 use Rattle.exact_math.specs.Sums.{sum_terms}
 use Rattle.exact_math.proofs.Integers.{*-positive}
@@ -9,9 +9,10 @@ use Rattle.exact_math.proofs.RationalOrder.{le_absolute, neg_le_absolute}
 use Rattle.exact_math.proofs.Enclosures.{Encloses, of_int-neg}
 use Rattle.exact_math.proofs.Fractions.{Stands, Stands-sub, Stands-re, Stands-im}
 use Rattle.exact_math.proofs.Bridges.{contains_from_encloses, contains-add, contains-same, contains-units, contains-widen}
-use Rattle.truncation.specs.Entries.{RadiusWidens}
-use Rattle.truncation.specs.Truncation.{Truncated}
+use Rattle.truncation.specs.Truncation.{Truncated, MakesUp}
 use Rattle.truncation.proofs.Quotients.{PartsCounted}
+use Rattle.truncation.proofs.Tails.{div_ceil-is}
+use Rattle.std.specs.Int.{div_ceil}
 use Rattle.std.specs.Prelude.{List, [], ◌∷◌, fold, All}
 use Prim.Native.Nat.{◌+◌, ◌*◌, ◌^◌, ◌≤◌}
 
@@ -48,24 +49,24 @@ pub Truncated-same : (x x' y : ComplexRatio) (m n : ℕ) → pos 0 <ℤ x'.denom
 Truncated-same x x' y m n p e f h = record {
   exact_fraction = p;
   cut_fraction = h.cut_fraction;
-  re = contains-same h.re (re_part (sub_complex x' y)) (*-positive _ _ p h.cut_fraction) (one x.re x.denominator x'.re x'.denominator y.re y.denominator e);
-  im = contains-same h.im (im_part (sub_complex x' y)) (*-positive _ _ p h.cut_fraction) (one x.im x.denominator x'.im x'.denominator y.im y.denominator f);
+  re = contains-same h.re (re_part (x' -ᶜ y)) (*-positive _ _ p h.cut_fraction) (one x.re x.denominator x'.re x'.denominator y.re y.denominator e);
+  im = contains-same h.im (im_part (x' -ᶜ y)) (*-positive _ _ p h.cut_fraction) (one x.im x.denominator x'.im x'.denominator y.im y.denominator f);
 }
   where
     one : (a d b e c f : ℤ) → a *ℤ e ≡ b *ℤ d → (a *ℤ f +ℤ neg_ℤ c *ℤ d) *ℤ (e *ℤ f) ≡ (b *ℤ f +ℤ neg_ℤ c *ℤ e) *ℤ (d *ℤ f)
     one a d b e c f h = combine int_ring (f *ℤ f) h (ring6 int_ring a d b e c f (λ a d b e c f. search int_quotes depth 14) tt)
 
 -- the bounds of two sources add up
-pub Truncated-add : (x y x' y' : ComplexRatio) (m m' n : ℕ) → Truncated x y m n → Truncated x' y' m' n → Truncated (add_complex x x') (add_complex y y') (m + m') n
+pub Truncated-add : (x y x' y' : ComplexRatio) (m m' n : ℕ) → Truncated x y m n → Truncated x' y' m' n → Truncated (x +ᶜ x') (y +ᶜ y') (m + m') n
 Truncated-add x y x' y' m m' n h k =
     let p = *-positive _ _ h.exact_fraction k.exact_fraction in
     let q = *-positive _ _ h.cut_fraction k.cut_fraction in
     record {
       exact_fraction = p;
       cut_fraction = q;
-      re = both (contains-same (contains-add h.re k.re) (re_part (sub_complex (add_complex x x') (add_complex y y'))) (*-positive _ _ p q)
+      re = both (contains-same (contains-add h.re k.re) (re_part (x +ᶜ x' -ᶜ (y +ᶜ y'))) (*-positive _ _ p q)
           (one x.re x.denominator y.re y.denominator x'.re x'.denominator y'.re y'.denominator));
-      im = both (contains-same (contains-add h.im k.im) (im_part (sub_complex (add_complex x x') (add_complex y y'))) (*-positive _ _ p q)
+      im = both (contains-same (contains-add h.im k.im) (im_part (x +ᶜ x' -ᶜ (y +ᶜ y'))) (*-positive _ _ p q)
           (one x.im x.denominator y.im y.denominator x'.im x'.denominator y'.im y'.denominator));
     }
   where
@@ -92,10 +93,10 @@ Truncated-zero n = record {
 -- over a list of sources
 module _ {A : Type 0} (exact cut : A → ComplexRatio) (weight : A → ℕ) (T n : ℕ) where
   Truncated-fold : (xs : List A) (x y : ComplexRatio) (w : ℕ) → Truncated x y (w * T) n → All (λ a. Truncated (exact a) (cut a) (weight a * T) n) xs
-      → Truncated (fold (λ s a. add_complex s (exact a)) x xs) (fold (λ s a. add_complex s (cut a)) y xs) (fold (λ s a. s + weight a) w xs * T) n
+      → Truncated (fold (λ s a. s +ᶜ exact a) x xs) (fold (λ s a. s +ᶜ cut a) y xs) (fold (λ s a. s + weight a) w xs * T) n
   Truncated-fold [] x y w h each = h
-  Truncated-fold (a ∷ xs) x y w h each = Truncated-fold xs (add_complex x (exact a)) (add_complex y (cut a)) (w + weight a)
-      (subst (λ m. Truncated (add_complex x (exact a)) (add_complex y (cut a)) m n) (omega arith)
+  Truncated-fold (a ∷ xs) x y w h each = Truncated-fold xs (x +ᶜ exact a) (y +ᶜ cut a) (w + weight a)
+      (subst (λ m. Truncated (x +ᶜ exact a) (y +ᶜ cut a) m n) (omega arith)
       (Truncated-add x y (exact a) (cut a) (w * T) (weight a * T) n h (each 0 a (omega arith))))
       (λ k d l. each (suc k) d (omega arith))
 
@@ -110,12 +111,16 @@ neg_floor m n = twice_negated (floor_div (neg_ℤ (pos m)) (pos n))
     twice_negated : (z : ℤ) → z ≡ neg_ℤ (neg_ℤ z)
     twice_negated z = ring1 int_ring z (λ z. search int_quotes depth 9) tt
 
--- a box of the cut sum, widened by m/n rounded up, contains the exact sum
-pub radius_widens : RadiusWidens
-radius_widens m n exact cut box n>0 t h = record {
-  re = contains-widen (ceil_div (pos m) (pos n)) (re_part exact) h.re (near t.re);
-  im = contains-widen (ceil_div (pos m) (pos n)) (im_part exact) h.im (near t.im);
-}
+-- at most m/n in size, in other units, is at most ceil(m/n)
+pub contains-div_ceil : (u : ℤ) (m n : ℕ) → 1 ≤ n → {x : Ratio} → Contains (u *ℤ pos n) (neg_ℤ (pos m)) (pos m) x → Contains u (neg_ℤ (pos (div_ceil m n))) (pos (div_ceil m n)) x
+contains-div_ceil u m n n>0 {x} k = subst₂ (λ l h. Contains u l h x) (neg_floor m n ∙ ap neg_ℤ (sym up)) (sym up) (contains-units u (pos n) (omega (arith, ints)) k)
   where
-    near : {x : Ratio} → Contains (pos (2 ^ 40 * n)) (neg_ℤ (pos m)) (pos m) x → Contains (pos (2 ^ 40)) (neg_ℤ (ceil_div (pos m) (pos n))) (ceil_div (pos m) (pos n)) x
-    near {x} k = subst (λ l. Contains (pos (2 ^ 40)) l (ceil_div (pos m) (pos n)) x) (neg_floor m n) (contains-units (pos (2 ^ 40)) (pos n) (omega (arith, ints)) k)
+    up : pos (div_ceil m n) ≡ ceil_div (pos m) (pos n)
+    up = div_ceil-is m n n>0
+
+-- a box of the cut sum, widened by m/n rounded up, contains the exact sum
+pub radius_widens : (m n : ℕ) → 1 ≤ n → MakesUp m n (div_ceil m n)
+radius_widens m n n>0 exact cut box t h = record {
+  re = contains-widen (pos (div_ceil m n)) (re_part exact) h.re (contains-div_ceil (pos (2 ^ 40)) m n n>0 t.re);
+  im = contains-widen (pos (div_ceil m n)) (im_part exact) h.im (contains-div_ceil (pos (2 ^ 40)) m n n>0 t.im);
+}

@@ -1,21 +1,22 @@
 -- What the cut terms and the doubled distances stand for.
-use Rattle.exact_math.proofs.Common.{◌≡◌, refl, sym, ap, ap₂, subst, subst₂, ◌∙◌, ℕ, suc, arith, ints, ℤ, pos, negsuc, ◌+ℤ◌, ◌-ℤ◌, ◌*ℤ◌, ◌<ℤ◌, quotes, combine, ring1, ring2, ring3, pow, ℚ, rational_ring, of_int, of_int-add, of_int-mul, of_int-≤, ◌+ℚ◌, ◌*ℚ◌, neg_ℚ, inverse, ◌≤ℚ◌, ◌<ℚ◌, int-<, inverse_right, positive_mul, sum_below, ℂ, complex_rationals, of_int_ℂ, ◌+ℂ◌, ◌*ℂ◌, ◌-ℂ◌, neg_ℂ, inverse_ℂ, *ℂ-inverse, norm, norm-mul, real, parts-add, parts-neg, parts-int, parts-inverse}
-use Rattle.exact_math.specs.Gaussian.{Gaussian, gaussian, sub_gaussian, norm_gaussian}
-use Rattle.exact_math.specs.Ratio.{ComplexRatio, neg_complex, mul_complex}
-use Rattle.exact_math.specs.Within.{Within}
+use Rattle.exact_math.proofs.Common.{◌≡◌, refl, sym, ap, ap₂, subst, subst₂, ◌∙◌, ℕ, suc, arith, ints, ℤ, pos, ◌+ℤ◌, ◌-ℤ◌, ◌*ℤ◌, ◌<ℤ◌, quotes, combine, ring1, ring2, ring3, pow, ℚ, rational_ring, of_int, of_int-add, of_int-mul, of_int-≤, ◌+ℚ◌, ◌*ℚ◌, neg_ℚ, inverse, ◌≤ℚ◌, ◌<ℚ◌, int-<, inverse_right, positive_mul, sum_below, ℂ, complex_rationals, of_int_ℂ, ◌+ℂ◌, ◌*ℂ◌, ◌-ℂ◌, neg_ℂ, inverse_ℂ, *ℂ-inverse, norm, norm-mul, real, parts-add, parts-neg, parts-int}
+use Rattle.exact_math.specs.Gaussian.{Gaussian, gaussian, sub_gaussian, norm_gaussian, scale_gaussian, twice}
+use Rattle.exact_math.specs.Ratio.{ComplexRatio, neg_complex, ◌*ᶜ◌, reciprocal, invert}
 use Rattle.exact_math.proofs.ComplexRationals.{real-mul, inverse_unique}
 use Rattle.exact_math.proofs.QuadraticExtension.{same_pair, pow_slope}
 use Rattle.exact_math.proofs.TruncatedKernel.{kernel_sum}
 use Rattle.exact_math.proofs.KernelSlope.{slope_sum}
 use Rattle.exact_math.proofs.Enclosures.{of_int-neg}
 use Rattle.exact_math.proofs.GaussianSizes.{absolute_int}
-use Rattle.exact_math.proofs.Gaussians.{value, value-norm, value-sub}
+use Rattle.exact_math.proofs.Gaussians.{value, value-sub}
 use Rattle.exact_math.proofs.Fractions.{complex_value, complex_value-split, Stands, Stands-whole, Stands-count, Stands-mul, Stands-neg, Stands-pow, Stands-slope, Stands-sum}
+use Rattle.exact_math.proofs.WholeSizes.{unsigned_abs-within}
 use Rattle.exact_math.proofs.KernelIdentity.{Stands-kernel, Stands-kernel_slope}
-use Rattle.exact_math.proofs.DirectTerms.{norm_positive, Stands-pole, Stands-dipole}
-use Rattle.truncation.specs.CutTerms.{half, reciprocal, invert, pair_pole_cut, pair_dipole_cut, multipole_pole_cut, multipole_dipole_cut, local_pole_cut, local_dipole_cut}
-use Rattle.truncation.specs.Places.{GaussianWithin, GaussianBeyond, times_side, pair_distance}
-use Rattle.truncation.specs.Truncation.{twice, halved_pole_term, halved_dipole_term}
+use Rattle.exact_math.proofs.DirectTerms.{norm_positive, Stands-reciprocal, Stands-pole, Stands-dipole}
+use Rattle.truncation.specs.CutTerms.{half, pair_pole_cut, pair_dipole_cut, multipole_pole_cut, multipole_dipole_cut, local_pole_cut, local_dipole_cut}
+use Rattle.exact_math.specs.Within.{GaussianWithin, GaussianBeyond}
+use Rattle.truncation.specs.Places.{pair_distance}
+use Rattle.truncation.specs.Truncation.{halved_pole_term, halved_dipole_term}
 use Rattle.truncation.proofs.Distances.{PartsAtMost, SomePartAtLeast, double}
 use Rattle.std.specs.Prelude.{unsigned_abs}
 use Rattle.std.proofs.lemmas.Int.{unsigned_abs-mul}
@@ -23,21 +24,7 @@ use mathlib.Core.Logic.{inl, inr}
 use native.Mathlib.Nat.{mul-le-mul_left}
 use Prim.Native.Nat.{◌*◌, ◌≤◌}
 
--- ---- sizes
-size_le : (m : ℕ) (z : ℤ) → Within m z → unsigned_abs z ≤ m
-size_le m (pos n) h = let l = h.below in omega (arith, ints)
-size_le m (negsuc n) h = let l = h.above in omega (arith, ints)
-
 -- ---- reciprocals
-Stands-reciprocal : (g : Gaussian) → pos 0 <ℤ norm_gaussian g → Stands (reciprocal g) (inverse_ℂ (value g))
-Stands-reciprocal g h = record {
-  positive = h;
-  is = same_pair rational_ring _ _
-      (ap (λ n. of_int g.re *ℚ inverse n) (value-norm g))
-      (ap₂ (λ a n. a *ℚ inverse n) (of_int-neg g.im) (value-norm g))
-      ∙ sym (parts-inverse (value g));
-}
-
 real_one : real (of_int (pos 1)) ≡ of_int_ℂ (pos 1)
 real_one = sym (parts-int (pos 1))
 
@@ -95,15 +82,15 @@ int_le m n h = (of_int-≤ _ _).1 (omega (arith, ints))
 -- an offset within s
 pub offset_parts : (g : Gaussian) (s : ℕ) → GaussianWithin s g → PartsAtMost (double (halved g)) (of_int (pos s))
 offset_parts g s h = subst (λ z. PartsAtMost z (of_int (pos s))) (sym (double_halved g)) (record {
-  re = subst (λ q. q ≤ℚ of_int (pos s)) (sym (absolute_int g.re)) (int_le _ _ (size_le s g.re h.re));
-  im = subst (λ q. q ≤ℚ of_int (pos s)) (sym (absolute_int g.im)) (int_le _ _ (size_le s g.im h.im));
+  re = subst (λ q. q ≤ℚ of_int (pos s)) (sym (absolute_int g.re)) (int_le _ _ (unsigned_abs-within s g.re h.re));
+  im = subst (λ q. q ≤ℚ of_int (pos s)) (sym (absolute_int g.im)) (int_le _ _ (unsigned_abs-within s g.im h.im));
 })
 
 value_parts : (g : Gaussian) (m : ℕ) → GaussianBeyond m g → SomePartAtLeast (value g) (of_int (pos m))
 value_parts g m (inl h) = inl (subst (λ q. of_int (pos m) ≤ℚ q) (sym (absolute_int g.re)) (int_le _ _ h))
 value_parts g m (inr h) = inr (subst (λ q. of_int (pos m) ≤ℚ q) (sym (absolute_int g.im)) (int_le _ _ h))
 
-times_side_parts : (s : ℕ) (e : Gaussian) → GaussianBeyond 2 e → GaussianBeyond (2 * s) (times_side s e)
+times_side_parts : (s : ℕ) (e : Gaussian) → GaussianBeyond 2 e → GaussianBeyond (2 * s) (scale_gaussian s e)
 times_side_parts s e (inl h) = inl (one e.re h)
   where
     one : (z : ℤ) → 2 ≤ unsigned_abs z → 2 * s ≤ unsigned_abs (pos s *ℤ z)
@@ -114,26 +101,26 @@ times_side_parts s e (inr h) = inr (one e.im h)
     one z h = let e = unsigned_abs-mul (pos s) z in let k = mul-le-mul_left s h in omega arith
 
 -- centres 2 sides apart
-pub centre_parts : (s : ℕ) (e : Gaussian) → GaussianBeyond 2 e → SomePartAtLeast (value (times_side s e)) (of_int (pos 2) *ℚ of_int (pos s))
-centre_parts s e h = subst (λ m. SomePartAtLeast (value (times_side s e)) m) (of_int-mul (pos 2) (pos s)) (value_parts (times_side s e) (2 * s) (times_side_parts s e h))
+pub centre_parts : (s : ℕ) (e : Gaussian) → GaussianBeyond 2 e → SomePartAtLeast (value (scale_gaussian s e)) (of_int (pos 2) *ℚ of_int (pos s))
+centre_parts s e h = subst (λ m. SomePartAtLeast (value (scale_gaussian s e)) m) (of_int-mul (pos 2) (pos s)) (value_parts (scale_gaussian s e) (2 * s) (times_side_parts s e h))
 
 -- a place beyond 3 sides
 pub far_parts : (s : ℕ) (z : Gaussian) → GaussianBeyond (3 * s) z → SomePartAtLeast (double (halved z)) (of_int (pos 3) *ℚ of_int (pos s))
 far_parts s z h = subst₂ SomePartAtLeast (sym (double_halved z)) (of_int-mul (pos 3) (pos s)) (value_parts z (3 * s) h)
 
 -- ---- the doubled distances
-pub pair_distance_is : (s : ℕ) (e o q : Gaussian) → value (pair_distance s e o q) ≡ double (value (times_side s e) +ℂ halved q -ℂ halved o)
+pub pair_distance_is : (s : ℕ) (e o q : Gaussian) → value (pair_distance s e o q) ≡ double (value (scale_gaussian s e) +ℂ halved q -ℂ halved o)
 pair_distance_is s e o q =
-    parts_is ∙ ap₂ (λ a b. double (value (times_side s e)) +ℂ a -ℂ b) (sym (double_halved q)) (sym (double_halved o))
-    ∙ ring3 complex_rationals (value (times_side s e)) (halved q) (halved o) (λ d v u. search quotes depth 12) tt
+    parts_is ∙ ap₂ (λ a b. double (value (scale_gaussian s e)) +ℂ a -ℂ b) (sym (double_halved q)) (sym (double_halved o))
+    ∙ ring3 complex_rationals (value (scale_gaussian s e)) (halved q) (halved o) (λ d v u. search quotes depth 12) tt
   where
     one : (d q o : ℤ) → of_int (d +ℤ d +ℤ q -ℤ o) ≡ of_int d +ℚ of_int d +ℚ of_int q +ℚ neg_ℚ (of_int o)
     one d q o = of_int-add _ _ ∙ ap₂ ◌+ℚ◌ (of_int-add _ _ ∙ ap (λ z. z +ℚ of_int q) (of_int-add d d)) (of_int-neg o)
 
-    parts_is : value (pair_distance s e o q) ≡ double (value (times_side s e)) +ℂ value q -ℂ value o
+    parts_is : value (pair_distance s e o q) ≡ double (value (scale_gaussian s e)) +ℂ value q -ℂ value o
     parts_is =
         same_pair rational_ring _ _ (one (pos s *ℤ e.re) q.re o.re) (one (pos s *ℤ e.im) q.im o.im)
-        ∙ sym (ap₂ ◌+ℂ◌ (ap (λ z. z +ℂ value q) (parts-add (value (times_side s e)) (value (times_side s e))) ∙ parts-add _ (value q)) (parts-neg (value o)) ∙ parts-add _ _)
+        ∙ sym (ap₂ ◌+ℂ◌ (ap (λ z. z +ℂ value q) (parts-add (value (scale_gaussian s e)) (value (scale_gaussian s e))) ∙ parts-add _ (value q)) (parts-neg (value o)) ∙ parts-add _ _)
 
 -- twice w - u
 pub single_distance_is : (z o : Gaussian) → value (sub_gaussian z o) ≡ double (halved z -ℂ halved o)
@@ -176,27 +163,27 @@ module _ (D : Gaussian) (delta : ℂ) (is : value D ≡ double delta) (delta>0 :
       (Stands-dipole (twice (twice b)) D distance_positive)
 
 -- ---- the cut terms
-module _ (P s : ℕ) (e o q : Gaussian) (d>0 : of_int (pos 0) <ℚ norm (value (times_side s e))) where
+module _ (P s : ℕ) (e o q : Gaussian) (d>0 : of_int (pos 0) <ℚ norm (value (scale_gaussian s e))) where
   abbrev d : ℂ
-  d = value (times_side s e)
+  d = value (scale_gaussian s e)
 
-  stands_d : Stands (reciprocal (times_side s e)) (inverse_ℂ d)
-  stands_d = Stands-reciprocal (times_side s e) (norm_positive (times_side s e) d>0)
+  stands_d : Stands (reciprocal (scale_gaussian s e)) (inverse_ℂ d)
+  stands_d = Stands-reciprocal (scale_gaussian s e) (norm_positive (scale_gaussian s e) d>0)
 
-  stands_x : Stands (mul_complex (half o) (reciprocal (times_side s e))) (halved o *ℂ inverse_ℂ d)
+  stands_x : Stands (half o *ᶜ reciprocal (scale_gaussian s e)) (halved o *ℂ inverse_ℂ d)
   stands_x = Stands-mul (Stands-half o) stands_d
 
-  stands_y : Stands (neg_complex (mul_complex (half q) (reciprocal (times_side s e)))) (neg_ℂ (halved q *ℂ inverse_ℂ d))
+  stands_y : Stands (neg_complex (half q *ᶜ reciprocal (scale_gaussian s e))) (neg_ℂ (halved q *ℂ inverse_ℂ d))
   stands_y = Stands-neg (Stands-mul (Stands-half q) stands_d)
 
   -- (a/d) T(u/d, -v/d)
   pub Stands-pair_pole_cut : (a : Gaussian) → Stands (pair_pole_cut P s e o q a)
-      (value a *ℂ inverse_ℂ (value (times_side s e)) *ℂ kernel_sum complex_rationals (halved o *ℂ inverse_ℂ (value (times_side s e))) (neg_ℂ (halved q *ℂ inverse_ℂ (value (times_side s e)))) P P)
+      (value a *ℂ inverse_ℂ (value (scale_gaussian s e)) *ℂ kernel_sum complex_rationals (halved o *ℂ inverse_ℂ (value (scale_gaussian s e))) (neg_ℂ (halved q *ℂ inverse_ℂ (value (scale_gaussian s e)))) P P)
   Stands-pair_pole_cut a = Stands-mul (Stands-mul (Stands-whole a) stands_d) (Stands-kernel stands_x stands_y P)
 
   -- (b/d^2) T'(u/d, -v/d)
   pub Stands-pair_dipole_cut : (b : Gaussian) → Stands (pair_dipole_cut P s e o q b)
-      (value b *ℂ (inverse_ℂ (value (times_side s e)) *ℂ inverse_ℂ (value (times_side s e))) *ℂ slope_sum complex_rationals (halved o *ℂ inverse_ℂ (value (times_side s e))) (neg_ℂ (halved q *ℂ inverse_ℂ (value (times_side s e)))) P P)
+      (value b *ℂ (inverse_ℂ (value (scale_gaussian s e)) *ℂ inverse_ℂ (value (scale_gaussian s e))) *ℂ slope_sum complex_rationals (halved o *ℂ inverse_ℂ (value (scale_gaussian s e))) (neg_ℂ (halved q *ℂ inverse_ℂ (value (scale_gaussian s e)))) P P)
   Stands-pair_dipole_cut b = Stands-mul (Stands-mul (Stands-whole b) (Stands-mul stands_d stands_d)) (Stands-kernel_slope stands_x stands_y P)
 
 module _ (P : ℕ) (z o : Gaussian) (z>0 : of_int (pos 0) <ℚ norm (halved z)) where

@@ -1,14 +1,15 @@
 -- The truncation bound of a whole entry: all sources of one cell, seen from one target.
 use Rattle.exact_math.proofs.Common.{◌≡◌, ap, ap₂, subst, ℕ, arith, ints, ℤ, pos, ◌+ℤ◌, ◌-ℤ◌, ◌*ℤ◌, ◌<ℤ◌, int_ring, int_quotes, ring2, ring4}
-use Rattle.exact_math.specs.Gaussian.{Gaussian, gaussian, sub_gaussian, norm_gaussian}
+use Rattle.exact_math.specs.Gaussian.{Gaussian, gaussian, zero_gaussian, sub_gaussian, norm_gaussian, scale_gaussian, twice}
 use Rattle.exact_math.specs.Ratio.{ComplexRatio}
-use Rattle.exact_math.specs.Sizes.{abs_gaussian}
+use Rattle.exact_math.specs.Sizes.{weight_at}
 use Rattle.exact_math.specs.Terms.{pole_term, dipole_term}
 use Rattle.exact_math.proofs.Integers.{*-positive}
 use Rattle.truncation.specs.Entries.{Source, weight, exact_term, pair_cut, multipole_cut, local_cut, PairEntries, MultipoleEntries, LocalEntries}
-use Rattle.truncation.specs.Places.{GaussianWithin, GaussianBeyond, times_side, pair_distance, PairPlaces, SinglePlaces, doubled_offset}
+use Rattle.exact_math.specs.Within.{GaussianWithin, GaussianBeyond}
+use Rattle.truncation.specs.Places.{pair_distance, PairPlaces, SinglePlaces, doubled_offset}
 use Rattle.truncation.specs.Tails.{pair_tail, single_tail}
-use Rattle.truncation.specs.Truncation.{Truncated, twice, halved_pole_term, halved_dipole_term}
+use Rattle.truncation.specs.Truncation.{Truncated, halved_pole_term, halved_dipole_term}
 use Rattle.truncation.proofs.Counting.{Truncated-same, Truncated-sum}
 use Rattle.truncation.proofs.SourceBounds.{pair_truncation, single_truncation}
 use Rattle.std.specs.Prelude.{Bool, true, false, cond}
@@ -48,18 +49,18 @@ cond_times false m m' t = omega arith
 
 -- one source, at the distance delta of which D is the double
 one_source : (P T s : ℕ) (x : Source) (delta D : Gaussian) (pole dipole : ComplexRatio) → D ≡ twice delta
-    → Truncated (halved_pole_term x.strength D) pole (abs_gaussian x.strength * T) s → Truncated (halved_dipole_term x.strength D) dipole (2 * P * abs_gaussian x.strength * T) s
+    → Truncated (halved_pole_term x.strength D) pole (weight_at P x.strength zero_gaussian * T) s → Truncated (halved_dipole_term x.strength D) dipole (weight_at P zero_gaussian x.strength * T) s
     → Truncated (cond x.dipole (dipole_term x.strength delta) (pole_term x.strength delta)) (cond x.dipole dipole pole) (weight P x * T) s
 one_source P T s x delta D pole dipole e h k =
-    let h' = at_places_pole delta x.strength pole _ s (subst (λ d. Truncated (halved_pole_term x.strength d) pole (abs_gaussian x.strength * T) s) e h) in
-    let k' = at_places_dipole delta x.strength dipole _ s h'.exact_fraction (subst (λ d. Truncated (halved_dipole_term x.strength d) dipole (2 * P * abs_gaussian x.strength * T) s) e k) in
+    let h' = at_places_pole delta x.strength pole _ s (subst (λ d. Truncated (halved_pole_term x.strength d) pole (weight_at P x.strength zero_gaussian * T) s) e h) in
+    let k' = at_places_dipole delta x.strength dipole _ s h'.exact_fraction (subst (λ d. Truncated (halved_dipole_term x.strength d) dipole (weight_at P zero_gaussian x.strength * T) s) e k) in
     subst (λ m. Truncated (cond x.dipole (dipole_term x.strength delta) (pole_term x.strength delta)) (cond x.dipole dipole pole) m s)
-    (cond_times x.dipole (2 * P * abs_gaussian x.strength) (abs_gaussian x.strength) T)
+    (cond_times x.dipole (weight_at P zero_gaussian x.strength) (weight_at P x.strength zero_gaussian) T)
     (by_kind _ _ _ _ _ _ s x.dipole k' h')
 
 -- ---- entries
 -- the centres are s e apart
-pair_distance_twice : (s : ℕ) (e b c t z : Gaussian) → sub_gaussian b c ≡ times_side (2 * s) e → pair_distance s e (doubled_offset z c) (doubled_offset t b) ≡ twice (sub_gaussian t z)
+pair_distance_twice : (s : ℕ) (e b c t z : Gaussian) → sub_gaussian b c ≡ scale_gaussian (2 * s) e → pair_distance s e (doubled_offset z c) (doubled_offset t b) ≡ twice (sub_gaussian t z)
 pair_distance_twice s e b c t z f = ap₂ gaussian (one t.re z.re b.re c.re e.re (ap (λ g. g.re) f)) (one t.im z.im b.im c.im e.im (ap (λ g. g.im) f))
   where
     one : (t z b c e : ℤ) → b -ℤ c ≡ pos (2 * s) *ℤ e → pos s *ℤ e +ℤ pos s *ℤ e +ℤ (t +ℤ t -ℤ b) -ℤ (z +ℤ z -ℤ c) ≡ (t -ℤ z) +ℤ (t -ℤ z)

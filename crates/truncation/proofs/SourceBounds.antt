@@ -1,11 +1,11 @@
 -- The truncation bound of one source, in whole numbers.
 use Rattle.exact_math.proofs.Common.{◌≡◌, sym, ap, ap₂, subst, ◌∙◌, ℕ, zero, suc, arith, ints, pos, pow, ℚ, rational_ring, of_int, of_int-mul, of_int-≤, ◌*ℚ◌, inverse, ◌≤ℚ◌, ◌<ℚ◌, nonneg_int, ℂ, ◌+ℂ◌, ◌-ℂ◌, norm, size}
-use Rattle.exact_math.specs.Gaussian.{Gaussian, sub_gaussian}
-use Rattle.exact_math.specs.Sizes.{abs_gaussian}
-use Rattle.exact_math.proofs.GaussianSizes.{size_value}
+use Rattle.exact_math.specs.Gaussian.{Gaussian, zero_gaussian, sub_gaussian, scale_gaussian}
+use Rattle.exact_math.specs.Sizes.{abs_gaussian, weight_at}
+use Rattle.exact_math.proofs.GaussianSizes.{size_value, weight_at-pole, weight_at-dipole}
 use Rattle.exact_math.proofs.Gaussians.{value}
 use Rattle.truncation.specs.CutTerms.{pair_pole_cut, pair_dipole_cut, multipole_pole_cut, multipole_dipole_cut, local_pole_cut, local_dipole_cut}
-use Rattle.truncation.specs.Places.{times_side, pair_distance, PairPlaces, SinglePlaces}
+use Rattle.truncation.specs.Places.{pair_distance, PairPlaces, SinglePlaces}
 use Rattle.truncation.specs.Tails.{pair_tail, single_tail}
 use Rattle.truncation.specs.Truncation.{Truncated, halved_pole_term, halved_dipole_term, PairTruncation, SingleTruncation}
 use Rattle.truncation.proofs.Distances.{PartsAtMost, SomePartAtLeast, double, times_ratio}
@@ -33,13 +33,16 @@ side_large : (s : ℕ) → 1 ≤ s → of_int (pos 1) ≤ℚ of_int (pos s)
 side_large s h = (of_int-≤ _ _).1 (omega (arith, ints))
 
 -- the bounds, with the weight and the tail as one whole number
-pole_total : (a : Gaussian) (t : ℕ) (i : ℚ) → size (value a) *ℚ of_int (pos t) *ℚ i ≡ of_int (pos (abs_gaussian a * t)) *ℚ i
-pole_total a t i = ap (λ z. z *ℚ i) (ap (λ z. z *ℚ of_int (pos t)) (size_value a) ∙ sym (of_int-mul (pos (abs_gaussian a)) (pos t)))
+pole_total : (P : ℕ) (a : Gaussian) (t : ℕ) (i : ℚ) → size (value a) *ℚ of_int (pos t) *ℚ i ≡ of_int (pos (weight_at P a zero_gaussian * t)) *ℚ i
+pole_total P a t i = ap (λ z. z *ℚ i)
+    (ap (λ z. z *ℚ of_int (pos t)) (size_value a) ∙ sym (of_int-mul (pos (abs_gaussian a)) (pos t))
+    ∙ ap (λ w. of_int (pos (w * t))) (sym (weight_at-pole P a)))
 
-dipole_total : (P : ℕ) (b : Gaussian) (t : ℕ) (i : ℚ) → of_int (pos 2) *ℚ of_int (pos P) *ℚ size (value b) *ℚ of_int (pos t) *ℚ i ≡ of_int (pos (2 * P * abs_gaussian b * t)) *ℚ i
+dipole_total : (P : ℕ) (b : Gaussian) (t : ℕ) (i : ℚ) → of_int (pos 2) *ℚ of_int (pos P) *ℚ size (value b) *ℚ of_int (pos t) *ℚ i ≡ of_int (pos (weight_at P zero_gaussian b * t)) *ℚ i
 dipole_total P b t i = ap (λ z. z *ℚ i)
     (ap₂ (λ p z. p *ℚ z *ℚ of_int (pos t)) (sym (of_int-mul (pos 2) (pos P))) (size_value b)
-    ∙ ap (λ z. z *ℚ of_int (pos t)) (sym (of_int-mul (pos (2 * P)) (pos (abs_gaussian b)))) ∙ sym (of_int-mul (pos (2 * P * abs_gaussian b)) (pos t)))
+    ∙ ap (λ z. z *ℚ of_int (pos t)) (sym (of_int-mul (pos (2 * P)) (pos (abs_gaussian b)))) ∙ sym (of_int-mul (pos (2 * P * abs_gaussian b)) (pos t))
+    ∙ ap (λ w. of_int (pos (w * t))) (sym (weight_at-dipole P b)))
 
 recount : {c : ℚ} {z : ℂ} {m n : ℚ} → m ≡ n → PartsCounted c z m → PartsCounted c z n
 recount {c} {z} e h = subst (λ m. PartsCounted c z m) e h
@@ -49,7 +52,7 @@ module _ (s : ℕ) (e o q : Gaussian) (h : PairPlaces s e o q) where
   large : of_int (pos 1) ≤ℚ of_int (pos s)
   large = side_large s h.side
 
-  centres_apart : SomePartAtLeast (value (times_side s e)) (of_int (pos 2) *ℚ of_int (pos s))
+  centres_apart : SomePartAtLeast (value (scale_gaussian s e)) (of_int (pos 2) *ℚ of_int (pos s))
   centres_apart = centre_parts s e h.apart
 
   source_near : PartsAtMost (double (halved o)) (of_int (pos s))
@@ -58,25 +61,25 @@ module _ (s : ℕ) (e o q : Gaussian) (h : PairPlaces s e o q) where
   target_near : PartsAtMost (double (halved q)) (of_int (pos s))
   target_near = offset_parts q s h.target
 
-  centres_positive : of_int (pos 0) <ℚ norm (value (times_side s e))
-  centres_positive = Pair.centre_positive (of_int (pos s)) large (value (times_side s e)) (halved o) (halved q) centres_apart source_near target_near
+  centres_positive : of_int (pos 0) <ℚ norm (value (scale_gaussian s e))
+  centres_positive = Pair.centre_positive (of_int (pos s)) large (value (scale_gaussian s e)) (halved o) (halved q) centres_apart source_near target_near
 
-  pair_positive : of_int (pos 0) <ℚ norm (value (times_side s e) +ℂ halved q -ℂ halved o)
-  pair_positive = Pair.delta_positive (of_int (pos s)) large (value (times_side s e)) (halved o) (halved q) centres_apart source_near target_near
+  pair_positive : of_int (pos 0) <ℚ norm (value (scale_gaussian s e) +ℂ halved q -ℂ halved o)
+  pair_positive = Pair.delta_positive (of_int (pos s)) large (value (scale_gaussian s e)) (halved o) (halved q) centres_apart source_near target_near
 
-  pair_pole : (P : ℕ) → 1 ≤ P → (a : Gaussian) → Truncated (halved_pole_term a (pair_distance s e o q)) (pair_pole_cut P s e o q a) (abs_gaussian a * pair_tail P) s
+  pair_pole : (P : ℕ) → 1 ≤ P → (a : Gaussian) → Truncated (halved_pole_term a (pair_distance s e o q)) (pair_pole_cut P s e o q a) (weight_at P a zero_gaussian * pair_tail P) s
   pair_pole zero k a = absurd (omega arith)
-  pair_pole (suc p) k a = truncated (abs_gaussian a * pair_tail (suc p)) s h.side
+  pair_pole (suc p) k a = truncated (weight_at (suc p) a zero_gaussian * pair_tail (suc p)) s h.side
       (Stands-halved_pole (pair_distance s e o q) _ (pair_distance_is s e o q) pair_positive a) (Stands-pair_pole_cut (suc p) s e o q centres_positive a)
-      (recount (pole_total a (pair_tail (suc p)) (inverse (of_int (pos s))))
-      (Pair.pole_bound (of_int (pos s)) large (value (times_side s e)) (halved o) (halved q) centres_apart source_near target_near p (of_int (pos (2 ^ 40))) (of_int (pos (pair_tail (suc p)))) (nonneg_int (2 ^ 40)) (pair_tail_dominates (suc p)) (value a)))
+      (recount (pole_total (suc p) a (pair_tail (suc p)) (inverse (of_int (pos s))))
+      (Pair.pole_bound (of_int (pos s)) large (value (scale_gaussian s e)) (halved o) (halved q) centres_apart source_near target_near p (of_int (pos (2 ^ 40))) (of_int (pos (pair_tail (suc p)))) (nonneg_int (2 ^ 40)) (pair_tail_dominates (suc p)) (value a)))
 
-  pair_dipole : (P : ℕ) → 1 ≤ P → (b : Gaussian) → Truncated (halved_dipole_term b (pair_distance s e o q)) (pair_dipole_cut P s e o q b) (2 * P * abs_gaussian b * pair_tail P) s
+  pair_dipole : (P : ℕ) → 1 ≤ P → (b : Gaussian) → Truncated (halved_dipole_term b (pair_distance s e o q)) (pair_dipole_cut P s e o q b) (weight_at P zero_gaussian b * pair_tail P) s
   pair_dipole zero k b = absurd (omega arith)
-  pair_dipole (suc p) k b = truncated (2 * suc p * abs_gaussian b * pair_tail (suc p)) s h.side
+  pair_dipole (suc p) k b = truncated (weight_at (suc p) zero_gaussian b * pair_tail (suc p)) s h.side
       (Stands-halved_dipole (pair_distance s e o q) _ (pair_distance_is s e o q) pair_positive b) (Stands-pair_dipole_cut (suc p) s e o q centres_positive b)
       (recount (dipole_total (suc p) b (pair_tail (suc p)) (inverse (of_int (pos s))))
-      (Pair.dipole_bound (of_int (pos s)) large (value (times_side s e)) (halved o) (halved q) centres_apart source_near target_near p (of_int (pos (2 ^ 40))) (of_int (pos (pair_tail (suc p)))) (nonneg_int (2 ^ 40)) (pair_tail_dominates (suc p)) (value b)))
+      (Pair.dipole_bound (of_int (pos s)) large (value (scale_gaussian s e)) (halved o) (halved q) centres_apart source_near target_near p (of_int (pos (2 ^ 40))) (of_int (pos (pair_tail (suc p)))) (nonneg_int (2 ^ 40)) (pair_tail_dominates (suc p)) (value b)))
 
 -- ---- a cell and a far place
 module _ (s : ℕ) (z o : Gaussian) (h : SinglePlaces s z o) where
@@ -98,26 +101,26 @@ module _ (s : ℕ) (z o : Gaussian) (h : SinglePlaces s z o) where
   in_positive : of_int (pos 0) <ℚ norm (halved o -ℂ halved z)
   in_positive = Single.turned_positive (of_int (pos s)) single_large (halved z) (halved o) far near
 
-  multipole_pole : (P : ℕ) (a : Gaussian) → Truncated (halved_pole_term a (sub_gaussian z o)) (multipole_pole_cut P z o a) (abs_gaussian a * single_tail P) s
-  multipole_pole P a = truncated (abs_gaussian a * single_tail P) s h.side
+  multipole_pole : (P : ℕ) (a : Gaussian) → Truncated (halved_pole_term a (sub_gaussian z o)) (multipole_pole_cut P z o a) (weight_at P a zero_gaussian * single_tail P) s
+  multipole_pole P a = truncated (weight_at P a zero_gaussian * single_tail P) s h.side
       (Stands-halved_pole (sub_gaussian z o) _ (single_distance_is z o) out_positive a) (Stands-multipole_pole_cut P z o far_positive a)
-      (recount (pole_total a (single_tail P) (inverse (of_int (pos s))))
+      (recount (pole_total P a (single_tail P) (inverse (of_int (pos s))))
       (Single.pole_bound (of_int (pos s)) single_large (halved z) (halved o) far near P (of_int (pos (2 ^ 40))) (of_int (pos (single_tail P))) (nonneg_int (2 ^ 40)) (single_tail_dominates P) (value a)))
 
-  multipole_dipole : (P : ℕ) → 2 ≤ P → (b : Gaussian) → Truncated (halved_dipole_term b (sub_gaussian z o)) (multipole_dipole_cut P z o b) (2 * P * abs_gaussian b * single_tail P) s
-  multipole_dipole P k b = truncated (2 * P * abs_gaussian b * single_tail P) s h.side
+  multipole_dipole : (P : ℕ) → 2 ≤ P → (b : Gaussian) → Truncated (halved_dipole_term b (sub_gaussian z o)) (multipole_dipole_cut P z o b) (weight_at P zero_gaussian b * single_tail P) s
+  multipole_dipole P k b = truncated (weight_at P zero_gaussian b * single_tail P) s h.side
       (Stands-halved_dipole (sub_gaussian z o) _ (single_distance_is z o) out_positive b) (Stands-multipole_dipole_cut P z o far_positive b)
       (recount (dipole_total P b (single_tail P) (inverse (of_int (pos s))))
       (Single.dipole_bound (of_int (pos s)) single_large (halved z) (halved o) far near P (of_int (pos (2 ^ 40))) (of_int (pos (single_tail P))) (nonneg_int (2 ^ 40)) (single_tail_dominates P) k (value b)))
 
-  local_pole : (P : ℕ) (a : Gaussian) → Truncated (halved_pole_term a (sub_gaussian o z)) (local_pole_cut P z o a) (abs_gaussian a * single_tail P) s
-  local_pole P a = truncated (abs_gaussian a * single_tail P) s h.side
+  local_pole : (P : ℕ) (a : Gaussian) → Truncated (halved_pole_term a (sub_gaussian o z)) (local_pole_cut P z o a) (weight_at P a zero_gaussian * single_tail P) s
+  local_pole P a = truncated (weight_at P a zero_gaussian * single_tail P) s h.side
       (Stands-halved_pole (sub_gaussian o z) _ (single_distance_is o z) in_positive a) (Stands-local_pole_cut P z o far_positive a)
-      (recount (pole_total a (single_tail P) (inverse (of_int (pos s))))
+      (recount (pole_total P a (single_tail P) (inverse (of_int (pos s))))
       (Single.turned_pole_bound (of_int (pos s)) single_large (halved z) (halved o) far near P (of_int (pos (2 ^ 40))) (of_int (pos (single_tail P))) (nonneg_int (2 ^ 40)) (single_tail_dominates P) (value a)))
 
-  local_dipole : (P : ℕ) → 1 ≤ P → (b : Gaussian) → Truncated (halved_dipole_term b (sub_gaussian o z)) (local_dipole_cut P z o b) (2 * P * abs_gaussian b * single_tail P) s
-  local_dipole P k b = truncated (2 * P * abs_gaussian b * single_tail P) s h.side
+  local_dipole : (P : ℕ) → 1 ≤ P → (b : Gaussian) → Truncated (halved_dipole_term b (sub_gaussian o z)) (local_dipole_cut P z o b) (weight_at P zero_gaussian b * single_tail P) s
+  local_dipole P k b = truncated (weight_at P zero_gaussian b * single_tail P) s h.side
       (Stands-halved_dipole (sub_gaussian o z) _ (single_distance_is o z) in_positive b) (Stands-local_dipole_cut P z o far_positive b)
       (recount (dipole_total P b (single_tail P) (inverse (of_int (pos s))))
       (Single.turned_dipole_bound (of_int (pos s)) single_large (halved z) (halved o) far near P (of_int (pos (2 ^ 40))) (of_int (pos (single_tail P))) (nonneg_int (2 ^ 40)) (single_tail_dominates P) k (value b)))

@@ -1,38 +1,47 @@
 -- The two tails, and that they dominate the powers of 17/31 and of 17/36.
 use Rattle.exact_math.proofs.Common.{◌≡◌, refl, sym, ap, ◌∙◌, neg_ℤ, subst₂, ℕ, zero, suc, arith, ints, pos, quotes, combine, ring1, ring6, pow, ℚ, rational_ring, of_int, of_int-mul, of_int-≤, ◌*ℚ◌, ◌≤ℚ◌, ≤ℚ-trans, le_equal, le_using, cancel_mul, nonneg_int, int-<}
 use Rattle.exact_math.specs.Rounding.{ceil_div}
-pub use Rattle.truncation.specs.Tails.{ceiling, pair_tail, single_tail}
-use Prim.Native.Nat.{◌+◌, ◌*◌, ◌-◌, ◌/◌, ◌^◌, ◌≤◌, ◌<◌}
-use native.Mathlib.Nat.{div-add-mod, mod-lt}
+pub use Rattle.truncation.specs.Tails.{pair_tail, single_tail}
+use Rattle.std.specs.Int.{div_ceil}
+use Rattle.std.proofs.lemmas.Grind.{div_ceil_times}
+use Prim.Native.Nat.{◌+◌, ◌*◌, ◌/◌, ◌^◌, ◌≤◌, ◌<◌}
 
 -- a <= n ceil(a/n)
-pub ceiling_ge : (a n : ℕ) → 0 < n → a ≤ n * ceiling a n
-ceiling_ge a n h =
-    let e = div-add-mod (a + (n - 1)) n in
-    let m = mod-lt (a + (n - 1)) h in
-    omega arith
+pub div_ceil-ge : (a n : ℕ) → 0 < n → a ≤ n * div_ceil a n
+div_ceil-ge a n h = let b = (div_ceil_times a n h).0 in omega arith
+
+-- and ceil(a/n) is at most a
+pub div_ceil-le : (a n : ℕ) → 0 < n → div_ceil a n ≤ a
+div_ceil-le a n h = at_most (div_ceil a n) (div_ceil_times a n h).1
+  where
+    larger : (d : ℕ) → d ≤ d * n
+    larger d = grind arith
+
+    at_most : (c : ℕ) → c * n < a + n → c ≤ a
+    at_most zero k = omega arith
+    at_most (suc d) k = let l = larger d in omega arith
 
 -- in the words of rounding
-pub ceiling_is : (a n : ℕ) → 0 < n → pos (ceiling a n) ≡ ceil_div (pos a) (pos n)
-ceiling_is zero n h = ap pos (none n h) ∙ sym (ap (λ z. neg_ℤ (pos z)) (zero_over n h))
+pub div_ceil-is : (a n : ℕ) → 0 < n → pos (div_ceil a n) ≡ ceil_div (pos a) (pos n)
+div_ceil-is zero n h = ap pos (none n h) ∙ sym (ap (λ z. neg_ℤ (pos z)) (zero_over n h))
   where
-    none : (n : ℕ) → 0 < n → (0 + (n - 1)) / n ≡ 0
+    none : (n : ℕ) → 0 < n → div_ceil 0 n ≡ 0
     none n h = grind arith
 
     zero_over : (n : ℕ) → 0 < n → 0 / n ≡ 0
     zero_over n h = grind arith
-ceiling_is (suc a) n h = ap pos (next a n h)
+div_ceil-is (suc a) n h = ap pos (next a n h)
   where
-    next : (a n : ℕ) → 0 < n → (suc a + (n - 1)) / n ≡ suc (a / n)
+    next : (a n : ℕ) → 0 < n → div_ceil (suc a) n ≡ suc (a / n)
     next a n h = grind arith
 
 -- the next values, as code computes them, and that the tails fall
-pub pair_tail-next : (k : ℕ) → pair_tail (k + 1) ≡ (17 * pair_tail k + 30) / 31
+pub pair_tail-next : (k : ℕ) → pair_tail (k + 1) ≡ div_ceil (17 * pair_tail k) 31
 unfolding pair_tail
 pair_tail-next k = ap pair_tail {x = k + 1} {y = suc k} (omega arith)
 
 -- the next value of the single tail, as code computes it
-pub single_tail-next : (k : ℕ) → single_tail (k + 1) ≡ (17 * single_tail k + 35) / 36
+pub single_tail-next : (k : ℕ) → single_tail (k + 1) ≡ div_ceil (17 * single_tail k) 36
 unfolding single_tail
 single_tail-next k = ap single_tail {x = k + 1} {y = suc k} (omega arith)
 
@@ -65,12 +74,12 @@ module _ (n m : ℕ) (positive : 0 < m) (rho : ℚ) (is : of_int (pos m) *ℚ rh
 -- 17/31 of a tail is at most the next
 pub pair_tail-step : (k : ℕ) → 17 * pair_tail k ≤ 31 * pair_tail (suc k)
 unfolding pair_tail
-pair_tail-step k = ceiling_ge (17 * pair_tail k) 31 (omega arith)
+pair_tail-step k = div_ceil-ge (17 * pair_tail k) 31 (omega arith)
 
 -- 17/36 of a tail is at most the next
 pub single_tail-step : (k : ℕ) → 17 * single_tail k ≤ 36 * single_tail (suc k)
 unfolding single_tail
-single_tail-step k = ceiling_ge (17 * single_tail k) 36 (omega arith)
+single_tail-step k = div_ceil-ge (17 * single_tail k) 36 (omega arith)
 
 -- the pair tail begins at 2 2^40
 pub pair_tail-start : pair_tail 0 ≡ 2 * 2 ^ 40

@@ -1,14 +1,13 @@
--- The truncation bound of a whole entry, all sources of one cell seen from one target, and the radius that makes up for it.
-use Rattle.std.specs.Prelude.{ℕ, pos, ◌≡◌, ◌+◌, ◌*◌, ◌^◌, ◌≤◌, Bool, cond, List, fold, All}
-use Rattle.exact_math.specs.Ends.{BoxEnds, BoxEndsContain, widen_box}
-use Rattle.exact_math.specs.Gaussian.{Gaussian, sub_gaussian}
+-- The truncation bound of a whole entry: all sources of one cell seen from one target.
+use Rattle.std.specs.Prelude.{ℕ, ◌≡◌, ◌*◌, ◌≤◌, Bool, cond, List, sum_by, All}
+use Rattle.exact_math.specs.Gaussian.{Gaussian, zero_gaussian, sub_gaussian, scale_gaussian}
 use Rattle.exact_math.specs.Ratio.{ComplexRatio}
-use Rattle.exact_math.specs.Rounding.{ceil_div}
-use Rattle.exact_math.specs.Sizes.{abs_gaussian}
+use Rattle.exact_math.specs.Sizes.{weight_at}
 use Rattle.exact_math.specs.Sums.{sum_terms}
 use Rattle.exact_math.specs.Terms.{pole_term, dipole_term}
 use Rattle.truncation.specs.CutTerms.{pair_pole_cut, pair_dipole_cut, multipole_pole_cut, multipole_dipole_cut, local_pole_cut, local_dipole_cut}
-use Rattle.truncation.specs.Places.{GaussianWithin, GaussianBeyond, times_side, doubled_offset}
+use Rattle.exact_math.specs.Within.{GaussianWithin, GaussianBeyond}
+use Rattle.truncation.specs.Places.{doubled_offset}
 use Rattle.truncation.specs.Tails.{pair_tail, single_tail}
 use Rattle.truncation.specs.Truncation.{Truncated}
 
@@ -18,12 +17,9 @@ pub record Source : Type 0 where
   pub strength : Gaussian
   pub dipole : Bool
 
--- |a| of a pole, 2 P |b| of a dipole
+-- |a| of a pole a, 2 P |b| of a dipole b
 abbrev pub weight : ℕ → Source → ℕ
-weight P x = cond x.dipole (2 * P * abs_gaussian x.strength) (abs_gaussian x.strength)
-
-abbrev pub sum_weights : ℕ → List Source → ℕ
-sum_weights P xs = fold (λ s x. s + weight P x) 0 xs
+weight P x = cond x.dipole (weight_at P zero_gaussian x.strength) (weight_at P x.strength zero_gaussian)
 
 -- the term of x in the direct sum at t
 abbrev pub exact_term : Gaussian → Source → ComplexRatio
@@ -49,23 +45,18 @@ local_cut P b t x = cond x.dipole
 
 -- two cells of side s whose centres are e sides apart, e with a part of at least 2; b - c is the difference of the doubled centres
 abbrev pub PairEntries : Type 0
-PairEntries = (P s : ℕ) (e b c t : Gaussian) → 1 ≤ P → 1 ≤ s → GaussianBeyond 2 e → sub_gaussian b c ≡ times_side (2 * s) e
+PairEntries = (P s : ℕ) (e b c t : Gaussian) → 1 ≤ P → 1 ≤ s → GaussianBeyond 2 e → sub_gaussian b c ≡ scale_gaussian (2 * s) e
     → GaussianWithin s (doubled_offset t b) → (xs : List Source) → All (λ x. GaussianWithin s (doubled_offset x.place c)) xs
-    → Truncated (sum_terms (exact_term t) xs) (sum_terms (pair_cut P s e b c t) xs) (sum_weights P xs * pair_tail P) s
+    → Truncated (sum_terms (exact_term t) xs) (sum_terms (pair_cut P s e b c t) xs) (sum_by (weight P) xs * pair_tail P) s
 
 -- a target far from the sources' cell of side s
 abbrev pub MultipoleEntries : Type 0
 MultipoleEntries = (P s : ℕ) (c t : Gaussian) → 2 ≤ P → 1 ≤ s → GaussianBeyond (3 * s) (doubled_offset t c)
     → (xs : List Source) → All (λ x. GaussianWithin s (doubled_offset x.place c)) xs
-    → Truncated (sum_terms (exact_term t) xs) (sum_terms (multipole_cut P c t) xs) (sum_weights P xs * single_tail P) s
+    → Truncated (sum_terms (exact_term t) xs) (sum_terms (multipole_cut P c t) xs) (sum_by (weight P) xs * single_tail P) s
 
 -- sources far from the target's cell of side s
 abbrev pub LocalEntries : Type 0
 LocalEntries = (P s : ℕ) (b t : Gaussian) → 2 ≤ P → 1 ≤ s → GaussianWithin s (doubled_offset t b)
     → (xs : List Source) → All (λ x. GaussianBeyond (3 * s) (doubled_offset x.place b)) xs
-    → Truncated (sum_terms (exact_term t) xs) (sum_terms (local_cut P b t) xs) (sum_weights P xs * single_tail P) s
-
--- a box that contains the cut sum, in units of 2^-40, contains the exact sum once it is widened by m/n rounded up
-abbrev pub RadiusWidens : Type 0
-RadiusWidens = (m n : ℕ) (exact cut : ComplexRatio) (box : BoxEnds) → 1 ≤ n → Truncated exact cut m n
-    → BoxEndsContain (pos (2 ^ 40)) box cut → BoxEndsContain (pos (2 ^ 40)) (widen_box box (ceil_div (pos m) (pos n))) exact
+    → Truncated (sum_terms (exact_term t) xs) (sum_terms (local_cut P b t) xs) (sum_by (weight P) xs * single_tail P) s

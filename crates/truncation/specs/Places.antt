@@ -1,21 +1,8 @@
 -- Where a source and a target lie, in whole numbers. A doubled offset is twice the offset of a place from a centre, and a doubled distance
 -- twice the target minus the source; s is the side of the cells.
-use Rattle.std.specs.Prelude.{ℕ, pos, ◌+ℤ◌, ◌-ℤ◌, ◌*ℤ◌, ◌*◌, ◌≤◌, ◌⊎◌, unsigned_abs}
-use Rattle.exact_math.specs.Gaussian.{Gaussian, gaussian}
-use Rattle.exact_math.specs.Within.{Within}
-
--- both parts of g are at most m in size
-pub record GaussianWithin (m : ℕ) (g : Gaussian) : Type 0 where
-  pub re : Within m g.re
-  pub im : Within m g.im
-
--- a part of g is at least m in size
-abbrev pub GaussianBeyond : ℕ → Gaussian → Type 0
-GaussianBeyond m g = (m ≤ unsigned_abs g.re) ⊎ (m ≤ unsigned_abs g.im)
-
--- s e, the difference of two centres that are e sides apart
-abbrev pub times_side : ℕ → Gaussian → Gaussian
-times_side s e = gaussian (pos s *ℤ e.re) (pos s *ℤ e.im)
+use Rattle.std.specs.Prelude.{ℕ, ◌*◌, ◌≤◌}
+use Rattle.exact_math.specs.Gaussian.{Gaussian, add_gaussian, sub_gaussian, scale_gaussian, twice}
+use Rattle.exact_math.specs.Within.{GaussianWithin, GaussianBeyond}
 
 -- two cells of side s whose centres are e sides apart, e with a part of at least 2; the source and the target have the doubled offsets o and q
 pub record PairPlaces (s : ℕ) (e o q : Gaussian) : Type 0 where
@@ -24,9 +11,9 @@ pub record PairPlaces (s : ℕ) (e o q : Gaussian) : Type 0 where
   pub source : GaussianWithin s o
   pub target : GaussianWithin s q
 
--- 2 s e + q - o
+-- 2 s e + q - o, their doubled distance
 abbrev pub pair_distance : ℕ → Gaussian → Gaussian → Gaussian → Gaussian
-pair_distance s e o q = gaussian (pos s *ℤ e.re +ℤ pos s *ℤ e.re +ℤ q.re -ℤ o.re) (pos s *ℤ e.im +ℤ pos s *ℤ e.im +ℤ q.im -ℤ o.im)
+pair_distance s e o q = sub_gaussian (add_gaussian (twice (scale_gaussian s e)) q) o
 
 -- a cell of side s and a place far from it: from the cell's centre, the doubled offset o of the place in the cell and z of the far one
 pub record SinglePlaces (s : ℕ) (z o : Gaussian) : Type 0 where
@@ -36,4 +23,4 @@ pub record SinglePlaces (s : ℕ) (z o : Gaussian) : Type 0 where
 
 -- 2 z - c: the doubled offset of the place z from the centre whose double is c
 abbrev pub doubled_offset : Gaussian → Gaussian → Gaussian
-doubled_offset z c = gaussian (z.re +ℤ z.re -ℤ c.re) (z.im +ℤ z.im -ℤ c.im)
+doubled_offset z c = sub_gaussian (twice z) c

@@ -7,8 +7,10 @@
 //! the truncated kernel and from the finite geometric sum, without limits.
 #![tactic(auto)]
 
-ghost use Rattle.truncation.specs.Entries.{PairEntries, MultipoleEntries, LocalEntries, RadiusWidens};
-ghost use Rattle.truncation.specs.Truncation.{PairTruncation, SingleTruncation};
+ghost use Rattle.std.specs.Int.{div_ceil};
+ghost use Rattle.std.specs.Prelude.{ℕ, ◌≤◌};
+ghost use Rattle.truncation.specs.Entries.{PairEntries, MultipoleEntries, LocalEntries};
+ghost use Rattle.truncation.specs.Truncation.{PairTruncation, SingleTruncation, MakesUp};
 
 /// Two cells of one side `s`, their centres `e` sides apart with a part of `e` at least 2 in size: the term of one source minus its cut
 /// term of order `P >= 1` is, in each part, at most weight times `TV(P)/s` in size. It holds at all doubled offsets whose parts are at
@@ -37,7 +39,7 @@ pub fn entry_truncation()
     ensures locals { LocalEntries }
 {}
 
-/// A box that contains the cut sum contains the exact sum once it is widened by the bound, rounded up to a whole unit of 2^-40.
+/// A bound of `loss/s` units of 2^-40, rounded up to a whole unit, makes up for what is cut off.
 pub fn radius_widens()
-    ensures widened { RadiusWidens }
+    ensures { (loss s : ℕ) → 1 ≤ s → MakesUp loss s (div_ceil loss s) }
 {}

@@ -1,55 +1,60 @@
--- The quarters of a cell that have a source, by their numbers.
-use Rattle.std.proofs.Common.{ℕ, ◌≡◌, ◌<◌, ◌≤◌, Bool, true, false, ◌&&◌, ap, ◌∙◌, arith, List}
-use Rattle.std.specs.Prelude.{◌==◌, nat_lt, Contains}
-use Rattle.std.specs.List.{range_with_len}
-use Rattle.std.proofs.lemmas.Bool.{and_parts, and_from, ltb-true, lt-ltb, eqb-true, eq-eqb}
-use Rattle.cell_lists.proofs.CellNumbers.{parent_before, same_number}
-use Rattle.cell_name.specs.Cell.{half_number}
-use Rattle.cell_name.specs.Square.{Square, parent}
-use Rattle.cell_name.specs.declared.cell.Quadrant.{Quadrant}
-use Rattle.cell_name.proofs.Quarters.{parent-child}
+-- The children of a cell, and those that have a source.
+use Rattle.std.proofs.Common.{ℕ, ◌≡◌, ◌<◌, ◌≤◌, List, get_or, length, true, false, cond, sym, ap, ◌∙◌, subst, arith}
+use Rattle.std.specs.Prelude.{nat_lt, Contains, count_by}
+use Rattle.std.proofs.lemmas.List.{length-map}
+use Rattle.std.proofs.lemmas.List.Elements.{Contains-get_or}
+use Rattle.std.proofs.lemmas.List.Sums.{length-filter, count_by-le-length}
+use Rattle.cell_name.specs.Quarters.{quarters}
 use Rattle.points.specs.declared.Point.{Point}
-use Rattle.quadtree.specs.Splitting.{quarter}
-use Rattle.quadtree.specs.TreeModel.{TreeModel, size, square_of, node_of, IsTree, IsTreeOf}
+use Rattle.quadtree.specs.Tree.{count_in}
+use Rattle.quadtree.specs.TreeModel.{TreeModel, size, square_of, node_of, children_of}
 use Rattle.quadtree.proofs.Distinct.{Contains-filter, Contains-into_filter}
+use Rattle.quadtree.proofs.Levels.{below-split}
+use Rattle.quadtree.proofs.Limits.{in_grid}
+use Rattle.quadtree.proofs.TreeChildren.{IsChildOf, child_of, children_squares}
+use Rattle.tree_field.specs.Field.{has_source}
 use Rattle.tree_field.specs.Program.{source_children}
-use Rattle.tree_field.proofs.Members.{Contains-range, range_below}
+use Rattle.tree_field.proofs.Program.{nodes_of_tree}
+use Rattle.tree_field.proofs.SourceChildren.{source_children_are}
 use Rattle.tree_rows.specs.Trees.{IsTreeOfPoints}
-use Rattle.upward_rows.proofs.Trees.{quarter_behind}
+use Rattle.upward_rows.specs.Upward.{shifts_into}
+use Rattle.upward_rows.proofs.Trees.{inner_is}
 
--- a cell with a greater number
-pub record IsBehind (tree : TreeModel) (n m : ℕ) : Type 0 where
-  pub inside : m < size tree
-  pub behind : n < m
+module _ (points : List Point) (tree : TreeModel) (h : IsTreeOfPoints points tree) (n : ℕ) (lt : n < size tree) where
+  -- ---- one of the children
+  module _ (children : List ℕ) (k : ℕ) (are : children ≡ (node_of tree n).children) (lk : k < length children) where
+    listed : Contains (node_of tree n).children (get_or children k 0)
+    listed = subst (λ l. Contains l (get_or children k 0)) are (Contains-get_or children k 0 lk)
 
-pub child_behind : (tree : TreeModel) → IsTree tree → (n m : ℕ) → Contains (source_children tree n) m → IsBehind tree n m
-child_behind tree is n m h =
-    let kept = Contains-filter (λ d. nat_lt 0 d && ((node_of tree d).parent == n) && (node_of tree d).has_source) (range_with_len 0 (size tree)) m h in
-    let last = and_parts (nat_lt 0 m && ((node_of tree m).parent == n)) (node_of tree m).has_source kept.1 in
-    let first = and_parts (nat_lt 0 m) ((node_of tree m).parent == n) last.0 in
-    let inside = range_below (size tree) m kept.0 in
-    let before = (parent_before tree is m (ltb-true 0 m first.0) inside).before in
-    record { inside = inside; behind = omega (arith, before, eqb-true (node_of tree m).parent n first.1) }
+    pub child_at : IsChildOf tree n (get_or children k 0)
+    child_at = child_of tree points h.cap (in_grid points h.range) h.is_tree n (get_or children k 0) lt listed
 
-child_listed : (tree : TreeModel) (points : List Point) (cap : ℕ) → IsTreeOf 16 tree points cap → (n m : ℕ) → n < size tree → m < size tree → n < m → parent (square_of tree m) ≡ square_of tree n → (node_of tree m).has_source ≡ true → Contains (source_children tree n) m
-child_listed tree points cap is n m ln lm behind below source =
-    let has = (is.nodes_are m lm).parent_is in
-    let lo : 0 < m = omega arith in
-    let e : (node_of tree m).parent ≡ n = same_number tree is.cells_are.ascending (node_of tree m).parent n has.in_range ln (has.of_others lo ∙ below) in
-    Contains-into_filter (λ d. nat_lt 0 d && ((node_of tree d).parent == n) && (node_of tree d).has_source) (range_with_len 0 (size tree)) m (Contains-range (size tree) m lm)
-    (and_from (nat_lt 0 m && ((node_of tree m).parent == n)) (node_of tree m).has_source (and_from (nat_lt 0 m) ((node_of tree m).parent == n) (lt-ltb 0 m lo) (eq-eqb (node_of tree m).parent n e)) source)
+    pub child_with_source : (node_of tree (get_or children k 0)).has_source ≡ true → Contains (source_children tree n) (get_or children k 0)
+    child_with_source source =
+        subst (λ l. Contains l (get_or children k 0)) (source_children_are tree points h.cap h.is_tree n lt)
+        (Contains-into_filter (λ m. (node_of tree m).has_source) (node_of tree n).children (get_or children k 0) listed source)
 
-half_small : (b : Bool) → half_number b ≤ 1
-half_small true = omega arith
-half_small false = omega arith
+  pub source_child_is : (m : ℕ) → Contains (source_children tree n) m → IsChildOf tree n m
+  source_child_is m kept =
+      child_of tree points h.cap (in_grid points h.range) h.is_tree n m lt
+      (subst (λ l. Contains l m) (sym (h.is_tree.nodes_are n lt).children_are) (Contains-filter (λ c. (node_of tree c).has_source) (children_of tree n) m kept).0)
 
--- a quarter with a source that the tree has
-pub record IsSourceChild (tree : TreeModel) (n m : ℕ) : Type 0 where
-  pub behind : n < m
-  pub listed : Contains (source_children tree n) m
+  -- ---- how many they are
+  pub children_few : (node_of tree n).is_leaf ≡ false → length (node_of tree n).children ≤ 4
+  children_few e =
+      let inner = inner_is tree points h.cap h.is_tree n lt e in
+      let are = ap length (children_squares tree points h.cap (in_grid points h.range) h.is_tree n lt inner.room ∙ below-split points h.cap (square_of tree n) inner.over) in
+      let as_many = length-map (node_of tree n).children (square_of tree) in
+      let kept = length-filter (λ q. nat_lt 0 (count_in points q)) (quarters (square_of tree n)) in
+      let few = count_by-le-length (λ q. nat_lt 0 (count_in points q)) (quarters (square_of tree n)) in
+      omega (arith, are, as_many, kept, few)
 
-pub quarter_child : (points : List Point) (tree : TreeModel) → IsTreeOfPoints points tree → (n m : ℕ) (q : Quadrant) → n < size tree → m < size tree → square_of tree m ≡ quarter (square_of tree n) q → (node_of tree m).has_source ≡ true → IsSourceChild tree n m
-quarter_child points tree h n m q ln lm e source =
-    let behind = quarter_behind tree points h.cap h.is_tree n m ln lm (ap (λ (s : Square). s.level) e) in
-    let below = ap parent e ∙ parent-child (square_of tree n) (half_number q.right) (half_number q.top) (half_small q.right) (half_small q.top) in
-    record { behind = behind; listed = child_listed tree points h.cap h.is_tree n m ln lm behind below source }
+  pub shifts_of_cell : (node_of tree n).is_leaf ≡ false → length (source_children tree n) ≡ shifts_into points tree n
+  shifts_of_cell e =
+      sym (length-map (source_children tree n) (square_of tree))
+      ∙ ap length ((nodes_of_tree tree points h.cap (in_grid points h.range) h.is_tree n lt).children e)
+      ∙ length-filter (has_source points) (quarters (square_of tree n))
+      ∙ ap (λ b. cond {A = ℕ} b 0 (count_by (has_source points) (quarters (square_of tree n)))) (sym e)
+
+  pub shifts_few : (node_of tree n).is_leaf ≡ false → shifts_into points tree n ≤ 4
+  shifts_few e = subst (λ b. cond {A = ℕ} b 0 (count_by (has_source points) (quarters (square_of tree n))) ≤ 4) (sym e) (count_by-le-length (has_source points) (quarters (square_of tree n)))

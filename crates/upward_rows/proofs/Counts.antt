@@ -10,15 +10,15 @@ use Rattle.std.proofs.lemmas.List.Sums.{sum_by-cons, length-filter}
 use Rattle.cell_name.specs.Cell.{square}
 use Rattle.cell_name.specs.Square.{Square, parent}
 use Rattle.points.specs.declared.Point.{Point}
-use Rattle.quadtree.specs.Splitting.{quarters}
+use Rattle.cell_name.specs.Quarters.{quarters}
 use Rattle.quadtree.specs.Tree.{AreInGrid, IsTreeCell, IsSplit, IsLeaf}
 use Rattle.quadtree.specs.TreeModel.{TreeModel, size, squares, square_of, node_of, IsTreeOf}
 use Rattle.quadtree.proofs.Distinct.{Contains-filter, Contains-into_filter, Contains-flat_map, comes_from, different-flat_map, length-le_from_different}
 use Rattle.quadtree.proofs.Parents.{IsTreeCell-parent, IsTreeCell-below}
-use Rattle.quadtree.proofs.TreeCells.{IsQuarter, quarters_are, quarters_contain, quarters_differ}
+use Rattle.cell_name.proofs.Quarters.{IsQuarter, quarters_are, quarters_contain, quarters_differ}
 use Rattle.tree_field.specs.Field.{has_source}
-use Rattle.tree_field.proofs.Ascending.{ascending_differ}
-use Rattle.tree_field.proofs.Members.{AllPairs-range, Contains-range, range_below}
+use Rattle.quadtree.proofs.Ascending.{ascending_differ}
+use Rattle.quadtree.proofs.Lists.{AllPairs-range, Contains-range, range_below}
 use Rattle.tree_field.proofs.Numbers.{number, number_below, cell_of_number, number_of_cell}
 use Rattle.upward_rows.specs.Upward.{shifts_into, is_shifted}
 use Rattle.upward_rows.proofs.Trees.{inner_is, quarter_listed}

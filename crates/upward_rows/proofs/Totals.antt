@@ -16,7 +16,7 @@ round_same : (P : ℕ) (m l : ℕ → BoxEnds) (q : Gaussian) → ((i : ℕ) →
 unfolding up_round
 round_same P m l q h zero i lt = h i (omega arith)
 round_same P m l q h (suc r) i lt =
-    ap₂ (λ a b. quot_box (add_box (scale_box (pos 2) a) (gscale_box b q)) (pos 4)) (round_same P m l q h r (suc i) (omega arith)) (round_same P m l q h r i (omega arith))
+    ap₂ (λ a b. quot_box (add_box (scale_box a (pos 2)) (gscale_box b q)) (pos 4)) (round_same P m l q h r (suc i) (omega arith)) (round_same P m l q h r i (omega arith))
 
 pub shifted_same : (P : ℕ) (m l : ℕ → BoxEnds) (q : Gaussian) → ((i : ℕ) → i < P → m i ≡ l i) → (k : ℕ) → k < P → shifted_up m q k ≡ shifted_up l q k
 unfolding shifted_up

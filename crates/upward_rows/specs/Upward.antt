@@ -6,7 +6,7 @@ use Rattle.cell_name.specs.Square.{Square}
 use Rattle.complex_box.specs.Rows.{at}
 use Rattle.complex_box.specs.declared.CBox.{CBox}
 use Rattle.points.specs.declared.Point.{Point}
-use Rattle.quadtree.specs.Splitting.{quarters}
+use Rattle.cell_name.specs.Quarters.{quarters}
 use Rattle.quadtree.specs.TreeModel.{TreeModel, square_of, node_of}
 use Rattle.row_recursions.specs.Rows.{shifted_up}
 use Rattle.soundness.specs.Computed.{total_row}

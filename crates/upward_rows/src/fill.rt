@@ -11,7 +11,6 @@ ghost use Rattle.tree_rows.specs.FlatRows.{row_at, AreSameRows};
 ghost use Rattle.tree_rows.specs.Trees.{IsTreeOfPoints};
 ghost use Rattle.upward_rows.specs.Upward.{OthersStay, row_from, shifts_into};
 
-use crate::quarters::{quadrant, quarter_with_source};
 use crate::sources::sum_sources;
 use complex_box::{CBox, Row, Work, clear};
 use multipole_shift::shift_up;
@@ -50,14 +49,17 @@ pub fn sum_row<const P: usize>(
     ensures few { work.new.translations ≤ work.old.translations + 4 }
     ensures pairs { work.new.pairs ≡ work.old.pairs }
 {
+    let cells = tree.cells();
     if tree.is_leaf(n) {
-        sum_sources::<P>(points, tree.members(n), tree.cells()[n], row);
+        sum_sources::<P>(points, tree.members(n), cells[n], row);
     } else {
         clear(row);
-        for k in 0..4usize {
-            let q = quadrant(k);
-            if let Some(m) = quarter_with_source(tree, n, q) {
+        let children = tree.children(n);
+        for child in children {
+            let m = *child as usize;
+            if tree.has_source(m) {
                 let start = (m - first) * P;
+                let q = cells[m].quadrant();
                 shift_up::<P>(Row::new(&behind[start..start + P]), q, row, work);
             }
         }

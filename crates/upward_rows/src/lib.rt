@@ -6,11 +6,7 @@
 
 mod fill;
 mod pass;
-mod quarters;
 mod sources;
-#[cfg(test)]
-mod tests;
 
 pub use fill::{fill_row, sum_row};
 pub use pass::upward_pass;
-pub use quarters::{quadrant, quarter_with_source};

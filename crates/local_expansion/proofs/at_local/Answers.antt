@@ -1,7 +1,7 @@
 use Rattle.std.proofs.Common.{◌∙◌, ap₂, ◌*◌, ◌^◌, subst, subst₂, sym, pos, to_z-of_z, lit<}
 use Rattle.exact_math.specs.Ends.{BoxEndsContain, BoxEndsWithin}
 use Rattle.exact_math.specs.Gaussian.{gaussian}
-use Rattle.truncation.specs.Places.{GaussianWithin}
+use Rattle.exact_math.specs.Within.{GaussianWithin}
 use Rattle.row_recursions.specs.Cells.{side_of, centre_of, offset_from}
 use Rattle.row_recursions.specs.Rows.{row_of, local_value}
 use Rattle.row_recursions.proofs.FieldLaws.{local_values}

@@ -1,10 +1,10 @@
 use Rattle.std.proofs.Common.{◌∙◌, ap₂, arith, lit<, rules}
 use Rattle.std.proofs.lemmas.List.{length-set}
 use Rattle.exact_math.specs.Ends.{add_box}
+use Rattle.exact_math.proofs.Orders.{order_bounds}
 use Rattle.complex_box.specs.Box.{number}
 use Rattle.complex_box.specs.Rows.{zero_cbox}
 use Rattle.row_recursions.specs.Rows.{row_of}
-use Rattle.row_recursions.proofs.RowSizes.{order_small}
 use Rattle.row_recursions.proofs.RowWrites.{written-next, row_read}
 use Rattle.local_expansion.proofs.ConvertCalls.{column_within, sum_fits, converted_field, converted_added}
 use Rattle.local_expansion.proofs.ProductSums.{by_kernel}
@@ -12,7 +12,7 @@ use Rattle.local_expansion.proofs.convert.Goals as goal
 
 pub coefficient-requires : goal.coefficient-requires
 coefficient-requires g c =
-    let few = order_small g.row.P c.requires.order in
+    let few = order_bounds g.row.P c.requires.order in
     (lit< tt, (c.column.ensures.whole, (omega (arith, few), (column_within g.row.P (number c.args.e) (row_of c.args.row.cells.now) c.requires.order c.requires.distance c.loop-l.l c.column.result.now (omega arith) c.column.ensures, (c.requires.row, search rules)))))
 
 pub add-requires : goal.add-requires

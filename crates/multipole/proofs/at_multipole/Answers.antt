@@ -3,7 +3,7 @@ use Rattle.exact_math.specs.Ends.{BoxEndsContain, BoxEndsWithin}
 use Rattle.exact_math.specs.Gaussian.{gaussian}
 use Rattle.exact_math.specs.Sums.{sum_terms}
 use Rattle.truncation.specs.Entries.{multipole_cut}
-use Rattle.truncation.specs.Places.{GaussianBeyond}
+use Rattle.exact_math.specs.Within.{GaussianBeyond}
 use Rattle.row_recursions.specs.Cells.{side_of, centre_of, offset_from}
 use Rattle.row_recursions.specs.Rows.{row_of, multipole_value}
 use Rattle.row_recursions.proofs.Points.{side_positive}

@@ -5,11 +5,10 @@ use Rattle.std.proofs.lemmas.Bool.{false≢true}
 use Rattle.std.proofs.lemmas.List.{get_or_default}
 use Rattle.cell_name.specs.Cell.{square}
 use Rattle.quadtree.specs.TreeModel.{size, square_of}
-use Rattle.cell_lists.specs.Row.{row}
 use Rattle.cell_lists.specs.Walks.{AreNumbers, IsChild, AddsChildren}
 use Rattle.cell_lists.proofs.TreeNumbers.{read_at}
 use Rattle.cell_lists.proofs.CellNumbers.{touch_from_test}
-use Rattle.cell_lists.proofs.WalkSteps.{adds_kept, adds_row, read_before, no_shorter, place_below}
+use Rattle.cell_lists.proofs.WalkSteps.{adds_kept, adds_row, read_before, no_shorter, place_below, children_numbers, children_whole}
 use Rattle.cell_lists.proofs.search.push_children.Goals as goal
 use Rattle.cell_lists.proofs.search.push_children.Goals.{then-touches+in_ok-extend_from_slice, else-touches}
 
@@ -30,12 +29,11 @@ loop-at-preserved c =
     let in_tree : n < size tree = subst S (sym here) (place_below tree now at c.loop-at.invariant.numbers inside) in
     elim c.if-touches.branch [
       | then-touches+in_ok-extend_from_slice w ↦
-          let e : w.row.result.now ≡ row c.args.children.now n = w.row.ensures in
           let P : List ℕ → Type 0 = λ l. AreNumbers tree l in
           let Q : List ℕ → Type 0 = λ l. (k : ℕ) → IsChild tree n k → Contains l k in
-          let R : ℕ → Type 0 = λ m. (k : ℕ) → IsChild tree m k → Contains w.row.result.now k in
-          let items : c.if-touches.found.items ≡ now ++ w.row.result.now = ap (λ v. v.items) w.found-is ∙ w.in_ok-extend_from_slice.ensures.items in
-          adds_row tree b c.args.start at was now c.if-touches.found.items w.row.result.now (subst P (sym e) (c.requires.children.numbers n in_tree)) (subst R before (subst Q (sym e) (λ k child. c.requires.children.whole n k in_tree child))) items c.loop-at.invariant
+          let R : ℕ → Type 0 = λ m. (k : ℕ) → IsChild tree m k → Contains w.children.result.now k in
+          let items : c.if-touches.found.items ≡ now ++ w.children.result.now = ap (λ v. v.items) w.found-is ∙ w.in_ok-extend_from_slice.ensures.items in
+          adds_row tree b c.args.start at was now c.if-touches.found.items w.children.result.now (subst P (sym w.children.ensures) (children_numbers tree c.cells-cells.ensures.tree n in_tree)) (subst R before (subst Q (sym w.children.ensures) (λ k child. children_whole tree c.cells-cells.ensures.tree n k in_tree child))) items c.loop-at.invariant
       | else-touches w ↦
           let ex : square c.index-cells-c.result ≡ square_of tree (slice_index was at) = read_at tree c.cells-cells.result.now n c.index-cells-c.result c.cells-cells.ensures.all in_tree c.index-cells-c.is ∙ ap (square_of tree) before in
           let ey : square c.index-cells-b.result ≡ square_of tree b = read_at tree c.cells-cells.result.now b c.index-cells-b.result c.cells-cells.ensures.all c.requires.number c.index-cells-b.is in

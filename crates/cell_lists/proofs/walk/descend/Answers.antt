@@ -2,14 +2,12 @@
 use Rattle.std.proofs.Common.{◌≡◌, ℕ, ◌+◌, ◌-◌, min, max, subst, sym, arith, ap, ◌∙◌}
 use Rattle.std.proofs.lemmas.Bool.{false≢true}
 use Rattle.cell_name.specs.Cell.{square}
-use Rattle.cell_name.specs.Square.{Square, ancestor, Touches}
+use Rattle.cell_name.specs.Square.{ancestor}
 use Rattle.cell_lists.specs.Cases.{Both}
 use Rattle.cell_lists.specs.Walk.{AncestorsTouch}
+use Rattle.cell_lists.proofs.OneEntry.{touches_along}
 use Rattle.cell_lists.proofs.Descent.{case_at_stop, case_at_end, case_along}
 use Rattle.cell_lists.proofs.walk.descend.Goals as goal
-
-touches_along : (b b' c c' : Square) → b ≡ b' → c ≡ c' → Touches b c → Touches b' c'
-touches_along b b' c c' eb ec t = let P : Square → Type 0 = λ v. Touches v c' in let Q : Square → Type 0 = λ v. Touches b v in subst P eb (subst Q ec t)
 
 pub returns-then-not-touches : goal.returns-then-not-touches
 returns-then-not-touches c =

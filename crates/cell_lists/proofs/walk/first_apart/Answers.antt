@@ -3,7 +3,8 @@ use Rattle.std.proofs.Common.{◌≡◌, ◌≤◌, refl, arith, lit<}
 use Rattle.cell_name.specs.Cell.{square}
 use Rattle.quadtree.specs.TreeModel.{square_of}
 use Rattle.cell_lists.proofs.OneEntry.{roots_touch, only_entry}
-use Rattle.cell_lists.proofs.TreeNumbers.{tree_cell_at, read_at, case_levels, entry_named, Holds-ancestor}
+use Rattle.quadtree.proofs.TreeChildren.{tree_cell_at}
+use Rattle.cell_lists.proofs.TreeNumbers.{read_at, case_levels, entry_named, Holds-ancestor}
 use Rattle.cell_lists.proofs.walk.first_apart.Goals as goal
 
 pub descend-stop-requires : goal.descend-stop-requires

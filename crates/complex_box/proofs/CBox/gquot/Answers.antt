@@ -11,4 +11,4 @@ returns-clause-ends c =
     (simp to_z-of_z at c.quot.ensures.ends) ∙ ap (λ (b : BoxEnds). quot_box b c.args.n) c.gscale.ensures.ends
 
 pub returns-clause-contains : goal.returns-clause-contains
-returns-clause-contains c z p = contains_by _ _ _ (returns-clause-ends c) (BoxEndsContain-gquot p (number c.args.g) c.args.n c.requires.divisor)
+returns-clause-contains c u z p = contains_by (returns-clause-ends c) (BoxEndsContain-gquot p (number c.args.g) c.args.n c.requires.divisor)

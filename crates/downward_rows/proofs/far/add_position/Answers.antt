@@ -7,7 +7,7 @@ use Rattle.points.specs.Limits.{weight64}
 use Rattle.points.specs.declared.Point.{Point}
 use Rattle.row_recursions.proofs.Points.{weight_bounded}
 use Rattle.row_recursions.specs.Rows.{row_of}
-use Rattle.downward_rows.specs.Entries.{weight_of, far_weight_at}
+use Rattle.downward_rows.specs.Entries.{weight64_of, far_weight_at}
 use Rattle.downward_rows.proofs.FarPoints.{is_there, far_read}
 use Rattle.field_sizes.proofs.RowTotals.{wider}
 use Rattle.downward_rows.proofs.far.add_position.Goals as goal
@@ -22,7 +22,7 @@ pub returns-clause-adds : goal.returns-clause-adds
 returns-clause-adds g c = λ k h. c.add_far_source.ensures.adds k h ∙ ap (add_box (row_of c.args.into.now k)) (far_read c.args.points.now (square c.args.cell) c.args.k k c.requires.far.inside)
 
 light : (points : List Point) (k : ℕ) (p : Point) → slice_get points k ≡ Some p → weight64 p ≡ far_weight_at points k
-light points k p e = ap weight_of (sym e)
+light points k p e = ap weight64_of (sym e)
 
 pub returns-clause-light : goal.returns-clause-light
 returns-clause-light g c =

@@ -1,4 +1,5 @@
-use Rattle.std.proofs.Common.{ℕ, ◌≡◌, ◌<◌, ◌≤◌, inl, inr, List, length, ap, ◌∙◌, sym, subst, arith, pos, w64, to_z, of_z}
+use Rattle.std.proofs.Common.{ℕ, ◌≡◌, ◌<◌, ◌≤◌, ◌^◌, inl, inr, List, length, ap, ◌∙◌, sym, subst, arith, pos, w64, to_z, of_z}
+use Rattle.std.proofs.lemmas.Int.{ints}
 use Rattle.std.specs.Prelude.{All}
 use Rattle.cell_name.specs.Square.{side}
 use Rattle.cell_lists.proofs.CellNumbers.{level_positive, parent_before}
@@ -47,14 +48,15 @@ pub returns-clause-radius : goal.returns-clause-radius
 returns-clause-radius c = λ points cap field inside is w p.
     let some = c.cells-cells.ensures.tree in
     let lo : 0 < c.args.n = omega arith in
+    let small : c.add_single_losses.new.ledger < 2 ^ 100 = omega (arith, ints, c.radius.ensures.value, c.radius.ensures.small) in
     let up = parent_before c.args.tree.now some c.args.n lo c.requires.number in
     let s : to_z w64 (of_z w64 c.side-side.result) ≡ pos (side (square_of c.args.tree.now c.args.n)) =
     side_read c.side-side.result c.side-side.ensures.at_least c.side-side.ensures.at_most ∙ c.side-side.ensures.value
     ∙ ap (λ q. pos (side q)) (read_at c.args.tree.now c.cells-cells.result.now c.args.n c.index-cells-n.result c.cells-cells.ensures.all c.requires.number c.index-cells-n.is) in
     record {
-      radius_is = λ t. sum_read c.args.parent c.radius.result c.add_single_losses.new.ledger.radius c.requires.low c.requires.high c.radius.ensures c.add_single_losses.new.ledger.most
+      radius_is = λ t. sum_read c.args.parent c.radius.result c.add_single_losses.new.ledger c.requires.low c.requires.high c.radius.ensures.value small
           ∙ radius_read c.args.order c.args.tree.now c.args.lists.now points cap field c.args.weights.now c.args.n inside some c.requires.lists is c.requires.number w (level_positive c.args.tree.now some c.args.n lo c.requires.number)
-          (to_z w64 (of_z w64 c.side-side.result)) (to_z w64 (of_z w64 c.side-side.result)) c.args.parent c.v_list.result.now c.x_list.result.now c.new-ledger.result.radius c.add_pair_losses.new.ledger.radius c.add_single_losses.new.ledger.radius
+          (to_z w64 (of_z w64 c.side-side.result)) (to_z w64 (of_z w64 c.side-side.result)) c.args.parent c.v_list.result.now c.x_list.result.now c.new-ledger.result c.add_pair_losses.new.ledger c.add_single_losses.new.ledger
           s s c.v_list.ensures c.x_list.ensures c.new-ledger.ensures c.add_pair_losses.ensures.added c.add_single_losses.ensures.added
           ((p lo).radius_is (target_of_parent c.args.tree.now some points c.args.n lo c.requires.number t) ∙ ap (λ q. pos (local_radius points cap c.args.order field q)) up.is_parent);
       empty = λ no. absurd (no ((is.is_tree.nodes_are c.args.n c.requires.number).target.0 (sym c.has_target.ensures ∙ c.if-not-has_target.false)));

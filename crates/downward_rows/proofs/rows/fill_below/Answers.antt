@@ -2,8 +2,9 @@ use Rattle.std.proofs.Common.{ℕ, ◌≡◌, ◌+◌, ◌*◌, ◌^◌, List, l
 use Rattle.std.specs.Prelude.{All, sum_by}
 use Rattle.exact_math.specs.Ends.{add_box}
 use Rattle.cell_name.specs.Cell.{square}
+use Rattle.cell_name.proofs.Quarters.{right_of_parent, top_of_parent}
 use Rattle.cell_lists.proofs.TreeNumbers.{read_at}
-use Rattle.cell_lists.specs.Row.{row}
+use Rattle.cell_lists.specs.ListAt.{list_at}
 use Rattle.local_shift.proofs.Sums.{nothing_at}
 use Rattle.quadtree.specs.TreeModel.{square_of}
 use Rattle.row_recursions.specs.Cells.{quadrant_of}
@@ -19,7 +20,7 @@ pub add_pairs-requires : goal.add_pairs-requires
 add_pairs-requires g c =
     let P : List ℕ → Type 0 = λ l. All (IsPairAt c.args.tree.now c.args.n) l in
     let pairs : All (IsPairAt c.args.tree.now c.args.n) c.v_list.result.now = subst P (sym c.v_list.ensures) c.requires.entries.pairs in
-    let short : length c.v_list.result.now ≡ length (row c.args.lists.now.v c.args.n) = ap (λ l. length l) c.v_list.ensures in (
+    let short : length c.v_list.result.now ≡ length (list_at c.args.lists.now.v c.args.n) = ap (λ l. length l) c.v_list.ensures in (
       lit< tt,
       (
         c.requires.order,
@@ -32,7 +33,7 @@ add_pairs-requires g c =
               (
                 c.requires.rows,
                 (
-                  within_listed g.row.P (2 ^ 80) c.args.up.now c.v_list.result.now (row c.args.lists.now.v c.args.n) c.v_list.ensures c.requires.multipoles,
+                  within_listed g.row.P (2 ^ 80) c.args.up.now c.v_list.result.now (list_at c.args.lists.now.v c.args.n) c.v_list.ensures c.requires.multipoles,
                   (
                     c.shift_down.ensures.len,
                     (
@@ -58,17 +59,17 @@ returns-clause-row g c = λ k h.
     (total_row (far_row_of c.args.tree.now c.args.points.now (square c.index-cells-n.result)) c.x_list.result.now)
     (nothing_at g.row.P c.clear.new.cells (c.clear.auto.cells ∙ c.requires.len) c.clear.ensures) c.shift_down.ensures.adds c.add_pairs.ensures.adds c.add_far_cells.ensures.adds k h
     ∙ ap₂ add_box
-    (ap (λ q. shifted_down g.row.P (row_of c.args.parent.cells.now) q k) (quadrant_read c.quadrant.result (square c.index-cells-n.result) c.quadrant.ensures.right c.quadrant.ensures.top ∙ ap quadrant e))
+    (ap (λ q. shifted_down g.row.P (row_of c.args.parent.cells.now) q k) (quadrant_read c.quadrant.result (square c.index-cells-n.result) (right_of_parent (square c.index-cells-n.result) c.quadrant.result c.quadrant.ensures) (top_of_parent (square c.index-cells-n.result) c.quadrant.result c.quadrant.ensures) ∙ ap quadrant e))
     (ap₂ add_box (ap (λ l. total_row (pair_row g.row.P c.args.tree.now c.args.up.now c.args.n) l k) c.v_list.ensures)
     (ap₂ (λ b l. total_row (far_row_of c.args.tree.now c.args.points.now b) l k) e c.x_list.ensures))
 
 pub add_far_cells-requires-clause-sum : goal.add_far_cells-requires-clause-sum
 add_far_cells-requires-clause-sum g c =
     wider g.row.P (2 ^ 90 + 0 + 81 * 2 ^ 79) (2 ^ 91) (row_of c.add_pairs.new.into) (omega arith)
-    (c.add_pairs.ensures.size (2 ^ 79) (2 ^ 90 + 0) (within_listed g.row.P (2 ^ 80) c.args.up.now c.v_list.result.now (row c.args.lists.now.v c.args.n) c.v_list.ensures c.requires.multipoles) (c.shift_down.ensures.size (2 ^ 90) 0 c.requires.parent (zero_row_within g.row.P c.clear.new.cells (c.clear.auto.cells ∙ c.requires.len) c.clear.ensures)))
+    (c.add_pairs.ensures.size (2 ^ 79) (2 ^ 90 + 0) (within_listed g.row.P (2 ^ 80) c.args.up.now c.v_list.result.now (list_at c.args.lists.now.v c.args.n) c.v_list.ensures c.requires.multipoles) (c.shift_down.ensures.size (2 ^ 90) 0 c.requires.parent (zero_row_within g.row.P c.clear.new.cells (c.clear.auto.cells ∙ c.requires.len) c.clear.ensures)))
 
 pub returns-clause-size : goal.returns-clause-size
 returns-clause-size g c = λ p q h r.
-    let e : sum_by (far_weight c.args.tree.now c.args.points.now) c.x_list.result.now ≡ sum_by (far_weight c.args.tree.now c.args.points.now) (row c.args.lists.now.x c.args.n) = ap (sum_by (far_weight c.args.tree.now c.args.points.now)) c.x_list.ensures in
-    wider g.row.P (p + 0 + 81 * q + 2 ^ 40 * sum_by (far_weight c.args.tree.now c.args.points.now) c.x_list.result.now) (p + 81 * q + 2 ^ 40 * sum_by (far_weight c.args.tree.now c.args.points.now) (row c.args.lists.now.x c.args.n)) (row_of c.add_far_cells.new.into) (omega (arith, e))
-    (c.add_far_cells.ensures.size (p + 0 + 81 * q) (c.add_pairs.ensures.size q (p + 0) (within_listed g.row.P (2 * q) c.args.up.now c.v_list.result.now (row c.args.lists.now.v c.args.n) c.v_list.ensures r) (c.shift_down.ensures.size p 0 h (zero_row_within g.row.P c.clear.new.cells (c.clear.auto.cells ∙ c.requires.len) c.clear.ensures))))
+    let e : sum_by (far_weight c.args.tree.now c.args.points.now) c.x_list.result.now ≡ sum_by (far_weight c.args.tree.now c.args.points.now) (list_at c.args.lists.now.x c.args.n) = ap (sum_by (far_weight c.args.tree.now c.args.points.now)) c.x_list.ensures in
+    wider g.row.P (p + 0 + 81 * q + 2 ^ 40 * sum_by (far_weight c.args.tree.now c.args.points.now) c.x_list.result.now) (p + 81 * q + 2 ^ 40 * sum_by (far_weight c.args.tree.now c.args.points.now) (list_at c.args.lists.now.x c.args.n)) (row_of c.add_far_cells.new.into) (omega (arith, e))
+    (c.add_far_cells.ensures.size (p + 0 + 81 * q) (c.add_pairs.ensures.size q (p + 0) (within_listed g.row.P (2 * q) c.args.up.now c.v_list.result.now (list_at c.args.lists.now.v c.args.n) c.v_list.ensures r) (c.shift_down.ensures.size p 0 h (zero_row_within g.row.P c.clear.new.cells (c.clear.auto.cells ∙ c.requires.len) c.clear.ensures))))

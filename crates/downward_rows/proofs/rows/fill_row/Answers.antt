@@ -1,7 +1,7 @@
 use Rattle.std.proofs.Common.{◌+◌, ◌*◌, ◌^◌, ◌++◌, drop, arith, lit<}
 use Rattle.std.specs.Prelude.{sum_by}
 use Rattle.cell_lists.proofs.CellNumbers.{parent_before}
-use Rattle.cell_lists.specs.Row.{row}
+use Rattle.cell_lists.specs.ListAt.{list_at}
 use Rattle.quadtree.specs.TreeModel.{size, node_of}
 use Rattle.row_recursions.specs.Rows.{row_of}
 use Rattle.tree_rows.specs.FlatRows.{row_at}
@@ -77,7 +77,7 @@ returns-clause-size g c = λ p q small multipoles.
     let own = c.local_row.new.into in
     let some = some_tree c.args.points.now tree c.requires.tree.tree_is in
     let parent = (node_of tree n).parent in
-    within_same P (p + 81 * q + 2 ^ 40 * sum_by (far_weight tree c.args.points.now) (row c.args.lists.now.x n)) (row_at P (above ++ (own ++ drop P rest)) n) (row_of own)
+    within_same P (p + 81 * q + 2 ^ 40 * sum_by (far_weight tree c.args.points.now) (list_at c.args.lists.now.x n)) (row_at P (above ++ (own ++ drop P rest)) n) (row_of own)
     (own_placed P n (size tree) above rest c.args.rows.now h.value c.requires.rows c.requires.number h.front_len c.local_row.new.into c.local_row.ensures.len)
     (c.local_row.ensures.size p q
     (λ lo. within_same P p (row_at P above parent) (row_at P c.args.rows.now parent)

@@ -2,10 +2,10 @@ use Rattle.std.proofs.Common.{◌*◌, ◌+◌, ◌^◌, ◌≤◌, length, ap, 
 use Rattle.std.specs.Prelude.{sum_by}
 use Rattle.std.proofs.lemmas.Bool.{false≢true}
 use Rattle.exact_math.specs.Ends.{add_box}
+use Rattle.exact_math.proofs.Orders.{order_bounds}
 use Rattle.cell_lists.proofs.CellNumbers.{level_positive, parent_before}
-use Rattle.cell_lists.specs.Row.{row}
+use Rattle.cell_lists.specs.ListAt.{list_at}
 use Rattle.quadtree.specs.TreeModel.{square_of, node_of}
-use Rattle.row_recursions.proofs.RowSizes.{order_small}
 use Rattle.row_recursions.specs.Rows.{row_of}
 use Rattle.soundness.specs.Computed.{total_row}
 use Rattle.soundness.specs.Squares.{quadrant}
@@ -24,7 +24,7 @@ pub row_of_cell-parent-requires : goal.row_of_cell-parent-requires
 row_of_cell-parent-requires g c =
     let some = some_tree c.args.points.now c.args.tree.now c.requires.tree.tree_is in
     let p = parent_before c.args.tree.now some c.args.n c.if-n-gt0.true c.requires.number in
-    let small = order_small g.row.P c.requires.order in
+    let small = order_bounds g.row.P c.requires.order in
     let few = c.requires.tree.tree_is.is_tree.few in
     (lit< tt, (omega (arith, small), (omega (arith, c.parent.ensures, p.before, few, c.requires.number), subst (λ m. m * g.row.P + g.row.P ≤ length c.args.above.now) (sym c.parent.ensures) (c.requires.above c.if-n-gt0.true))))
 
@@ -64,7 +64,7 @@ fill_below-requires g c =
 pub returns-then-has_target-clause-row : goal.returns-then-has_target-clause-row
 returns-then-has_target-clause-row g c = λ lo t k h.
     c.fill_below.ensures.row k h
-    ∙ ap (λ b. add_box b (add_box (total_row (pair_row g.row.P c.args.tree.now c.args.up.now c.args.n) (row c.args.lists.now.v c.args.n) k) (total_row (far_row_of c.args.tree.now c.args.points.now (square_of c.args.tree.now c.args.n)) (row c.args.lists.now.x c.args.n) k)))
+    ∙ ap (λ b. add_box b (add_box (total_row (pair_row g.row.P c.args.tree.now c.args.up.now c.args.n) (list_at c.args.lists.now.v c.args.n) k) (total_row (far_row_of c.args.tree.now c.args.points.now (square_of c.args.tree.now c.args.n)) (list_at c.args.lists.now.x c.args.n) k)))
     (shifted_down_same g.row.P (row_of c.row_of_cell-parent.result.cells.now) (row_at g.row.P c.args.above.now (node_of c.args.tree.now c.args.n).parent) (quadrant (square_of c.args.tree.now c.args.n))
     (λ j l. c.row_of_cell-parent.ensures j l ∙ ap (λ p. row_at g.row.P c.args.above.now p j) c.parent.ensures) k)
 
@@ -95,5 +95,5 @@ returns-else-n-gt0-clause-local g c =
 
 pub returns-else-n-gt0-clause-size : goal.returns-else-n-gt0-clause-size
 returns-else-n-gt0-clause-size g c = λ p q h r.
-    wider g.row.P 0 (p + 81 * q + 2 ^ 40 * sum_by (far_weight c.args.tree.now c.args.points.now) (row c.args.lists.now.x c.args.n)) (row_of c.clear.new.cells) (omega arith)
+    wider g.row.P 0 (p + 81 * q + 2 ^ 40 * sum_by (far_weight c.args.tree.now c.args.points.now) (list_at c.args.lists.now.x c.args.n)) (row_of c.clear.new.cells) (omega arith)
     (zero_row_within g.row.P c.clear.new.cells (c.clear.auto.cells ∙ c.requires.len) c.clear.ensures)

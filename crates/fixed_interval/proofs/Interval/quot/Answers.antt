@@ -23,6 +23,6 @@ invariant_of-result-clause-ordered c =
     ordered_cast _ _ c.floor_quot-lo.ensures.size c.ceil_near-hi.ensures.size (quotients c).lo (quotients c).hi (floor_le_ceil c.args.self.lo c.args.self.hi c.args.n c.requires c.args.self.ordered)
 
 pub returns-clause-contains : goal.returns-clause-contains
-returns-clause-contains c x p =
+returns-clause-contains c u x p =
     let q = quotients (goal.at.returns-clause-contains c).After-ceil_near-hi in
     same_ends (settled _ _ c.floor_quot-lo.ensures.size q.lo) (settled _ _ c.ceil_near-hi.ensures.size q.hi) (contains-quot p c.args.n c.requires)

@@ -12,17 +12,17 @@ pub scale-requires : goal.scale-requires
 scale-requires c = scale-fits c.requires.size (omega (arith, ints, c.requires.counted)) (omega (arith, ints, c.requires.counted, c.requires.small))
 
 -- the quotient, before its sign
-unsigned : (c : After-quot_shift-entry) → box_ends c.quot_shift-entry.result ≡ quot_box (scale_box c.args.ways (box_ends c.args.power)) (pos (2 ^ (c.args.k + c.args.l + 20)))
+unsigned : (c : After-quot_shift-entry) → box_ends c.quot_shift-entry.result ≡ quot_box (scale_box (box_ends c.args.power) c.args.ways) (pos (2 ^ (c.args.k + c.args.l + 20)))
 unsigned c =
     let counted : wide c.args.ways ≡ c.args.ways = wide-is c.args.ways (omega (arith, ints, c.requires.counted)) (omega (arith, ints, c.requires.small)) in
-    c.quot_shift-entry.ensures.ends ∙ ap (λ b. quot_box b (pos (2 ^ (c.args.k + c.args.l + 20)))) (c.scale.ensures.ends ∙ ap (λ k. scale_box k (box_ends c.args.power)) counted)
+    c.quot_shift-entry.ensures.ends ∙ ap (λ b. quot_box b (pos (2 ^ (c.args.k + c.args.l + 20)))) (c.scale.ensures.ends ∙ ap (λ k. scale_box (box_ends c.args.power) k) counted)
 
 pub returns-then-l-eq0 : goal.returns-then-l-eq0
 returns-then-l-eq0 c = unsigned (goal.at.returns-then-l-eq0 c).After-quot_shift-entry
-    ∙ sym (alternate-even c.args.l c.if-l-eq0.true (quot_box (scale_box c.args.ways (box_ends c.args.power)) (pos (2 ^ (c.args.k + c.args.l + 20)))))
+    ∙ sym (alternate-even c.args.l c.if-l-eq0.true (quot_box (scale_box (box_ends c.args.power) c.args.ways) (pos (2 ^ (c.args.k + c.args.l + 20)))))
 
 pub returns-else-l-eq0 : goal.returns-else-l-eq0
 returns-else-l-eq0 c =
     let odd : c.args.l % 2 ≡ 1 = omega (arith, c.if-l-eq0.false) in
     c.neg.ensures.ends ∙ ap neg_box (unsigned (goal.at.returns-else-l-eq0 c).After-quot_shift-entry)
-    ∙ sym (alternate-odd c.args.l odd (quot_box (scale_box c.args.ways (box_ends c.args.power)) (pos (2 ^ (c.args.k + c.args.l + 20)))))
+    ∙ sym (alternate-odd c.args.l odd (quot_box (scale_box (box_ends c.args.power) c.args.ways) (pos (2 ^ (c.args.k + c.args.l + 20)))))

@@ -2,10 +2,11 @@ use Rattle.std.proofs.Common.{◌≡◌, ◌+◌, ◌*◌, ◌%◌, ◌/◌, ◌
 use Rattle.std.proofs.lemmas.Int.{ints}
 use Rattle.exact_math.specs.Binomials.{choose}
 use Rattle.exact_math.specs.Orders.{IsOrder}
+use Rattle.exact_math.proofs.Orders.{order_bounds}
 use Rattle.kernel_table.specs.Table.{AreWays}
 use Rattle.kernel_table.proofs.Chosen.{choose_small}
 use Rattle.kernel_table.proofs.Norms.{wide, wide-is}
-use Rattle.kernel_table.proofs.Places.{order_bounds, parts}
+use Rattle.kernel_table.proofs.Places.{parts}
 use Rattle.kernel_table.proofs.Pushed.{each_pushed}
 use Rattle.kernel_table.proofs.table.all_ways.Goals as goal
 

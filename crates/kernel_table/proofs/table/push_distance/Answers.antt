@@ -3,13 +3,14 @@ use Rattle.std.proofs.lemmas.Int.{ints}
 use Rattle.exact_math.specs.Binomials.{choose}
 use Rattle.exact_math.specs.Ends.{BoxEndsWithin}
 use Rattle.exact_math.specs.Orders.{IsOrder}
+use Rattle.exact_math.proofs.Orders.{order_bounds}
 use Rattle.complex_box.specs.Box.{box_ends}
 use Rattle.kernel_table.specs.Kernel.{IsKernelDistance, kernel_power, kernel_entry}
 use Rattle.kernel_table.specs.Table.{distance_at, IsKernelTable}
 use Rattle.kernel_table.proofs.Chosen.{choose_small}
 use Rattle.kernel_table.proofs.Lookups.{entry-from, next_entry}
 use Rattle.kernel_table.proofs.Norms.{wide, wide-is}
-use Rattle.kernel_table.proofs.Places.{order_bounds, parts}
+use Rattle.kernel_table.proofs.Places.{parts}
 use Rattle.kernel_table.proofs.Pushed.{each_pushed}
 use Rattle.kernel_table.proofs.Sizes.{power-fits}
 use Rattle.kernel_table.proofs.table.push_distance.Given.{Over}

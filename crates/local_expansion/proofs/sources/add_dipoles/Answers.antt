@@ -1,7 +1,7 @@
 use Rattle.std.proofs.Common.{◌≡◌, ◌∙◌, suc, ◌+◌, ◌*◌, ◌^◌, ap, ap₂, sym, subst, arith, length, pos, ◌+ℤ◌, to_z, of_z}
 use Rattle.std.proofs.lemmas.Int.{ints}
 use Rattle.std.specs.Int.{w128}
-use Rattle.exact_math.specs.Ends.{BoxEndsWithin, add_box, scale_box}
+use Rattle.exact_math.specs.Ends.{BoxEnds, BoxEndsWithin, add_box, scale_box}
 use Rattle.exact_math.specs.Within.{Within}
 use Rattle.complex_box.specs.Box.{box_ends, number}
 use Rattle.complex_box.proofs.Sizes.{box_wider, scale_box_within}
@@ -49,7 +49,7 @@ add-requires c =
     let size = power_next_within c.args.bits (number c.args.zeta) _ _ _ _ c.requires.far c.loop-l.invariant.size c.far_ratio-ratio.ensures.factor (d ∙ c.far_ratio-ratio.ensures.divisor) c.gquot-power-in-loop-l.ensures.ends in
     added_fits (row_of c.args.into.now) (length c.args.into.now) c.loop-l.l _ _ c.requires.row (omega arith)
     (row_read c.loop-l.into c.loop-l.l _ (omega arith) c.index-into-l.is ∙ c.loop-l.invariant.written.above c.loop-l.l (omega arith))
-    (subst (BoxEndsWithin (2 ^ 65)) (sym (c.scale.ensures.ends ∙ ap (λ n. scale_box n (box_ends c.gquot-power-in-loop-l.result)) e)) (scale_box_within 32 (2 ^ 60) (pos (suc c.loop-l.l)) (box_ends c.gquot-power-in-loop-l.result) w size))
+    (subst (BoxEndsWithin (2 ^ 65)) (sym (c.scale.ensures.ends ∙ ap (λ n. scale_box (box_ends c.gquot-power-in-loop-l.result) n) e)) (scale_box_within 32 (2 ^ 60) (pos (suc c.loop-l.l)) (box_ends c.gquot-power-in-loop-l.result) w size))
 
 pub loop-l-preserved : goal.loop-l-preserved
 loop-l-preserved c =
@@ -61,7 +61,7 @@ loop-l-preserved c =
     record {
       written = written-next _ _ _ _ _ (omega arith)
           (c.add.ensures.ends ∙ ap₂ add_box (row_read c.loop-l.into c.loop-l.l _ (omega arith) c.index-into-l.is ∙ c.loop-l.invariant.written.above c.loop-l.l (omega arith))
-          (c.scale.ensures.ends ∙ ap (λ n. scale_box n (box_ends c.gquot-power-in-loop-l.result)) e ∙ ap (scale_box (pos (suc c.loop-l.l))) next)) c.loop-l.invariant.written;
+          (c.scale.ensures.ends ∙ ap (λ n. scale_box (box_ends c.gquot-power-in-loop-l.result) n) e ∙ ap (λ (b : BoxEnds). scale_box b (pos (suc c.loop-l.l))) next)) c.loop-l.invariant.written;
       power = next ∙ ap (far_powers (box_ends c.args.first) (2 * 2 ^ c.args.bits) (number c.args.zeta)) {x = suc (suc c.loop-l.l)} {y = suc (c.loop-l.l + 1)} (omega arith);
       size = power_next_within c.args.bits (number c.args.zeta) _ _ _ _ c.requires.far c.loop-l.invariant.size c.far_ratio-ratio.ensures.factor (d ∙ c.far_ratio-ratio.ensures.divisor) c.gquot-power-in-loop-l.ensures.ends;
     }

@@ -8,7 +8,7 @@ use Rattle.local_expansion.proofs.sources.add_dipoles.Given as goal
 
 abbrev pub invariant-loop-l : goal.invariant-loop-l
 invariant-loop-l l = record {
-  written : Written (row_of l.fn.into) (λ k. add_box (row_of l.fn.into k) (scale_box (pos (suc k)) (far_powers (box_ends l.fn.first) (2 * 2 ^ l.fn.bits) (number l.fn.zeta) (suc (suc k))))) l.l l.into;
+  written : Written (row_of l.fn.into) (λ k. add_box (row_of l.fn.into k) (scale_box (far_powers (box_ends l.fn.first) (2 * 2 ^ l.fn.bits) (number l.fn.zeta) (suc (suc k))) (pos (suc k)))) l.l l.into;
   power : box_ends l.power ≡ far_powers (box_ends l.fn.first) (2 * 2 ^ l.fn.bits) (number l.fn.zeta) (suc l.l);
   size : BoxEndsWithin (2 ^ 60) (box_ends l.power);
 }

@@ -10,7 +10,7 @@ use Rattle.row_recursions.specs.Cells.{side_of, offset_from}
 use Rattle.row_recursions.specs.Rows.{row_of, far_source}
 use Rattle.row_recursions.proofs.Points.{grid_fits, side_positive, units_fit}
 use Rattle.row_recursions.proofs.RowSizes.{power_positive}
-use Rattle.row_recursions.proofs.ZeroBoxes.{zero_right}
+use Rattle.complex_box.proofs.ZeroBoxes.{zero_right}
 use Rattle.local_expansion.proofs.FarSources.{far_here, pole_coefficients, dipole_coefficients, no_coefficients}
 use Rattle.local_expansion.proofs.sources.add_far.Goals as goal
 

@@ -1,9 +1,9 @@
 use Rattle.std.proofs.Common.{ap, sym, ◌∙◌, ◌-◌, ◌^◌, arith, subst}
 use Rattle.exact_math.specs.Ends.{BoxEndsWithin}
 use Rattle.complex_box.specs.Box.{box_ends}
-use Rattle.complex_box.specs.Rows.{zero_cbox}
 use Rattle.complex_box.proofs.Sizes.{box_wider}
 use Rattle.row_recursions.specs.Rows.{row_of, down_round}
+use Rattle.row_recursions.proofs.RowWrites.{row_got}
 use Rattle.row_recursions.proofs.Equations.{down_round-zero}
 use Rattle.row_recursions.specs.Cells.{quadrant_of}
 use Rattle.local_shift.proofs.RoundSteps.{rounds_within, round_next}
@@ -17,7 +17,7 @@ loop-n-init g c = record {
 
 pub take_in-requires-clause-taken : goal.take_in-requires-clause-taken
 take_in-requires-clause-taken g c = box_wider (2 ^ 90) (2 ^ 91) _ (omega arith)
-    (subst (BoxEndsWithin (2 ^ 90)) (sym (ap box_ends (c.get.ensures zero_cbox))) (c.requires.size (g.row.P - 1 - c.loop-n.n) (omega arith)))
+    (subst (BoxEndsWithin (2 ^ 90)) (sym (row_got c.args.parent.cells.now (g.row.P - 1 - c.loop-n.n) c.get.ensures)) (c.requires.size (g.row.P - 1 - c.loop-n.n) (omega arith)))
 
 pub take_in-requires-clause-size : goal.take_in-requires-clause-size
 take_in-requires-clause-size g c = λ k h. subst (BoxEndsWithin (2 ^ 91)) (sym (c.loop-n.invariant.rounds k (omega arith)))
@@ -27,7 +27,7 @@ pub loop-n-preserved : goal.loop-n-preserved
 loop-n-preserved g c = record {
   len = omega arith;
   rounds = round_next g.row.P c.args.q (row_of c.args.parent.cells.now) (row_of c.loop-n.moved) (row_of c.take_in.new.moved) (box_ends c.get.result) c.loop-n.n (omega arith)
-      (ap box_ends (c.get.ensures zero_cbox)) c.loop-n.invariant.rounds c.take_in.ensures.next c.take_in.ensures.others;
+      (row_got c.args.parent.cells.now (g.row.P - 1 - c.loop-n.n) c.get.ensures) c.loop-n.invariant.rounds c.take_in.ensures.next c.take_in.ensures.others;
 }
 
 pub returns-clause-moved : goal.returns-clause-moved

@@ -38,7 +38,7 @@ loop-k-preserved c =
     record {
       first = omega arith;
       written = written-next _ _ _ _ _ (omega (arith, n))
-          (c.next_coefficient.ensures ∙ ap₂ (λ a b. quot_box (add_box (gscale_box a (quadrant_of c.args.q)) (scale_box (pos 2) b)) (pos 4)) p c.loop-k.invariant.lower
+          (c.next_coefficient.ensures ∙ ap₂ (λ a b. quot_box (add_box (gscale_box a (quadrant_of c.args.q)) (scale_box b (pos 2))) (pos 4)) p c.loop-k.invariant.lower
           ∙ sym (next_row-at (box_ends c.args.taken) (quadrant_of c.args.q) (row_of c.args.moved.now) c.loop-k.k c.loop-k.invariant.first)) c.loop-k.invariant.written;
       lower = p ∙ ap (row_of c.args.moved.now) {x = c.loop-k.k} {y = c.loop-k.k + 1 - 1} (omega arith);
     }

@@ -2,7 +2,7 @@ use Rattle.std.proofs.Common.{◌≡◌, ◌∙◌, ◌+◌, ◌-◌, ◌*◌, �
 use Rattle.std.proofs.lemmas.Int.{ints}
 use Rattle.std.proofs.lemmas.List.{length-set}
 use Rattle.std.specs.Int.{w128}
-use Rattle.exact_math.specs.Ends.{gquot_box, scale_box}
+use Rattle.exact_math.specs.Ends.{BoxEnds, gquot_box, scale_box}
 use Rattle.exact_math.specs.Within.{Within}
 use Rattle.complex_box.specs.Box.{box_ends, number}
 use Rattle.complex_box.proofs.Sizes.{box_wider, scale_box_within}
@@ -34,7 +34,7 @@ loop-k-preserved c =
     record {
       first = omega arith;
       written = written-next _ _ _ _ _ (omega arith)
-          (c.scale.ensures.ends ∙ ap (λ n. scale_box n (box_ends c.loop-k.power)) e ∙ ap (scale_box (pos c.loop-k.k)) c.loop-k.invariant.power
+          (c.scale.ensures.ends ∙ ap (λ n. scale_box (box_ends c.loop-k.power) n) e ∙ ap (λ (b : BoxEnds). scale_box b (pos c.loop-k.k)) c.loop-k.invariant.power
           ∙ sym (slopes-next (box_ends c.args.first) (number c.args.o) c.args.shift c.loop-k.k first)) c.loop-k.invariant.written;
       power = c.next_power-power.ensures.ends ∙ ap (λ b. gquot_box b (number c.args.o) (pos (2 ^ c.args.shift))) c.loop-k.invariant.power
           ∙ sym (powers-next (box_ends c.args.first) (number c.args.o) c.args.shift (c.loop-k.k - 1))

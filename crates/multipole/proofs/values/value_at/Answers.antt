@@ -1,10 +1,10 @@
-use Rattle.std.proofs.Common.{◌≡◌, ◌∙◌, ◌^◌, ap, sym, arith, pos, to_z, of_z}
+use Rattle.std.proofs.Common.{◌-◌, ◌≡◌, ◌∙◌, ◌^◌, ap, sym, arith, pos, to_z, of_z}
 use Rattle.std.proofs.lemmas.Int.{ints}
 use Rattle.std.specs.Int.{w128}
 use Rattle.exact_math.specs.Ends.{quot_box}
-use Rattle.complex_box.specs.Box.{box_ends, number}
-use Rattle.complex_box.specs.Rows.{zero_cbox}
+use Rattle.complex_box.specs.Box.{number}
 use Rattle.row_recursions.specs.Rows.{row_of, multipole_round}
+use Rattle.row_recursions.proofs.RowWrites.{row_got}
 use Rattle.row_recursions.proofs.Equations.{multipole_round-zero, multipole_value-is}
 use Rattle.multipole.proofs.ValueSteps.{sum_fits, product_fits, value_next}
 use Rattle.multipole.proofs.values.value_at.Goals as goal
@@ -13,17 +13,17 @@ pub loop-n-init : goal.loop-n-init
 loop-n-init g c = c.zero-value.ensures.ends ∙ sym (multipole_round-zero _ _ _ _)
 
 pub add-requires : goal.add-requires
-add-requires g c = sum_fits g.row.P c.args.bits (row_of c.args.row.cells.now) (number c.args.zeta) c.requires.order c.requires.far c.requires.size c.loop-n.n _ _ (omega arith) c.loop-n.invariant (ap box_ends (c.get.ensures zero_cbox))
+add-requires g c = sum_fits g.row.P c.args.bits (row_of c.args.row.cells.now) (number c.args.zeta) c.requires.order c.requires.far c.requires.size c.loop-n.n _ _ (omega arith) c.loop-n.invariant (row_got c.args.row.cells.now (g.row.P - 1 - c.loop-n.n) c.get.ensures)
 
 pub gquot-value-requires-clause-fits : goal.gquot-value-requires-clause-fits
-gquot-value-requires-clause-fits g c = product_fits g.row.P c.args.bits (row_of c.args.row.cells.now) (number c.args.zeta) c.requires.order c.requires.far c.requires.size c.loop-n.n _ _ _ _ (omega arith) c.loop-n.invariant (ap box_ends (c.get.ensures zero_cbox)) c.add.ensures.ends c.far_ratio-ratio.ensures.small
+gquot-value-requires-clause-fits g c = product_fits g.row.P c.args.bits (row_of c.args.row.cells.now) (number c.args.zeta) c.requires.order c.requires.far c.requires.size c.loop-n.n _ _ _ _ (omega arith) c.loop-n.invariant (row_got c.args.row.cells.now (g.row.P - 1 - c.loop-n.n) c.get.ensures) c.add.ensures.ends c.far_ratio-ratio.ensures.small
 
 pub loop-n-preserved : goal.loop-n-preserved
 loop-n-preserved g c =
     let low = c.far_ratio-ratio.ensures.positive in
     let high = c.far_ratio-ratio.ensures.most in
     let d : to_z w128 (of_z w128 c.far_ratio-ratio.result.divisor) ≡ c.far_ratio-ratio.result.divisor = omega (arith, ints) in
-    value_next g.row.P c.args.bits (row_of c.args.row.cells.now) (number c.args.zeta) c.requires.order c.requires.far c.requires.size c.loop-n.n _ _ _ _ _ _ c.loop-n.invariant (ap box_ends (c.get.ensures zero_cbox)) c.add.ensures.ends
+    value_next g.row.P c.args.bits (row_of c.args.row.cells.now) (number c.args.zeta) c.requires.order c.requires.far c.requires.size c.loop-n.n _ _ _ _ _ _ c.loop-n.invariant (row_got c.args.row.cells.now (g.row.P - 1 - c.loop-n.n) c.get.ensures) c.add.ensures.ends
     c.far_ratio-ratio.ensures.factor (d ∙ c.far_ratio-ratio.ensures.divisor) c.gquot-value.ensures.ends
 
 pub returns : goal.returns

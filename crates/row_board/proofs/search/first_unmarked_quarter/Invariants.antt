@@ -1,7 +1,8 @@
--- The quarters so far are marked.
-use Rattle.cell_lists.specs.Numbers.{OfEachList}
-use Rattle.row_board.proofs.Children.{Seen}
+-- The children so far that have a source are marked.
+use Rattle.std.proofs.Common.{take}
+use Rattle.tree_field.specs.Program.{with_source}
+use Rattle.row_board.specs.Search.{AreMarked}
 use Rattle.row_board.proofs.search.first_unmarked_quarter.Given as goal
 
-abbrev pub invariant-loop-k : goal.invariant-loop-k
-invariant-loop-k l = OfEachList l.tree (λ points cap. Seen points l.tree l.marks l.n l.k)
+abbrev pub invariant-loop-child : goal.invariant-loop-child
+invariant-loop-child l = AreMarked l.marks (with_source l.tree (take l.child-index l.children))

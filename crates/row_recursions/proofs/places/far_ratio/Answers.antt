@@ -1,6 +1,6 @@
 use Rattle.std.proofs.Common.{◌^◌, pos, ◌≤ℤ◌, sym, subst, arith}
 use Rattle.std.proofs.lemmas.Int.{ints}
-use Rattle.truncation.specs.Places.{GaussianWithin}
+use Rattle.exact_math.specs.Within.{GaussianWithin}
 use Rattle.complex_box.specs.Box.{number}
 use Rattle.row_recursions.proofs.FarPlaces.{negative_fits, factor_is, factor_within, norm_fits, norm_is, norm_most}
 use Rattle.row_recursions.proofs.RowSizes.{far_norm_positive, power_positive}

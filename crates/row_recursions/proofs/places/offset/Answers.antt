@@ -1,7 +1,7 @@
 use Rattle.std.proofs.Common.{◌^◌, ap₂, sym, subst, arith, to_z-of_z}
 use Rattle.std.proofs.lemmas.Int.{ints}
 use Rattle.exact_math.specs.Gaussian.{gaussian}
-use Rattle.truncation.specs.Places.{GaussianWithin}
+use Rattle.exact_math.specs.Within.{GaussianWithin}
 use Rattle.row_recursions.proofs.Points.{grid_of, grid_offset_within}
 use Rattle.row_recursions.proofs.places.offset.Goals as goal
 

@@ -2,7 +2,7 @@ use Rattle.std.proofs.Common.{◌≡◌, ◌∙◌, ◌*◌, ◌<◌, ap, sym, s
 use Rattle.std.proofs.lemmas.List.{take_all}
 use Rattle.exact_math.specs.Ends.{BoxEnds, add_box}
 use Rattle.exact_math.specs.Gaussian.{Gaussian}
-use Rattle.cell_lists.specs.Row.{row}
+use Rattle.cell_lists.specs.ListAt.{list_at}
 use Rattle.cell_lists.proofs.TreeNumbers.{read_at}
 use Rattle.cell_name.specs.Cell.{square}
 use Rattle.cell_name.specs.Square.{side}
@@ -14,7 +14,7 @@ use Rattle.quadtree.specs.TreeModel.{size, square_of}
 use Rattle.row_recursions.specs.Rows.{multipole_value}
 use Rattle.soundness.specs.Computed.{total_box}
 use Rattle.soundness.specs.Squares.{offset}
-use Rattle.truncation.specs.Places.{GaussianBeyond}
+use Rattle.exact_math.specs.Within.{GaussianBeyond}
 use Rattle.tree_rows.specs.FlatRows.{row_at}
 use Rattle.target_values.proofs.FarCells.{far_below, few_far, far_from}
 use Rattle.target_values.proofs.NearSums.{total-step}
@@ -59,7 +59,7 @@ loop-c-preserved g c =
     let tree = c.args.tree.now in
     let z : Gaussian = place c.args.target.now in
     let i = c.loop-c.c-index in
-    let xs : List ℕ = row c.args.lists.now.w c.args.b in
+    let xs : List ℕ = list_at c.args.lists.now.w c.args.b in
     let items : List ℕ = c.w_list-c-items.result.now in
     let n : ℕ = get_or items i 0 in
     let h = far_below tree c.args.lists.now c.requires.tree c.requires.lists c.args.b c.requires.number items c.w_list-c-items.ensures i (omega arith) in
@@ -76,7 +76,7 @@ loop-c-preserved g c =
 
 pub returns-clause-ends : goal.returns-clause-ends
 returns-clause-ends g c =
-    let xs : List ℕ = row c.args.lists.now.w c.args.b in
+    let xs : List ℕ = list_at c.args.lists.now.w c.args.b in
     let long : length c.w_list-c-items.result.now ≡ length xs = ap length c.w_list-c-items.ensures in
     c.loop-c.invariant.ends
     ∙ ap (total_box (λ n. multipole_value g.row.P (row_at g.row.P c.args.up.now n) (side (square_of c.args.tree.now n)) (offset (square_of c.args.tree.now n) (place c.args.target.now)))) (take_all c.loop-c.c-index xs (omega (arith, long)))

@@ -4,7 +4,7 @@ use Rattle.std.proofs.lemmas.List.{take_all}
 use Rattle.std.proofs.lemmas.List.Sums.{sum_by_more}
 use Rattle.exact_math.specs.Ends.{BoxEnds, add_box}
 use Rattle.exact_math.specs.Gaussian.{Gaussian}
-use Rattle.cell_lists.specs.Row.{row}
+use Rattle.cell_lists.specs.ListAt.{list_at}
 use Rattle.letters.specs.declared.Letter.TheVariants.{U}
 use Rattle.complex_box.specs.Box.{box_ends}
 use Rattle.complex_box.proofs.Sizes.{add_box_within, box_wider}
@@ -62,7 +62,7 @@ loop-c-preserved c =
     let points = c.args.points.now in
     let z : Gaussian = place c.args.target.now in
     let i = c.loop-c.c-index in
-    let xs : List ℕ = row lists.u c.args.b in
+    let xs : List ℕ = list_at lists.u c.args.b in
     let items : List ℕ = c.u_list-c-items.result.now in
     let long : length items ≡ length xs = ap length c.u_list-c-items.ensures in
     let lt : i < length xs = omega (arith, long) in
@@ -81,7 +81,7 @@ loop-c-preserved c =
 
 pub returns-clause-ends : goal.returns-clause-ends
 returns-clause-ends c =
-    let xs : List ℕ = row c.args.lists.now.u c.args.b in
+    let xs : List ℕ = list_at c.args.lists.now.u c.args.b in
     let long : length c.u_list-c-items.result.now ≡ length xs = ap length c.u_list-c-items.ensures in
     c.loop-c.invariant.ends ∙ ap (total_box (λ n. total_box (pair_box (place c.args.target.now)) (sources_of c.args.tree.now c.args.lists.now c.args.points.now n))) (take_all c.loop-c.c-index xs (omega (arith, long)))
 
@@ -93,7 +93,7 @@ returns-clause-size c =
 
 pub returns-clause-pairs : goal.returns-clause-pairs
 returns-clause-pairs c =
-    let xs : List ℕ = row c.args.lists.now.u c.args.b in
+    let xs : List ℕ = list_at c.args.lists.now.u c.args.b in
     let long : length c.u_list-c-items.result.now ≡ length xs = ap length c.u_list-c-items.ensures in
     c.loop-c.invariant.pairs ∙ ap (λ l. c.args.work.now.pairs + sum_by (λ n. count_apart (place c.args.target.now) (sources_of c.args.tree.now c.args.lists.now c.args.points.now n)) l) (take_all c.loop-c.c-index xs (omega (arith, long)))
 

@@ -1,13 +1,13 @@
 use Rattle.std.proofs.Common.{ℕ, ◌+◌, ◌*◌, ◌^◌, ◌∙◌, ap, arith, subst, sym, rules, to_z-of_z}
 use Rattle.std.specs.Prelude.{slice_range}
 use Rattle.exact_math.specs.Gaussian.{Gaussian}
+use Rattle.exact_math.proofs.Orders.{order_bounds}
 use Rattle.complex_box.proofs.Sizes.{box_wider}
 use Rattle.points.specs.Points.{place}
 use Rattle.row_recursions.specs.Cells.{side_of, offset_from}
 use Rattle.row_recursions.specs.Rows.{row_of, local_value}
 use Rattle.row_recursions.specs.Sizes.{RowWithin}
 use Rattle.row_recursions.proofs.Points.{grid_fits}
-use Rattle.row_recursions.proofs.RowSizes.{order_small}
 use Rattle.tree_rows.specs.FlatRows.{row_at}
 use Rattle.target_values.proofs.Numbers.{row_in_slice, row_within}
 use Rattle.target_values.proofs.SameValues.{local_value-same}
@@ -23,7 +23,7 @@ at_local-requires g c =
 
 pub returns-clause-size : goal.returns-clause-size
 returns-clause-size g c =
-    let small = order_small g.row.P c.requires.order in
+    let small = order_bounds g.row.P c.requires.order in
     box_wider (g.row.P * 2 ^ 90) (2 ^ 95) _ (omega (arith, small))
     (c.at_local.ensures.size (2 ^ 90) (subst (λ cells. RowWithin g.row.P (2 ^ 90) (row_of cells)) (sym c.new-row.ensures) (row_within g.row.P (2 ^ 90) c.args.n c.args.local.now c.requires.size c.requires.number)))
 

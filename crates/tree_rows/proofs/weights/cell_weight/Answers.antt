@@ -6,6 +6,7 @@ use Rattle.std.proofs.lemmas.List.Sums.{sum_by_more}
 use Rattle.std.specs.Prelude.{sum_by}
 use Rattle.points.proofs.Slices.{first_point}
 use Rattle.quadtree.specs.TreeModel.{square_of, node_of}
+use Rattle.row_recursions.proofs.Points.{weight-source_of}
 use Rattle.tree_rows.proofs.CellWeights.{weighs_at, position_inside, members_weigh, members_light, cell_light, light_fits, light_sum}
 use Rattle.tree_rows.proofs.weights.cell_weight.Goals as goal
 
@@ -25,7 +26,10 @@ weight-total-requires-clause-range c = c.requires.tree.range _ first_point (boun
 
 -- the next member's weight
 next : (c : goal.After-weight-total) → c.weight-total.result ≡ pos (weighs_at c.args.order c.args.points.now (get_or (node_of c.args.tree.now c.args.n).members c.loop-k.k-index 0))
-next c = c.weight-total.ensures.source ∙ ap (λ (l : List ℕ). pos (weighs_at c.args.order c.args.points.now (get_or l c.loop-k.k-index 0))) c.members-k-items.ensures
+next c =
+    let p = get_or c.args.points.now (get_or c.members-k-items.result.now c.loop-k.k-index 0) first_point in
+    c.weight-total.ensures ∙ ap pos (sym (weight-source_of c.args.order p))
+    ∙ ap (λ (l : List ℕ). pos (weighs_at c.args.order c.args.points.now (get_or l c.loop-k.k-index 0))) c.members-k-items.ensures
 
 pub overflow_add-total : goal.overflow_add-total
 overflow_add-total c = light_fits _ _ _ _ c.loop-k.invariant (next c) (members_light c.args.points.now c.args.tree.now c.requires.tree c.args.n c.requires.cell c.args.order c.loop-k.k-index c.requires.most (inside c))

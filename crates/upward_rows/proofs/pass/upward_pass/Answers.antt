@@ -4,23 +4,22 @@ use Rattle.std.specs.Prelude.{sum_by}
 use Rattle.std.specs.List.{range_with_len}
 use Rattle.std.proofs.lemmas.Bool.{cases_lt}
 use Rattle.exact_math.specs.Ends.{BoxEndsWithin}
+use Rattle.exact_math.proofs.Orders.{order_bounds}
 use Rattle.complex_box.specs.Box.{box_ends}
 use Rattle.quadtree.specs.TreeModel.{size, square_of}
 use Rattle.row_recursions.specs.Sizes.{RowWithin}
-use Rattle.row_recursions.proofs.RowSizes.{order_small}
 use Rattle.tree_field.specs.Field.{multipole_row}
 use Rattle.tree_field.specs.Program.{source_children}
-use Rattle.tree_field.proofs.Members.{All-from_members}
+use Rattle.quadtree.proofs.Lists.{All-from_members}
 use Rattle.tree_rows.specs.FlatRows.{row_at}
 use Rattle.upward_rows.specs.Upward.{shifts_into}
-use Rattle.tree_rows.proofs.Trees.{some_tree}
-use Rattle.upward_rows.proofs.Children.{child_behind}
+use Rattle.upward_rows.proofs.Children.{source_child_is}
 use Rattle.quadtree.proofs.Limits.{in_grid}
 use Rattle.upward_rows.proofs.Counts.{shifts_more, shifts_of_all}
 use Rattle.field_sizes.proofs.MultipoleSizes.{multipole_row-light}
 use Rattle.upward_rows.proofs.Slices.{row_fits}
 use Rattle.field_sizes.proofs.RowTotals.{wider}
-use Rattle.upward_rows.proofs.Trees.{cell_is}
+use Rattle.quadtree.proofs.TreeChildren.{tree_cell_at}
 use Rattle.upward_rows.proofs.pass.upward_pass.Goals as goal
 
 pub fill_row-requires-clause-small : goal.fill_row-requires-clause-small
@@ -31,11 +30,12 @@ fill_row-requires-clause-small g c =
     let capacity = c.requires.tree.cap in
     let is = c.requires.tree.is_tree in
     let n = c.loop-n.n - 1 in
-    let few = order_small P c.requires.order in
+    let lt : n < size tree = omega (arith, c.loop-n-test.true, c.loop-n.auto.n, ap length c.cells-n.ensures.all) in
+    let few = order_bounds P c.requires.order in
     All-from_members (λ m. RowWithin P (2 ^ 74) (row_at P c.loop-n.rows m)) (source_children tree n) (λ m listed k h.
-    let child = child_behind tree (some_tree points tree c.requires.tree) n m listed in
-    let cell = cell_is tree points capacity is m child.inside in
-    subst (BoxEndsWithin (2 ^ 74)) (sym (c.loop-n.invariant.rows capacity m is (omega (arith, child.behind)) child.inside k h))
+    let child = source_child_is points tree c.requires.tree n lt m listed in
+    let cell = tree_cell_at tree points capacity m is child.in_range in
+    subst (BoxEndsWithin (2 ^ 74)) (sym (c.loop-n.invariant.rows capacity m is (omega (arith, child.behind)) child.in_range k h))
     (wider P (2 ^ 72) (2 ^ 74) (multipole_row points capacity (square_of tree m)) (omega arith) (multipole_row-light P points capacity (square_of tree m) (omega (arith, few)) (omega (arith, cell.of_grid, cell.level_in_grid)) c.requires.tree.light) k h))
 
 pub loop-n-preserved : goal.loop-n-preserved
@@ -58,8 +58,8 @@ loop-n-preserved g c =
                 ap (λ j. row_at P c.fill_row.new.rows j k) e
                 ∙ c.fill_row.ensures.row cap is
                 (record {
-                  each = λ j listed. let child = child_behind tree (some_tree points tree c.requires.tree) n j listed in
-                      c.loop-n.invariant.rows cap j is (omega (arith, child.behind, next)) child.inside;
+                  each = λ j listed. let child = source_child_is points tree c.requires.tree n lt j listed in
+                      c.loop-n.invariant.rows cap j is (omega (arith, child.behind, next)) child.in_range;
                 })
                 k h
                 ∙ ap (λ j. multipole_row points cap (square_of tree j) k) (sym e)

@@ -3,13 +3,13 @@ use Rattle.std.proofs.Common.{arith, ◌∙◌, ◌*◌, ◌^◌, ap, sym, refl,
 use Rattle.std.proofs.lemmas.List.{take_all}
 use Rattle.std.specs.Prelude.{sum_by}
 use Rattle.exact_math.specs.Ends.{BoxEndsWithin, add_box}
+use Rattle.exact_math.proofs.Orders.{order_bounds}
 use Rattle.complex_box.proofs.Sizes.{box_wider}
 use Rattle.cell_name.specs.Cell.{square}
 use Rattle.points.proofs.Slices.{first_point}
 use Rattle.points.specs.declared.Point.{Point}
 use Rattle.points.specs.Limits.{weight64}
 use Rattle.row_recursions.specs.Rows.{row_of}
-use Rattle.row_recursions.proofs.RowSizes.{order_small}
 use Rattle.soundness.specs.Computed.{total_row, moments_in}
 use Rattle.upward_rows.proofs.Points.{sources_at, sources_at-members, weight_so_far, more_yes, more_no, member_at, held_so_far}
 use Rattle.field_sizes.proofs.MultipoleSizes.{sources_within}
@@ -28,7 +28,7 @@ add_source-requires-clause-size g c = λ k h.
     let points = c.args.points.now in
     let members = c.args.members.now in
     let i = c.loop-k.k-index in
-    let few = order_small g.row.P c.requires.order in
+    let few = order_bounds g.row.P c.requires.order in
     let light = weight_so_far points (square c.args.cell) members i c.requires.members in
     let limit = c.requires.weight in
     subst (BoxEndsWithin (2 ^ 80)) (sym (c.loop-k.invariant k h))

@@ -1,5 +1,6 @@
 use Rattle.std.proofs.Common.{◌<◌, ◌^◌, ◌∙◌, sym, length, arith, rules}
-use Rattle.line_text.proofs.WideDigits.{decimal-last, decimal-one, decimal_room}
+use Rattle.line_text.proofs.Digits.{decimal-one}
+use Rattle.line_text.proofs.WideDigits.{decimal-last, decimal_room}
 use Rattle.line_text.proofs.front.FrontText.prepend_wide.Goals as goal
 
 pub prepend-requires : goal.prepend-requires

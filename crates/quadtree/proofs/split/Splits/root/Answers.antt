@@ -11,7 +11,7 @@ begun c =
     elim c.if-count-gt0.branch [
       | then-count-gt0+in_ok-push w ↦
           let e : c.if-count-gt0.runs.items ≡ w.push.new.self.items = rw w.runs-is refl in
-          begun_pushed _ points xs c.new-runs.result.items c.if-count-gt0.runs.items (e ∙ w.in_ok-push.ensures.items) c.new-runs.ensures.items c.requires.in_grid c.in_ok-positions.ensures refl refl refl (omega (arith, w.if-count-gt0.true))
+          begun_pushed _ points xs c.new-runs.result.items c.if-count-gt0.runs.items (e ∙ w.in_ok-push.ensures.items) c.new-runs.ensures.items c.requires.in_grid c.in_ok-positions.ensures refl refl refl refl (omega (arith, w.if-count-gt0.true))
       | else-count-gt0 w ↦
           let e : c.if-count-gt0.runs.items ≡ c.new-runs.result.items = rw w.runs-is refl in
           begun_not points xs c.if-count-gt0.runs.items (e ∙ c.new-runs.ensures.items) c.requires.in_grid c.in_ok-positions.ensures (omega (arith, w.if-count-gt0.false))
@@ -22,3 +22,6 @@ returns-clause-cells c = (begun c).cells
 
 pub returns-clause-runs : goal.returns-clause-runs
 returns-clause-runs c = (begun c).runs_are
+
+pub returns-clause-parents : goal.returns-clause-parents
+returns-clause-parents c = (begun c).parents

@@ -1,16 +1,14 @@
 -- What is kept of a cell is right.
-use Rattle.std.proofs.Common.{ℕ, ◌≡◌, ◌≤◌, ◌⊎◌, inl, inr, List, length, map, Bool, ap, ◌∙◌, arith}
+use Rattle.std.proofs.Common.{ℕ, ◌≡◌, refl, ◌≤◌, ◌⊎◌, inl, inr, List, length, Bool, ap, ◌∙◌, arith}
 use Rattle.std.specs.Prelude.{IsTrue, ◌↔◌, slice_get}
 use Rattle.std.specs.List.{list_any}
-use Rattle.std.proofs.lemmas.List.Elements.{All-contains}
 use Rattle.points.specs.declared.Point.{Point}
 use Rattle.cell_name.specs.Cell.{square}
 use Rattle.cell_name.specs.Square.{Square}
-use Rattle.quadtree.specs.Nodes.{is_target, is_source}
+use Rattle.quadtree.specs.Nodes.{is_target_at, is_source_at}
 use Rattle.quadtree.specs.Tree.{IsTreeCell, IsLeaf, count_in}
 use Rattle.quadtree.proofs.PointKinds.{has_target_is, has_source_is}
 use Rattle.quadtree.proofs.Positions.{length-members}
-use Rattle.quadtree.proofs.Parents.{IsTreeCell-parent}
 use Rattle.quadtree.proofs.tree.Node.of.Goals as goal
 
 -- a cell of the tree is a leaf where the code says that it isn't split
@@ -20,23 +18,17 @@ leaf_is points cap c n b in_tree count h = (
   λ leaf. h.1 (elim leaf.ends [ inl few ↦ inl (omega (arith, few, count)) | inr last ↦ inr last ]),
 )
 
-pub parent_of-requires-clause-listed : goal.parent_of-requires-clause-listed
-parent_of-requires-clause-listed c lo =
-    let cells = map square c.args.cells.now in
-    let in_tree = All-contains (IsTreeCell 16 c.args.points.now c.args.cap) cells (square c.args.run.cell) c.requires.cells.in_tree c.requires.listed in
-    c.requires.cells.whole _ (IsTreeCell-parent 16 c.args.points.now c.args.cap (square c.args.run.cell) (omega arith) c.requires.in_grid in_tree lo)
-
 pub returns : goal.returns
 returns c =
     let points = c.args.points.now in
     let cell = square c.args.run.cell in
-    let in_tree = All-contains (IsTreeCell 16 points c.args.cap) (map square c.args.cells.now) cell c.requires.cells.in_tree c.requires.listed in
     let members = c.requires.run.members_are in
     record {
       range = record { ordered = c.requires.run.ordered; in_range = c.requires.run.in_range };
       members_are = members;
-      leaf = leaf_is points c.args.cap cell _ c.is_last.result in_tree (ap length members ∙ length-members points cell) c.is_last.ensures;
-      source = has_source_is points cell c.has_source.result (c.has_source.ensures ∙ ap (list_any (λ k. is_source (slice_get points k))) members);
-      target = has_target_is points cell c.has_target.result (c.has_target.ensures ∙ ap (list_any (λ k. is_target (slice_get points k))) members);
-      parent_is = c.parent_of.ensures;
+      leaf = leaf_is points c.args.cap cell _ c.is_last.result c.requires.in_tree (ap length members ∙ length-members points cell) c.is_last.ensures;
+      source = has_source_is points cell c.has_source.result (c.has_source.ensures ∙ ap (list_any (λ k. is_source_at (slice_get points k))) members);
+      target = has_target_is points cell c.has_target.result (c.has_target.ensures ∙ ap (list_any (λ k. is_target_at (slice_get points k))) members);
+      parent_is = refl;
+      children_are = refl;
     }

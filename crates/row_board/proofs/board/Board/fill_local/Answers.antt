@@ -7,7 +7,7 @@ use Rattle.std.specs.Int.{w128}
 use Rattle.std.specs.Prelude.{List}
 use Rattle.std.specs.Vec.{with_items}
 use Rattle.complex_box.specs.declared.CBox.{CBox}
-use Rattle.cell_lists.specs.Row.{row}
+use Rattle.cell_lists.specs.ListAt.{list_at}
 use Rattle.field_sizes.proofs.RowTotals.{wider}
 use Rattle.points.specs.declared.Point.{Point}
 use Rattle.quadtree.specs.TreeModel.{node_of}
@@ -91,7 +91,7 @@ made g c =
     let parent : to_z w128 (of_z w128 c.index-parent.result.now) ≡ get_or b.radii above (pos 0) = read ∙ r.read_is ∙ ap (λ m. get_or b.radii m (pos 0)) c.parent.ensures in
     subst (λ (local : List CBox). Fills P (Local n) b (with_rows b b.up local (set b.radii n radius) b.values b.has_up (set b.has_local n true) b.has_value)) (sym (with_items_is c.self.inside.local rows (c.fill_row.ensures.len ∙ c.deref_mut.ensures.len)))
     (local_made P b is n rows radius named ready (c.fill_row.ensures.len ∙ ap length c.deref_mut.ensures.value)
-    (λ field. local_from P b.tree (row b.lists.v n) n above _ _ _ _ _ _ rows c.deref-2.ensures.value c.deref-3.ensures.value c.deref_mut.ensures.value c.fill_row.ensures.local b.cap field)
+    (λ field. local_from P b.tree (list_at b.lists.v n) n above _ _ _ _ _ _ rows c.deref-2.ensures.value c.deref-3.ensures.value c.deref_mut.ensures.value c.fill_row.ensures.local b.cap field)
     (λ field over. radius_from P b.tree n above _ _ _ _ _ _ c.deref.ensures.value parent (sym (to_z-of_z fits)) c.local_radius.ensures.radius b.points b.cap field (inside P b is) over is.weights_are)
     (λ m ne k lt. c.fill_row.ensures.others m ne k lt ∙ ap (λ (rows : List CBox). row_at P rows m k) c.deref_mut.ensures.value))
 

@@ -2,7 +2,7 @@
 use Rattle.std.proofs.Common.{◌<◌, ◌∷◌, map, ap, ap₂, ◌∙◌, sym, subst, arith, lit<}
 use Rattle.std.specs.Prelude.{All, MatchOption}
 use Rattle.letters.specs.declared.Letter.TheVariants.{V}
-use Rattle.cell_lists.specs.Row.{row}
+use Rattle.cell_lists.specs.ListAt.{list_at}
 use Rattle.quadtree.specs.TreeModel.{size, node_of}
 use Rattle.row_board.specs.Names.{AreFilled, IsFirstMissing}
 use Rattle.row_board.specs.Parts.{BoardParts}
@@ -25,5 +25,5 @@ pub returns : goal.returns
 returns g c =
     let n = c.args.n in
     subst (λ names. MatchOption c.first_missing.result (AreFilled c.args.self.now names) (IsFirstMissing c.args.self.now names))
-    (ap₂ (λ m l. Local m ∷ map Up l) (c.parent.ensures ∙ ap (λ (b : BoardParts). (node_of b.tree n).parent) c.self.view_is) (c.v_list.ensures ∙ ap (λ (b : BoardParts). row b.lists.v n) c.self.view_is) ∙ sym (needs_below c.args.self.now n c.if-n-eq0.false))
+    (ap₂ (λ m l. Local m ∷ map Up l) (c.parent.ensures ∙ ap (λ (b : BoardParts). (node_of b.tree n).parent) c.self.view_is) (c.v_list.ensures ∙ ap (λ (b : BoardParts). list_at b.lists.v n) c.self.view_is) ∙ sym (needs_below c.args.self.now n c.if-n-eq0.false))
     c.first_missing.ensures

@@ -2,7 +2,7 @@ use Rattle.std.proofs.Common.{◌≡◌, ◌∙◌, List, ap, sym, refl, subst, 
 use Rattle.std.specs.Prelude.{sum_by}
 use Rattle.std.specs.List.{range_with_len, count_by}
 use Rattle.std.proofs.lemmas.List.{length-map}
-use Rattle.cell_lists.specs.Lists.{lists_of}
+use Rattle.cell_lists.specs.EntryLists.{lists_of}
 use Rattle.letters.specs.declared.Letter.TheVariants.{U, V, W, X}
 use Rattle.complex_box.specs.Box.{box_ends}
 use Rattle.points.specs.Points.{place}

@@ -1,0 +1,23 @@
+//! Calls the arithmetic of intervals and boxes in loops: a thousand calls of each in short, whose results are folded into
+//! one number, and ten million when they are timed.
+mod loops;
+mod samples;
+
+use loops::Operation;
+use std::io;
+use std::time::Instant;
+
+pub fn run(rt: &HostRuntime, timed: bool) -> io::Result<()> {
+    for operation in Operation::ALL {
+        let name = operation.name();
+        if timed {
+            let start = Instant::now(rt)?;
+            let folded = operation.run(10_000_000);
+            let tenths = start.elapsed(rt)?.as_nanos() / 1_000_000;
+            println!(rt; "{name} {folded} {}.{} ns a call", tenths / 10, tenths % 10)?;
+        } else {
+            println!(rt; "{name} {}", operation.run(1_000))?;
+        }
+    }
+    Ok(())
+}

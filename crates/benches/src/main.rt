@@ -1,0 +1,82 @@
+//! Measures the arithmetic, reading and writing, the tree with its lists, the kernel's table, and the calls on rows.
+//!
+//! `benches NAME time` measures one of them. `benches NAME` runs it in its short form, and `benches` all five, where
+//! the numbers are the same in every run.
+#![tactic(auto)]
+
+mod arithmetic;
+mod kernel;
+mod rows;
+mod text;
+mod tree;
+
+use std::{env, io};
+
+/// What is measured.
+#[derive(Clone, Copy)]
+enum Bench {
+    Arithmetic,
+    Text,
+    Tree,
+    Kernel,
+    Rows,
+}
+
+impl Bench {
+    const ALL: [Bench; 5] = [
+        Bench::Arithmetic,
+        Bench::Text,
+        Bench::Tree,
+        Bench::Kernel,
+        Bench::Rows,
+    ];
+
+    fn name(self) -> &'static str {
+        match self {
+            Bench::Arithmetic => "arithmetic",
+            Bench::Text => "text",
+            Bench::Tree => "tree",
+            Bench::Kernel => "kernel",
+            Bench::Rows => "rows",
+        }
+    }
+
+    fn run(self, rt: &HostRuntime, timed: bool) -> io::Result<()> {
+        match self {
+            Bench::Arithmetic => arithmetic::run(rt, timed),
+            Bench::Text => text::run(rt, timed),
+            Bench::Tree => tree::run(rt, timed),
+            Bench::Kernel => kernel::run(rt, timed),
+            Bench::Rows => rows::run(rt, timed),
+        }
+    }
+}
+
+/// Whether the command line has this word.
+fn has_word(rt: &HostRuntime, wanted: &str) -> io::Result<bool> {
+    let mut found = false;
+    for word in env::args(rt)? {
+        found = found || word.as_str() == wanted;
+    }
+    Ok(found)
+}
+
+fn main(rt: HostRuntime) -> io::Result<()> {
+    let timed = has_word(&rt, "time")?;
+    let mut all = true;
+    for bench in Bench::ALL {
+        if has_word(&rt, bench.name())? {
+            all = false;
+        }
+    }
+    for bench in Bench::ALL {
+        if all || has_word(&rt, bench.name())? {
+            bench.run(&rt, timed)?;
+        }
+    }
+    Ok(())
+}
+
+fn no_memory() -> io::Error {
+    io::Error::from(io::ErrorKind::OutOfMemory)
+}

@@ -1,0 +1,17 @@
+//! Tests of the rows over a tree, of boards and of whole fields.
+#![tactic(auto)]
+
+#[cfg(test)]
+mod boards;
+#[cfg(test)]
+mod compare;
+#[cfg(test)]
+mod downward;
+#[cfg(test)]
+mod fields;
+#[cfg(test)]
+mod upward;
+#[cfg(test)]
+mod values;
+#[cfg(test)]
+mod weights;

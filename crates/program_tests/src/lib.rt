@@ -1,0 +1,13 @@
+//! Tests of the report's lines, and of the program through its top call.
+#![tactic(auto)]
+
+#[cfg(test)]
+mod lines;
+#[cfg(test)]
+mod ports;
+#[cfg(test)]
+mod runs;
+#[cfg(test)]
+mod samples;
+#[cfg(test)]
+mod trees;

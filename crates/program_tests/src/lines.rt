@@ -1,0 +1,55 @@
+//! Decimals and lines of known fields.
+ghost use Rattle.std.specs.Prelude.{pos, ◌^◌, ◌≤ℤ◌};
+ghost use Rattle.exact_math.specs.Within.{Within};
+ghost use Rattle.complex_box.specs.Box.{BoxWithin};
+
+use complex_box::CBox;
+use field_report::{Decimal, write_target};
+use fixed_interval::Interval;
+use io_ports::{MemSink, WriteFault};
+use points::Mode;
+use std::test::Fail;
+
+#[test]
+fn writes_decimals(rt: HostRuntime) {
+    let cases: [(i128, &str); 7] = [
+        (0, "0.000000000000"),
+        (1, "0.000000000001"),
+        (-500_000_000_000, "-0.500000000000"),
+        (7_000_000_000_000, "7.000000000000"),
+        (-105_916_767_676_770, "-105.916767676770"),
+        (1 << 84, "19342813113834.066795298816"),
+        (-(1 << 84), "-19342813113834.066795298816"),
+    ];
+    for (count, want) in cases {
+        let count = count.clamp(-(1 << 84), 1 << 84);
+        assert_eq!(rt; Decimal::of(count).bytes(), want.as_bytes());
+    }
+}
+
+#[test]
+fn writes_lines(rt: HostRuntime) -> Result<(), Fail> {
+    let alloc = rt.alloc();
+    let mut sink = MemSink::with_room(alloc, 130, 130, Vec::new(alloc))?;
+    // A charge of 1 at distance (3, 4): 3/25 and -4/25 in units of 2^-40.
+    let charge = CBox {
+        re: Interval::new(131_941_395_333, 131_941_395_334),
+        im: Interval::new(-175_921_860_445, -175_921_860_444),
+    };
+    assert_eq!(rt; write_target(Mode::Field, 3, 4, charge, &mut sink), Ok(()));
+    let line = "target 3 4 re 0.119999999999 0.120000000001 im -0.160000000001 -0.159999999999\n";
+    assert_eq!(rt; sink.held(), line.as_bytes());
+
+    // A vortex of 1 at distance (1, 0): -i. The sink has room for a part of the line.
+    let vortex = CBox::point(0, -(1 << 40));
+    assert_eq!(rt;
+        write_target(Mode::Velocity, -1, 0, vortex, &mut sink),
+        Err(WriteFault)
+    );
+    let part = "target -1 0 u 0.000000000000 0.000000000000 v 1.000";
+    assert_eq!(rt;
+        &sink.held()[line.len().min(sink.held().len())..],
+        part.as_bytes()
+    );
+    Ok(())
+}

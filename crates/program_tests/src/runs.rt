@@ -1,0 +1,249 @@
+//! Worked examples of one leaf through the top call.
+use crate::ports::{Ports, SOLVE, SURE, expect, words_of};
+use fmm_program::{Opening, Status, plan, run};
+use io_ports::{BrokenSink, BrokenSource, DropSink, MemSink, SureSource};
+use std::test::Fail;
+
+const SOLVE_WIDE: [&str; 4] = ["solve", "8", "1024", "-"];
+
+const ONE_PAIR: &[u8] = b"fmm 1 field\ncharge 0 0 1\ntarget 3 4\n";
+
+const ONE_PAIR_REPORT: &[u8] =
+    b"fmm report 1 field order 8 cap 8\ntarget 3 4 re 0.119999999999 0.120000000001 im -0.160000000001 -0.159999999999\nwork translations 0 pairs 1\nend\n";
+
+#[test]
+fn reports(rt: HostRuntime) -> Result<(), Fail> {
+    let table: [(&[u8], &[u8]); 11] = [
+        (ONE_PAIR, ONE_PAIR_REPORT),
+        (
+            b"fmm 1 field\ncharge 0 0 1\ntarget 1 0\n",
+            b"fmm report 1 field order 8 cap 8\ntarget 1 0 re 1.000000000000 1.000000000000 im 0.000000000000 0.000000000000\nwork translations 0 pairs 1\nend\n",
+        ),
+        (
+            b"fmm 1 velocity\nvortex 0 0 1\ntarget 1 0\n",
+            b"fmm report 1 velocity order 8 cap 8\ntarget 1 0 u 0.000000000000 0.000000000000 v 1.000000000000 1.000000000000\nwork translations 0 pairs 1\nend\n",
+        ),
+        (
+            b"fmm 1 field\ncharge 5 5 7\ntarget 5 5\n",
+            b"fmm report 1 field order 8 cap 8\ntarget 5 5 re 0.000000000000 0.000000000000 im 0.000000000000 0.000000000000\nwork translations 0 pairs 0\nend\n",
+        ),
+        (
+            b"fmm 1 field\ncharge -32768 -32768 1\ntarget 32767 32767\n",
+            b"fmm report 1 field order 8 cap 8\ntarget 32767 32767 re 0.000007629510 0.000007629512 im -0.000007629512 -0.000007629510\nwork translations 0 pairs 1\nend\n",
+        ),
+        (
+            b"fmm 1 field\ndipole 0 0 1 0\ntarget 0 2\n",
+            b"fmm report 1 field order 8 cap 8\ntarget 0 2 re -0.250000000000 -0.250000000000 im 0.000000000000 0.000000000000\nwork translations 0 pairs 1\nend\n",
+        ),
+        (
+            b"fmm 1 field\n",
+            b"fmm report 1 field order 8 cap 8\nwork translations 0 pairs 0\nend\n",
+        ),
+        (
+            b"fmm 1 field\ntarget 0 0\n",
+            b"fmm report 1 field order 8 cap 8\ntarget 0 0 re 0.000000000000 0.000000000000 im 0.000000000000 0.000000000000\nwork translations 0 pairs 0\nend\n",
+        ),
+        (
+            b"fmm 1 field\ncharge 0 0 1\n",
+            b"fmm report 1 field order 8 cap 8\nwork translations 0 pairs 0\nend\n",
+        ),
+        (
+            b"fmm 1 field\ncharge 0 0 1\ncharge 0 0 1\ncharge 0 0 1\ncharge 0 0 1\ncharge 0 0 1\ncharge 0 0 1\ncharge 0 0 1\ntarget 1 0\n",
+            b"fmm report 1 field order 8 cap 8\ntarget 1 0 re 7.000000000000 7.000000000000 im 0.000000000000 0.000000000000\nwork translations 0 pairs 7\nend\n",
+        ),
+        (
+            b"fmm 1 field\ncharge 0 0 1048576\ncharge 1 0 -1048576\ntarget 100 0\n",
+            b"fmm report 1 field order 8 cap 8\ntarget 100 0 re -105.916767676770 -105.916767676767 im 0.000000000000 0.000000000000\nwork translations 0 pairs 2\nend\n",
+        ),
+    ];
+    for (text, report) in table {
+        expect(&rt, rt.alloc(), &SOLVE, text, SURE, Status::Done, report)?;
+    }
+    // A step of one byte on all ports.
+    let bytewise = Ports { step: 1, ..SURE };
+    expect(
+        &rt,
+        rt.alloc(),
+        &SOLVE,
+        ONE_PAIR,
+        bytewise,
+        Status::Done,
+        ONE_PAIR_REPORT,
+    )
+}
+
+#[test]
+fn refusals(rt: HostRuntime) -> Result<(), Fail> {
+    let table: [(&[u8], &[u8]); 6] = [
+        (
+            b"fmm 1 field\ncharge 0 0 1048577\n",
+            b"refused line 2 range\n",
+        ),
+        (b"fmm 1 field\ncharge 0 0\n", b"refused line 2 syntax\n"),
+        (b"fmm 1 field\nvortex 0 0 1\n", b"refused line 2 mixed\n"),
+        (b"fmm 1 field\ncharge 00 0 1\n", b"refused line 2 syntax\n"),
+        (b"fmm 1 field\rcharge 0 0 1\n", b"refused line 1 syntax\n"),
+        (b"", b"refused line 1 syntax\n"),
+    ];
+    for (text, line) in table {
+        expect(&rt, rt.alloc(), &SOLVE, text, SURE, Status::Refused, line)?;
+    }
+    // A number of 400 digits is a number.
+    let mut text = Vec::from_slice(rt.alloc(), b"fmm 1 field\ntarget ")?;
+    for _ in 0..400 {
+        text.push(b'7')?;
+    }
+    text.extend_from_slice(b" 0\n")?;
+    let line = b"refused line 2 range\n";
+    expect(&rt, rt.alloc(), &SOLVE, &text, SURE, Status::Refused, line)
+}
+
+#[test]
+fn weights(rt: HostRuntime) -> Result<(), Fail> {
+    let mut text = Vec::from_slice(rt.alloc(), b"fmm 1 field\n")?;
+    for _ in 0..32 {
+        text.extend_from_slice(b"dipole 0 0 1048576 1048576\n")?;
+    }
+    let report = b"fmm report 1 field order 8 cap 1024\nwork translations 0 pairs 0\nend\n";
+    expect(
+        &rt,
+        rt.alloc(),
+        &SOLVE_WIDE,
+        &text,
+        SURE,
+        Status::Done,
+        report,
+    )?;
+    text.extend_from_slice(b"charge 0 0 1\n")?;
+    let line = b"refused line 34 strength\n";
+    expect(
+        &rt,
+        rt.alloc(),
+        &SOLVE_WIDE,
+        &text,
+        SURE,
+        Status::Refused,
+        line,
+    )
+}
+
+#[test]
+fn long(rt: HostRuntime) -> Result<(), Fail> {
+    // One byte more than an input may have.
+    let text = vec![in rt.alloc(); b'a'; 16_777_217]?;
+    let line = b"refused long\n";
+    expect(&rt, rt.alloc(), &SOLVE, &text, SURE, Status::Refused, line)
+}
+
+#[test]
+fn faults(rt: HostRuntime) -> Result<(), Fail> {
+    for failing in [[1], [2]] {
+        let ports = Ports {
+            step: 7,
+            failing_reads: &failing,
+            ..SURE
+        };
+        expect(
+            &rt,
+            rt.alloc(),
+            &SOLVE,
+            ONE_PAIR,
+            ports,
+            Status::ReadFault,
+            b"",
+        )?;
+    }
+    let ports = Ports {
+        failing_writes: &[1],
+        ..SURE
+    };
+    expect(
+        &rt,
+        rt.alloc(),
+        &SOLVE,
+        ONE_PAIR,
+        ports,
+        Status::WriteFault,
+        b"",
+    )?;
+    // The first line takes seven writes of five bytes.
+    let ports = Ports {
+        step: 5,
+        failing_writes: &[8],
+        ..SURE
+    };
+    let head = b"fmm report 1 field order 8 cap 8\n";
+    expect(
+        &rt,
+        rt.alloc(),
+        &SOLVE,
+        ONE_PAIR,
+        ports,
+        Status::WriteFault,
+        head,
+    )
+}
+
+#[test]
+fn broken_ports(rt: HostRuntime) -> Result<(), Fail> {
+    let words = words_of(rt.alloc(), &SOLVE)?;
+    let mut out = MemSink::with_room(rt.alloc(), 64, 64, Vec::new(rt.alloc()))?;
+    let mut nothing = SureSource::new(Vec::new(rt.alloc()));
+    let answer = run(
+        rt.alloc(),
+        &words,
+        &mut BrokenSource::new(),
+        &mut nothing,
+        &mut out,
+        &mut DropSink,
+    );
+    assert_eq!(rt; answer, Status::ReadFault);
+    assert_eq!(rt; out.held(), b"".as_slice());
+    let mut points = SureSource::new(Vec::from_slice(rt.alloc(), ONE_PAIR)?);
+    let answer = run(
+        rt.alloc(),
+        &words,
+        &mut points,
+        &mut nothing,
+        &mut BrokenSink::new(),
+        &mut DropSink,
+    );
+    assert_eq!(rt; answer, Status::WriteFault);
+    Ok(())
+}
+
+#[test]
+fn usage(rt: HostRuntime) -> Result<(), Fail> {
+    let line =
+        b"usage: fmm solve ORDER CAP FILE [WORKERS] | check FILE | session ORDER CAP | sample SEED N ORDER CAP [WORKERS]\n";
+    let table: [&[&str]; 10] = [
+        &["solve", "5", "8", "-"],
+        &["solve", "8", "7", "-"],
+        &["solve", "8", "8", "-", "65"],
+        &["check", "-"],
+        &["solve", "08", "8", "-"],
+        &["solve", "8", "8"],
+        &["sample", "0", "0", "8", "32"],
+        &["sample", "4294967296", "2", "8", "32"],
+        &["sample", "0", "2", "8", "32", "1"],
+        &[],
+    ];
+    for words in table {
+        expect(
+            &rt,
+            rt.alloc(),
+            words,
+            b"fmm 1 field\n",
+            SURE,
+            Status::Usage,
+            line,
+        )?;
+        assert!(rt; matches!(plan(&words_of(rt.alloc(), words)?), Opening::Nothing));
+    }
+    let words = words_of(rt.alloc(), &SOLVE)?;
+    assert_eq!(rt; words.count(), 4);
+    assert!(rt; matches!(plan(&words), Opening::SolveInput));
+    let words = words_of(rt.alloc(), &["solve", "24", "1024", "points.txt"])?;
+    assert!(rt; matches!(plan(&words), Opening::SolveFile { file: "points.txt" }));
+    Ok(())
+}

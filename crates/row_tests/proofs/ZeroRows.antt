@@ -1,0 +1,13 @@
+-- Rows of zeros.
+use Rattle.std.proofs.Common.{◌≡◌, ap, ◌∙◌, subst, sym, ℕ, replicate}
+use Rattle.std.proofs.lemmas.List.{get_or-replicate}
+use Rattle.exact_math.specs.Ends.{BoxEndsWithin, zero_box}
+use Rattle.complex_box.specs.Box.{box_ends}
+use Rattle.complex_box.specs.Rows.{zero_cbox}
+use Rattle.complex_box.specs.declared.CBox.{CBox}
+use Rattle.complex_box.proofs.Sizes.{zero_within}
+use Rattle.row_recursions.specs.Rows.{row_of}
+use Rattle.row_recursions.specs.Sizes.{RowWithin}
+
+pub zeros_within : (n : ℕ) (z : CBox) → box_ends z ≡ zero_box → RowWithin 4 n (row_of (replicate 4 z))
+zeros_within n z e k h = subst (BoxEndsWithin n) (sym (ap box_ends (get_or-replicate 4 k z zero_cbox h) ∙ e)) (zero_within n)

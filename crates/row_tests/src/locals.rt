@@ -1,0 +1,108 @@
+//! Rows that are known from elsewhere: far sources of each kind, and a far cell and its value.
+use crate::compare::{box_is, row_is};
+use crate::known::{FAR_CHARGE, SMALL, far_point, nine_charges};
+use cell_name::Cell;
+use complex_box::{CBox, Gauss, Row, Work};
+use kernel_table::Kernel;
+use local_expansion::{at_local, convert};
+use points::Kind;
+use std::test::Fail;
+
+#[test]
+fn far_sources(rt: HostRuntime) {
+    row_is(&rt, &far_point(Kind::Charge(1)), &FAR_CHARGE);
+    row_is(
+        &rt,
+        &far_point(Kind::Vortex(2)),
+        &[
+            (
+                (-439_804_651_111, -439_804_651_110),
+                (1_319_413_953_331, 1_319_413_953_332),
+            ),
+            (
+                (-527_765_581_333, -527_765_581_332),
+                (703_687_441_776, 703_687_441_778),
+            ),
+            (
+                (-457_396_837_156, -457_396_837_154),
+                (316_659_348_799, 316_659_348_801),
+            ),
+            (
+                (-337_769_972_054, -337_769_972_052),
+                (98_516_241_848, 98_516_241_850),
+            ),
+        ],
+    );
+    row_is(
+        &rt,
+        &far_point(Kind::Dipole(3, -2)),
+        &[
+            (
+                (395_824_185_998, 395_824_186_000),
+                (21_990_232_555, 21_990_232_556),
+            ),
+            (
+                (466_192_930_174, 466_192_930_178),
+                (184_717_953_464, 184_717_953_468),
+            ),
+            (
+                (364_158_251_115, 364_158_251_121),
+                (306_104_037_168, 306_104_037_177),
+            ),
+            (
+                (209_698_857_644, 209_698_857_652),
+                (341_992_096_696, 341_992_096_708),
+            ),
+        ],
+    );
+    row_is(
+        &rt,
+        &far_point(Kind::Target),
+        &[
+            ((0, 0), (0, 0)),
+            ((0, 0), (0, 0)),
+            ((0, 0), (0, 0)),
+            ((0, 0), (0, 0)),
+        ],
+    );
+}
+
+/// The value at (2, 0) of the moments of nine charges two cells of side 1 to the west.
+#[test]
+fn far_cell(rt: HostRuntime) -> Result<(), Fail> {
+    let kernel = Kernel::<4>::new(rt.alloc()).ok().ok_or("no memory")?;
+    let moments = nine_charges(SMALL);
+    row_is(
+        &rt,
+        &moments,
+        &[
+            ((9_895_604_649_984, 9_895_604_649_984), (0, 0)),
+            (
+                (-4_947_802_324_992, -4_947_802_324_992),
+                (-4_947_802_324_992, -4_947_802_324_992),
+            ),
+            ((0, 0), (4_947_802_324_992, 4_947_802_324_992)),
+            (
+                (2_473_901_162_496, 2_473_901_162_496),
+                (-2_473_901_162_496, -2_473_901_162_496),
+            ),
+        ],
+    );
+    let mut row = [CBox::zero(); 4];
+    let mut work = Work::new();
+    let e = Gauss { re: 2, im: 0 };
+    convert::<4>(&kernel, Row::new(&moments), e, &mut row, &mut work);
+    assert_eq!(rt; (work.translations(), work.pairs()), (1, 0));
+    let cell = Cell {
+        level: 16,
+        i: 32770,
+        j: 32768,
+    };
+    box_is(
+        &rt,
+        at_local::<4>(Row::new(&row), cell, 2, 0),
+        (5_102_421_147_648, 5_102_421_147_648),
+        (193_273_528_320, 193_273_528_320),
+    );
+    Ok(())
+}

@@ -1,0 +1,56 @@
+//! Texts and lists of points for tests: lines, each so many times.
+#![tactic(auto)]
+
+ghost use Rattle.std.specs.Prelude.{IfOk};
+ghost use Rattle.points.specs.Limits.{WithinLimits};
+
+use particle_text::{ParseFault, parse};
+use points::Points;
+use std::alloc::{AllocError, Global};
+
+/// A text of a first line and these lines, each as often as its number says.
+pub fn text_of(alloc: Global, head: &str, lines: &[(u32, &str)]) -> Result<Vec<u8>, AllocError> {
+    let mut text = Vec::from_slice(alloc, head.as_bytes())?;
+    for (count, line) in lines {
+        for _ in 0..*count {
+            text.extend_from_slice(line.as_bytes())?;
+        }
+    }
+    Ok(text)
+}
+
+/// The list of a field text with these lines.
+pub fn points_of(alloc: Global, lines: &[(u32, &str)]) -> Result<Points, ParseFault>
+    ensures { IfOk result (λ p. WithinLimits p.mode p.list) }
+{
+    match text_of(alloc, "fmm 1 field\n", lines) {
+        Ok(text) => parse(alloc, &text),
+        Err(_) => Err(ParseFault::Memory),
+    }
+}
+
+/// Appends nine charges at a place, and seven targets near it.
+fn push_group(alloc: Global, text: &mut Vec<u8>, x: i32, y: i32) -> Result<(), AllocError> {
+    let charge = format!(in alloc; "charge {x} {y} 1\n")?;
+    for _ in 0..9u8 {
+        text.extend_from_slice(charge.as_bytes())?;
+    }
+    for east in [512i64, 256, 128, 64, 32, 16, 8] {
+        let target = format!(in alloc; "target {} {y}\n", i64::from(x) + east)?;
+        text.extend_from_slice(target.as_bytes())?;
+    }
+    Ok(())
+}
+
+/// The text of 64 times 64 such groups: as many points as a list may have, in more cells than a tree may have.
+pub fn full_text(alloc: Global) -> Result<Vec<u8>, AllocError> {
+    let mut text = Vec::from_slice(alloc, b"fmm 1 field\n")?;
+    for i in 0..64u8 {
+        for j in 0..64u8 {
+            let x = 1024 * i32::from(i) - 32_768;
+            let y = 1024 * i32::from(j) - 32_768;
+            push_group(alloc, &mut text, x, y)?;
+        }
+    }
+    Ok(text)
+}

@@ -1,0 +1,61 @@
+//! Cells of some places.
+use cell_name::{Cell, Quadrant};
+
+const WEST: i64 = -32768;
+
+#[test]
+fn cells_of_places(rt: HostRuntime) {
+    let root = Cell::of(WEST, 32767, 0);
+    assert_eq!(rt;
+        root,
+        Cell {
+            level: 0,
+            i: 0,
+            j: 0
+        }
+    );
+    assert_eq!(rt; root.side(), 65536);
+    assert_eq!(rt; root.corner(), (WEST, WEST));
+    assert_eq!(rt; root.doubled_centre(), (0, 0));
+    let middle = Cell::of(0, 0, 16);
+    assert_eq!(rt; (middle.level, middle.i, middle.j), (16, 32768, 32768));
+    assert_eq!(rt; middle.side(), 1);
+    assert_eq!(rt; middle.corner(), (0, 0));
+    assert_eq!(rt; middle.doubled_centre(), (1, 1));
+    assert_eq!(rt; middle.offset(8, 0), (15, -1));
+    assert!(rt; middle.holds(0, 0));
+    assert!(rt; !middle.holds(1, 0));
+    assert!(rt; !middle.holds(0, -1));
+    let corner = Cell::of(32767, WEST, 16);
+    assert_eq!(rt; (corner.i, corner.j), (65535, 0));
+}
+
+#[test]
+fn families_and_neighbours(rt: HostRuntime) {
+    let cell = Cell::of(8, 0, 14);
+    assert_eq!(rt; (cell.i, cell.j), (8194, 8192));
+    let up = cell.parent();
+    assert_eq!(rt; (up.level, up.i, up.j), (13, 4097, 4096));
+    let quadrant = cell.quadrant();
+    assert_eq!(rt;
+        quadrant,
+        Quadrant {
+            right: false,
+            top: false
+        }
+    );
+    assert_eq!(rt; up.child(quadrant), cell);
+    assert_eq!(rt;
+        cell.ancestor(1),
+        Cell {
+            level: 1,
+            i: 1,
+            j: 1
+        }
+    );
+    let southwest = Cell::of(-1, -1, 16);
+    assert!(rt; southwest.touches(Cell::of(0, 0, 16)));
+    assert!(rt; southwest.touches(Cell::of(0, 0, 0)));
+    assert!(rt; !southwest.touches(Cell::of(1, 0, 16)));
+    assert!(rt; southwest < cell.ancestor(16 - 2).child(quadrant).child(quadrant));
+}

@@ -1,0 +1,9 @@
+//! Tests of cells, trees and their lists.
+#![tactic(auto)]
+
+#[cfg(test)]
+mod cells;
+#[cfg(test)]
+mod entries;
+#[cfg(test)]
+mod trees;
