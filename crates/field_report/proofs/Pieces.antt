@@ -24,6 +24,6 @@ Writes-then (Ok x) before mid after xs ys p q = Appends-trans before mid after x
 Writes-then (Err e) before mid after xs ys p q = AppendsPrefix-then before mid after xs ys p q
 
 -- a call that failed after a piece
-pub Writes-failed : {T E : Type 0} {Q : E → Type 0} (result : Result T E) (before after : Option (List ℕ)) (xs : List ℕ) → IsErrAnd result Q → AppendsPrefix before after xs → Writes result before after xs
-Writes-failed (Ok x) before after xs h p = absurd h
-Writes-failed (Err e) before after xs h p = p
+pub Writes-failed : {T E : Type 0} (Q : E → Type 0) (result : Result T E) (before after : Option (List ℕ)) (xs : List ℕ) → IsErrAnd result Q → AppendsPrefix before after xs → Writes result before after xs
+Writes-failed Q (Ok x) before after xs h p = absurd h
+Writes-failed Q (Err e) before after xs h p = p

@@ -1,5 +1,5 @@
 -- Reports, computed from the definitions and compared with texts that were worked out elsewhere.
-use Rattle.std.proofs.Common.{◌≡◌, refl, pos, negsuc, ℤ, ℕ, List, [], ◌∷◌, ◌++◌, codes}
+use Rattle.std.proofs.Common.{◌≡◌, refl, pos, negsuc, ℤ, List, [], ◌∷◌, ◌++◌, codes}
 use Rattle.std.specs.Fmt.{digits}
 use Rattle.cell_name.specs.Square.{Square, root}
 use Rattle.letters.specs.declared.Letter.{Letter}

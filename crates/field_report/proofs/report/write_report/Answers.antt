@@ -8,13 +8,13 @@ use Rattle.field_report.proofs.report.write_report.Goals as goal
 pub returns-in_err-write_head-clause-bytes : goal.returns-in_err-write_head-clause-bytes
 returns-in_err-write_head-clause-bytes g c lists are =
     let over = c.requires.field.over lists are in
-    Writes-failed c.from_residual.result _ _ _ c.from_residual.ensures.1 (head-exit c.args.points.now.mode c.args.points.now.list g.row.P c.args.cap lists _ _ over.translations_are over.pairs_are _ _ c.in_err-write_head.ensures.bytes)
+    Writes-failed _ c.from_residual.result _ _ _ c.from_residual.ensures.1 (head-exit c.args.points.now.mode c.args.points.now.list g.row.P c.args.cap lists _ _ over.translations_are over.pairs_are _ _ c.in_err-write_head.ensures.bytes)
 
 pub returns-in_err-write_targets-clause-bytes : goal.returns-in_err-write_targets-clause-bytes
 returns-in_err-write_targets-clause-bytes g c lists are =
     let over = c.requires.field.over lists are in
     let lines = of-same c.args.points.now.mode _ _ _ _ g.row.P lists (AppendsPrefix _ _) c.points.ensures c.requires.field.cap_is (c.in_err-write_targets.ensures.bytes lists) are in
-    Writes-failed c.from_residual-in_err-write_targets.result _ _ _ c.from_residual-in_err-write_targets.ensures.1
+    Writes-failed _ c.from_residual-in_err-write_targets.result _ _ _ c.from_residual-in_err-write_targets.ensures.1
     (targets-exit c.args.points.now.mode c.args.points.now.list g.row.P c.args.cap lists _ _ over.translations_are over.pairs_are _ _ _ c.in_ok-write_head.ensures.bytes lines)
 
 pub returns-clause-bytes : goal.returns-clause-bytes

@@ -16,7 +16,7 @@ value-requires g c =
 
 pub returns-in_err-write_target-clause-bytes : goal.returns-in_err-write_target-clause-bytes
 returns-in_err-write_target-clause-bytes g c lists are =
-    Writes-failed c.from_residual.result _ _ _ c.from_residual.ensures.1
+    Writes-failed _ c.from_residual.result _ _ _ c.from_residual.ensures.1
     (written-exit c.args.mode c.args.points.now c.args.field.now.cap g.row.P lists c.args.field.now.values.items c.loop-p.p-index c.loop-p.k _ c.value.result (omega arith)
     (ap not (sym c.is_source.ensures ∙ c.if-not-is_source.true)) c.loop-p.invariant.count (c.requires.field.over lists are).values_are (c.requires.range _ _ (omega arith)) c.value.ensures.value
     _ _ _ (c.loop-p.invariant.held lists are) c.in_err-write_target.ensures.bytes)
