@@ -88,6 +88,7 @@ impl<const P: usize> Basis<P> {
         requires range { All InRange points.now }
         requires few { length points.now ≤ most_points }
         requires light { total_weight points.now ≤ most_weight }
+        requires capacity { IsCapacity cap }
         requires tree { IsTreeOf 16 tree points.now cap }
         ensures { IfOk result (λ basis. IsBasis P points.now cap basis) }
     {
@@ -178,6 +179,7 @@ impl<const P: usize> Board<P> {
         requires range { All InRange points.now }
         requires few { length points.now ≤ most_points }
         requires light { total_weight points.now ≤ most_weight }
+        requires capacity { IsCapacity cap }
         requires tree { IsTreeOf 16 tree points.now cap }
         ensures board { IfOk result (λ board. IsBoard P board) }
         ensures points { IfOk result (λ board. board.points ≡ points.now) }

@@ -26,6 +26,7 @@ fn field_over<const P: usize>(
     requires range { All InRange points.now }
     requires few { length points.now ≤ most_points }
     requires light { total_weight points.now ≤ most_weight }
+    requires capacity { IsCapacity cap }
     requires tree { IsTreeOf 16 tree points.now cap }
     ensures field { IfOk result (λ field. IsSolved points.now cap P (kept field)) }
     ensures contains { IfOk result (λ field. BoxesContain points.now (kept field).values) }
