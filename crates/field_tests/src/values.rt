@@ -3,11 +3,12 @@ ghost use Rattle.std.specs.Prelude.{◌≡◌, ◌^◌, ◌<◌, length, All};
 ghost use Rattle.complex_box.specs.Box.{BoxWithin};
 ghost use Rattle.points.specs.Limits.{WithinLimits};
 ghost use Rattle.tree_rows.specs.FlatRows.{IsWeight};
+ghost use Rattle.tree_rows.specs.Trees.{IsTreeWithLists};
 
 use crate::compare::{FAR_TARGET, NINE_CHARGES};
-use cell_lists::lists;
+use cell_lists::{EntryLists, lists};
 use complex_box::{CBox, Work};
-use points::Points;
+use points::{Point, Points};
 use quadtree::Tree;
 use std::alloc::Global;
 use std::process::Abort;
@@ -86,29 +87,28 @@ fn far_cell(rt: HostRuntime) -> Result<(), Fail> {
 }
 
 /// The value of each target at order 4, where the tree is one cell, and how many pairs they took.
-fn values_are(
+fn values_of_one_cell(
     rt: &impl Abort,
     alloc: Global,
-    points: &Points,
+    tree: &Tree,
+    found: &EntryLists,
+    list: &[Point],
     known: Ends,
     pairs: u64,
 ) -> Result<(), Fail>
-    requires list { WithinLimits points.now.mode points.now.list }
+    requires { IsTreeWithLists list.now tree.now found.now }
 {
-    let tree = Tree::build(alloc, points, 8)?;
-    let found = lists(alloc, &tree)?;
-    let list = points.list.points();
     assert!(rt; tree.cells().len() == 1);
     let zero = CBox::zero();
     let rows = [zero; 4];
     let mut weights = [0i128; 1];
-    weigh_cells(&tree, list, 4, &mut weights);
+    weigh_cells(tree, list, 4, &mut weights);
     let positions = target_positions(alloc, list)?;
     let mut values = vec![in alloc; zero; positions.len()]?;
     let mut work = Work::new();
     value_pass::<4>(
-        &tree,
-        &found,
+        tree,
+        found,
         list,
         &positions,
         &rows,
@@ -123,6 +123,21 @@ fn values_are(
     }
     assert_eq!(rt; (work.translations(), work.pairs()), (0, pairs));
     Ok(())
+}
+
+/// The same of a list of points.
+fn values_are(
+    rt: &impl Abort,
+    alloc: Global,
+    points: &Points,
+    known: Ends,
+    pairs: u64,
+) -> Result<(), Fail>
+    requires list { WithinLimits points.now.mode points.now.list }
+{
+    let tree = Tree::build(alloc, points, 8)?;
+    let found = lists(alloc, &tree)?;
+    values_of_one_cell(rt, alloc, &tree, &found, points.list.points(), known, pairs)
 }
 
 #[test]
