@@ -1,0 +1,12 @@
+-- How a place of a target is kept.
+use Rattle.std.specs.Prelude.{◌^◌, pos, unsigned_abs, ◌≤ℤ◌, ◌<ℤ◌}
+use Rattle.places.specs.declared.target.TargetPlace.TheInside.{Inside}
+use Rattle.places.specs.Target.{TargetModel}
+
+abbrev pub seen : Inside → TargetModel
+seen p = record { value = p.value; pairs = unsigned_abs p.further.re.lo }
+
+-- the further box has the pairs
+pub record IsTargetPlace (p : Inside) : Type 0 where
+  pub pairs_least : pos 0 ≤ℤ p.further.re.lo
+  pub pairs_most : p.further.re.lo <ℤ pos (2 ^ 64)

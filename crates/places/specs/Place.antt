@@ -1,0 +1,21 @@
+-- The place of a cell, as callers see it.
+use Rattle.std.specs.Prelude.{ℕ, ◌^◌, List, [], slice_index_or}
+use Rattle.complex_box.specs.declared.CBox.{CBox}
+
+-- a row, its radius, and the translations that were made for it
+pub record PlaceModel : Type 0 where
+  pub row : List CBox
+  pub radius : ℕ
+  pub translations : ℕ
+
+-- what a place keeps of a radius
+abbrev pub most_radius : ℕ
+most_radius = 2 ^ 90
+
+-- what stands past the last place
+abbrev pub no_place : PlaceModel
+no_place = record { row = []; radius = 0; translations = 0 }
+
+-- the place of a number
+abbrev pub place_at : List PlaceModel → ℕ → PlaceModel
+place_at places n = slice_index_or places n no_place

@@ -1,0 +1,8 @@
+//! The places of a field, where what is made for one cell or one target stands. Ends of boxes and radii count units of 2^-40.
+#![tactic(auto)]
+
+mod place;
+mod target;
+
+pub use place::Place;
+pub use target::TargetPlace;
