@@ -1,5 +1,4 @@
--- What the contracts cite: what entries add to local rows and what they can lose, the row of one cell, and how many translations it takes.
+-- What the contracts cite: what the entries of a cell add to its local row and what they can lose, and how many translations all rows take.
 pub mod Entries
 pub mod Radii
-pub mod Rows
 pub mod Translations

@@ -1,9 +1,9 @@
--- How many translations fill the local row of a cell.
-use Rattle.std.specs.Prelude.{ℕ, ◌+◌, ◌&&◌, cond, nat_lt, length}
-use Rattle.cell_lists.specs.ListAt.{list_at}
-use Rattle.cell_lists.specs.EntryLists.{EntryListsModel}
-use Rattle.quadtree.specs.TreeModel.{TreeModel, node_of}
+-- How many translations all local rows take.
+use Rattle.std.specs.Prelude.{ℕ, ◌+◌, ◌&&◌, nat_lt, length, sum_by, count_by}
+use Rattle.std.specs.List.{range_with_len}
+use Rattle.field_basis.specs.Basis.{BasisModel}
+use Rattle.quadtree.specs.TreeModel.{size, node_of}
 
--- below the root, where the cell has a target, one from its parent and one for each cell of its V list
-abbrev pub translations_at : TreeModel → EntryListsModel → ℕ → ℕ
-translations_at tree lists n = cond (nat_lt 0 n && (node_of tree n).has_target) (1 + length (list_at lists.v n)) 0
+-- one for each V entry, and one for each cell below the root that has a target
+abbrev pub all_translations_into : BasisModel → ℕ
+all_translations_into b = sum_by (λ list. length list) b.lists.v + count_by (λ n. nat_lt 0 n && (node_of b.tree n).has_target) (range_with_len 0 (size b.tree))

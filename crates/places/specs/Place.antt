@@ -1,5 +1,5 @@
 -- The place of a cell, as callers see it.
-use Rattle.std.specs.Prelude.{ℕ, ◌^◌, List, [], slice_index_or}
+use Rattle.std.specs.Prelude.{ℕ, ◌^◌, ◌≡◌, ◌≢◌, List, [], length, sum_by, slice_index_or}
 use Rattle.complex_box.specs.declared.CBox.{CBox}
 
 -- a row, its radius, and the translations that were made for it
@@ -19,3 +19,17 @@ no_place = record { row = []; radius = 0; translations = 0 }
 -- the place of a number
 abbrev pub place_at : List PlaceModel → ℕ → PlaceModel
 place_at places n = slice_index_or places n no_place
+
+-- the row alone has changed
+pub record IsSameButRow (old new : PlaceModel) : Type 0 where
+  pub radius : new.radius ≡ old.radius
+  pub translations : new.translations ≡ old.translations
+
+-- no place but that of a number has changed
+pub record OthersStay (n : ℕ) (old new : List PlaceModel) : Type 0 where
+  pub as_many : length new ≡ length old
+  pub others : (m : ℕ) → m ≢ n → place_at new m ≡ place_at old m
+
+-- the translations of all places
+abbrev pub all_translations : List PlaceModel → ℕ
+all_translations places = sum_by (λ p. p.translations) places

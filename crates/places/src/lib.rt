@@ -3,6 +3,8 @@
 
 mod place;
 mod target;
+mod totals;
 
 pub use place::Place;
 pub use target::TargetPlace;
+pub use totals::{all_pairs, all_translations};

@@ -6,15 +6,9 @@ use Rattle.row_board.specs.Parts.{BoardParts}
 
 abbrev pub parts : {P : ℕ} → Inside P → BoardParts
 parts b = record {
-  cap = b.cap;
-  points = b.points.items;
-  tree = b.tree;
-  lists = b.lists;
-  weights = b.weights.items;
-  targets = b.targets.items;
+  basis = b.basis;
   up = b.up.items;
   local = b.local.items;
-  radii = b.radii.items;
   values = b.values.items;
   has_up = b.has_up.items;
   has_local = b.has_local.items;

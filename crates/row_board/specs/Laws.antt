@@ -1,8 +1,6 @@
 -- What a full board holds, in whatever order it was filled.
-use Rattle.std.specs.Prelude.{ℕ, ◌≡◌, true, map}
-use Rattle.complex_box.specs.Box.{box_ends}
-use Rattle.tree_field.specs.Field.{target_boxes}
-use Rattle.tree_field.specs.Lists.{TreeLists, AreTreeLists}
+use Rattle.std.specs.Prelude.{ℕ, ◌≡◌, true}
+use Rattle.field_basis.specs.FieldPlaces.{AreTargetBoxes}
 use Rattle.row_board.specs.Board.{IsBoard}
 use Rattle.row_board.specs.Names.{IsName, is_filled}
 use Rattle.row_board.specs.Parts.{BoardParts}
@@ -14,4 +12,4 @@ IsFull b = (name : Name) → IsName b name → is_filled b name ≡ true
 
 -- the boxes are those of the field, in the order of the list
 abbrev pub FullBoard : Type 0
-FullBoard = (P : ℕ) (b : BoardParts) (lists : TreeLists) → IsBoard P b → IsFull b → AreTreeLists 16 b.points b.cap lists → map box_ends b.values ≡ target_boxes b.points b.cap P lists 16
+FullBoard = (P : ℕ) (b : BoardParts) → IsBoard P b → IsFull b → AreTargetBoxes P b.basis b.values

@@ -2,7 +2,6 @@
 pub mod Board
 pub mod Inside
 pub mod Laws
-pub mod Making
 pub mod Names
 pub mod Parts
 pub mod Search

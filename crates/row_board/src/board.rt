@@ -1,34 +1,26 @@
 //! The board.
-ghost use Rattle.std.specs.Prelude.{◌≡◌, ◌^◌, ◌<◌, true, false, IsTrue, ◌↔◌, length, MatchOption, IfSome};
+ghost use Rattle.std.specs.Prelude.{◌≡◌, ◌^◌, ◌<◌, true, false, IsTrue, ◌↔◌, MatchOption, IfSome};
 ghost use Rattle.exact_math.specs.Units.{unit};
 ghost use Rattle.complex_box.specs.Box.{BoxWithin, BoxContains};
 ghost use Rattle.complex_box.specs.Rows.{at};
+ghost use Rattle.field_basis.specs.Basis.{target_place};
 ghost use Rattle.near_field.specs.DirectSum.{direct_sum};
-ghost use Rattle.row_board.specs.Board.{IsBoard, IsOfField, target_place};
+ghost use Rattle.row_board.specs.Board.{IsBoard, IsOfField};
 ghost use Rattle.row_board.specs.Names.{IsName, is_filled};
 
 use crate::name::Name;
-use cell_lists::EntryLists;
 use complex_box::CBox;
-use kernel_table::Kernel;
-use points::Point;
-use quadtree::Tree;
+use field_basis::Basis;
+use places::Place;
 use std::marker::Model;
 
 /// A board with a place for the multipole row of each cell with a source, the local row and the radius of each cell with a target, and the box of
 /// each target. Ends of boxes and radii count units of 2^-40.
 #[derive(Drop)]
 pub struct Board<const P: usize> {
-    pub(crate) cap: u32,
-    pub(crate) points: Vec<Point>,
-    pub(crate) tree: Tree,
-    pub(crate) lists: EntryLists,
-    pub(crate) kernel: Kernel<P>,
-    pub(crate) weights: Vec<i128>,
-    pub(crate) targets: Vec<u32>,
-    pub(crate) up: Vec<CBox>,
-    pub(crate) local: Vec<CBox>,
-    pub(crate) radii: Vec<i128>,
+    pub(crate) basis: Basis<P>,
+    pub(crate) up: Vec<Place<P>>,
+    pub(crate) local: Vec<Place<P>>,
     pub(crate) values: Vec<CBox>,
     pub(crate) has_up: Vec<bool>,
     pub(crate) has_local: Vec<bool>,
@@ -52,10 +44,11 @@ impl<const P: usize> Board<P> {
     pub fn has(&self, name: Name) -> bool
         ensures { IsTrue result ↔ IsName self.now name }
     {
+        let tree = &self.basis.tree;
         match name {
-            Name::Up(n) => n < self.tree.cells().len() && self.tree.has_source(n),
-            Name::Local(n) => n < self.tree.cells().len() && self.tree.has_target(n),
-            Name::Value(k) => k < self.targets.len(),
+            Name::Up(n) => n < tree.cells().len() && tree.has_source(n),
+            Name::Local(n) => n < tree.cells().len() && tree.has_target(n),
+            Name::Value(k) => k < self.basis.targets.len(),
         }
     }
 
@@ -78,7 +71,7 @@ impl<const P: usize> Board<P> {
         ensures value { MatchOption result (is_filled self.now (Name.Value k) ≡ false) (λ value. (is_filled self.now (Name.Value k) ≡ true) × (value ≡ at self.now.values k)) }
         ensures field { IfSome result (λ value. IsOfField P self.now (Name.Value k)) }
         ensures size { IfSome result (λ value. BoxWithin (2 ^ 84) value) }
-        ensures contains { IfSome result (λ value. BoxContains unit value (direct_sum (target_place self.now k) self.now.points)) }
+        ensures contains { IfSome result (λ value. BoxContains unit value (direct_sum (target_place self.now.basis k) self.now.basis.points)) }
     {
         if self.has_value[k] {
             Some(self.values[k])

@@ -1,21 +1,21 @@
 //! Filling a board.
 ghost use Rattle.std.specs.Prelude.{◌≡◌, ◌+◌, ◌^◌, ◌<◌, ◌≤◌, true, false, length, ◌∷◌, map, All, MatchOption, MatchResult, IfErr, IsOk, OnOk};
+ghost use Rattle.field_basis.specs.Counts.{paired, pairs_of_target, shifts_into, translated, translations_into};
 ghost use Rattle.quadtree.specs.TreeModel.{size};
-ghost use Rattle.row_board.specs.Board.{IsBoard, IsOfField, OthersStay};
+ghost use Rattle.row_board.specs.Board.{IsBoard, IsOfField, OthersStay, worked};
 ghost use Rattle.row_board.specs.Names.{IsName, is_filled, needs, AreFilled, IsFirstMissing};
 
 use crate::board::Board;
 use crate::name::{Name, NotReady};
 use crate::search::{first_unmarked, first_unmarked_quarter};
 use complex_box::Work;
-use downward_rows::local_radius;
 use target_values::target_value;
 
 impl<const P: usize> Board<P> {
     /// The first of a local row and some multipole rows that is missing.
     fn first_missing(&self, cell: usize, far: &[u32]) -> Option<Name>
-        requires cell { cell < size self.now.tree }
-        requires far { All (λ n. n < size self.now.tree) far.now }
+        requires cell { cell < size self.now.basis.tree }
+        requires far { All (λ n. n < size self.now.basis.tree) far.now }
         ensures { MatchOption result (AreFilled self.now (Name.Local cell ∷ map Name.Up far.now)) (IsFirstMissing self.now (Name.Local cell ∷ map Name.Up far.now)) }
     {
         if !self.has_local[cell] {
@@ -29,10 +29,10 @@ impl<const P: usize> Board<P> {
 
     /// The first multipole row of a quarter of cell `n` that is missing.
     fn missing_quarter(&self, n: usize) -> Option<Name>
-        requires { n < size self.now.tree }
+        requires { n < size self.now.basis.tree }
         ensures { MatchOption result (AreFilled self.now (needs self.now (Name.Up n))) (IsFirstMissing self.now (needs self.now (Name.Up n))) }
     {
-        match first_unmarked_quarter(&self.tree, &self.has_up, n) {
+        match first_unmarked_quarter(&self.basis.tree, &self.has_up, n) {
             Some(m) => Some(Name::Up(m)),
             None => None,
         }
@@ -40,22 +40,22 @@ impl<const P: usize> Board<P> {
 
     /// The first row that the local row of cell `n` needs and that is missing.
     fn missing_for_local(&self, n: usize) -> Option<Name>
-        requires { n < size self.now.tree }
+        requires { n < size self.now.basis.tree }
         ensures { MatchOption result (AreFilled self.now (needs self.now (Name.Local n))) (IsFirstMissing self.now (needs self.now (Name.Local n))) }
     {
         if n == 0 {
             return None;
         }
-        self.first_missing(self.tree.parent(n), self.lists.v_list(n))
+        self.first_missing(self.basis.tree.parent(n), self.basis.lists.v_list(n))
     }
 
     /// The first row that the box of the k-th target needs and that is missing.
     fn missing_for_value(&self, k: usize) -> Option<Name>
-        requires { k < length self.now.targets }
+        requires { k < length self.now.basis.targets }
         ensures { MatchOption result (AreFilled self.now (needs self.now (Name.Value k))) (IsFirstMissing self.now (needs self.now (Name.Value k))) }
     {
-        let leaf = self.tree.leaf_of(self.targets[k] as usize);
-        self.first_missing(leaf, self.lists.w_list(leaf))
+        let leaf = self.basis.tree.leaf_of(self.basis.targets[k] as usize);
+        self.first_missing(leaf, self.basis.lists.w_list(leaf))
     }
 
     /// The first row that is needed and missing.
@@ -79,11 +79,15 @@ impl<const P: usize> Board<P> {
         ensures row { IsOfField P self.new (Name.Up n) }
         ensures board { IsBoard P self.new }
         ensures others { OthersStay P (Name.Up n) self.old self.new }
-        ensures least { work.old.translations ≤ work.new.translations }
-        ensures translations { work.new.translations ≤ work.old.translations + 28 }
-        ensures pairs { work.new.pairs ≡ work.old.pairs }
+        ensures work { work.new ≡ translated (shifts_into self.old.basis.points self.old.basis.tree n) work.old }
     {
-        upward_rows::fill_row::<P>(&self.tree, &self.points, n, &mut self.up, work);
+        upward_rows::fill_place(
+            &self.basis.tree,
+            &self.basis.points,
+            n,
+            &mut self.up,
+            work,
+        );
         self.has_up[n] = true;
     }
 
@@ -96,22 +100,9 @@ impl<const P: usize> Board<P> {
         ensures row { IsOfField P self.new (Name.Local n) }
         ensures board { IsBoard P self.new }
         ensures others { OthersStay P (Name.Local n) self.old self.new }
-        ensures least { work.old.translations ≤ work.new.translations }
-        ensures translations { work.new.translations ≤ work.old.translations + 28 }
-        ensures pairs { work.new.pairs ≡ work.old.pairs }
+        ensures work { work.new ≡ translated (translations_into self.old.basis n) work.old }
     {
-        let parent = self.radii[self.tree.parent(n)];
-        self.radii[n] = local_radius(&self.tree, &self.lists, &self.weights, n, parent, P as u32);
-        downward_rows::fill_row::<P>(
-            &self.tree,
-            &self.lists,
-            &self.points,
-            &self.kernel,
-            &self.up,
-            n,
-            &mut self.local,
-            work,
-        );
+        downward_rows::fill_place(&self.basis, &self.up, n, &mut self.local, work);
         self.has_local[n] = true;
     }
 
@@ -124,23 +115,9 @@ impl<const P: usize> Board<P> {
         ensures row { IsOfField P self.new (Name.Value k) }
         ensures board { IsBoard P self.new }
         ensures others { OthersStay P (Name.Value k) self.old self.new }
-        ensures translations { work.new.translations ≡ work.old.translations }
-        ensures least { work.old.pairs ≤ work.new.pairs }
-        ensures pairs { work.new.pairs ≤ work.old.pairs + length self.old.points }
+        ensures work { work.new ≡ paired (pairs_of_target self.old.basis k) work.old }
     {
-        let target = self.targets[k] as usize;
-        let radius = self.radii[self.tree.leaf_of(target)];
-        self.values[k] = target_value::<P>(
-            &self.tree,
-            &self.lists,
-            &self.points,
-            &self.up,
-            &self.local,
-            &self.weights,
-            radius,
-            target,
-            work,
-        );
+        self.values[k] = target_value(&self.basis, &self.up, &self.local, k, work);
         self.has_value[k] = true;
     }
 
@@ -150,8 +127,8 @@ impl<const P: usize> Board<P> {
     /// list, and the root's nothing; the box of a target the local row of its leaf, and then the multipole rows of the leaf's W list. Rows of
     /// cells are needed in the order of the cells. Where one is missing, `NotReady` has the first, and board and work are as before.
     ///
-    /// The translations are raised by at most 28, and the pairs by at most one for each point. Conditions: the board has the place, and
-    /// both counts of work are below 2^62.
+    /// The counts of work are raised by what the place takes: the translations by at most 28, the pairs by at most one for each point.
+    /// Conditions: the board has the place, and both counts of work are below 2^62.
     pub fn fill(&mut self, name: Name, work: &mut Work) -> Result<(), NotReady>
         requires name { IsName self.old name }
         requires translations { work.old.translations < 2 ^ 62 }
@@ -163,9 +140,7 @@ impl<const P: usize> Board<P> {
         ensures row { OnOk result (IsOfField P self.new name) }
         ensures others { OthersStay P name self.old self.new }
         ensures board { IsBoard P self.new }
-        ensures more { (work.old.translations ≤ work.new.translations) × (work.old.pairs ≤ work.new.pairs) }
-        ensures few_translations { work.new.translations ≤ work.old.translations + 28 }
-        ensures few_pairs { work.new.pairs ≤ work.old.pairs + length self.old.points }
+        ensures work { OnOk result (is_filled self.old name ≡ false → work.new ≡ worked self.old name work.old) }
     {
         if self.filled(name) {
             return Ok(());

@@ -5,7 +5,6 @@
 #![tactic(auto)]
 
 mod field;
-mod rows;
 mod solving;
 
 pub use field::Field;

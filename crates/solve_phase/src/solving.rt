@@ -1,19 +1,21 @@
 //! The solve.
-ghost use Rattle.std.specs.Prelude.{◌≡◌, ◌≤◌, length, All, IfErr, IfOk, OnOk};
+ghost use Rattle.std.specs.Prelude.{◌≤◌, length, All, IfErr, IfOk, OnOk};
 ghost use Rattle.exact_math.specs.Orders.{IsCapacity, IsOrder};
+ghost use Rattle.field_basis.specs.FieldPlaces.{BoxesContain};
 ghost use Rattle.points.specs.Limits.{InRange, WithinLimits, most_points, most_weight, total_weight};
 ghost use Rattle.quadtree.specs.Faults.{most_cells, HasMoreCells, IsFaultOf, NoneIsCrowded};
 ghost use Rattle.quadtree.specs.TreeModel.{IsTreeOf};
-ghost use Rattle.solve_phase.specs.Field.{BoxesContain, IsSolved, kept};
+ghost use Rattle.solve_phase.specs.Field.{IsSolved};
 
 use crate::field::Field;
-use crate::rows::{boxes, cell_radii, cell_weights, local_rows, multipole_rows};
-use cell_lists::lists;
-use complex_box::Work;
-use kernel_table::Kernel;
+use downward_rows::downward_pass;
+use field_basis::Basis;
+use places::{Place, TargetPlace, all_pairs, all_translations};
 use points::{Point, Points};
 use quadtree::{Tree, TreeFault};
-use std::alloc::Global;
+use std::alloc::{AllocError, Global};
+use target_values::value_pass;
+use upward_rows::upward_pass;
 
 /// The field over a tree of the points.
 fn field_over<const P: usize>(
@@ -21,41 +23,33 @@ fn field_over<const P: usize>(
     points: &[Point],
     cap: u32,
     tree: Tree,
-) -> Result<Field<P>, TreeFault>
+) -> Result<Field<P>, AllocError>
     requires order { IsOrder P }
     requires range { All InRange points.now }
     requires few { length points.now ≤ most_points }
     requires light { total_weight points.now ≤ most_weight }
     requires capacity { IsCapacity cap }
     requires tree { IsTreeOf 16 tree points.now cap }
-    ensures field { IfOk result (λ field. IsSolved points.now cap P (kept field)) }
-    ensures contains { IfOk result (λ field. BoxesContain points.now (kept field).values) }
-    ensures fault { IfErr result (λ fault. fault ≡ TreeFault.Memory) }
+    ensures field { IfOk result (λ field. IsSolved points.now cap P field) }
+    ensures contains { IfOk result (λ field. BoxesContain points.now field.values) }
 {
-    let Ok(lists) = lists(alloc, &tree) else {
-        return Err(TreeFault::Memory);
-    };
-    let Ok(kernel) = Kernel::<P>::new(alloc) else {
-        return Err(TreeFault::Memory);
-    };
-    let mut work = Work::new();
-    let up = multipole_rows::<P>(alloc, &tree, points, &mut work)?;
-    let local = local_rows::<P>(alloc, &tree, &lists, points, &kernel, &up, &mut work)?;
-    let weights = cell_weights(alloc, &tree, points, P as u32)?;
-    let radii = cell_radii(alloc, &tree, &lists, &weights, P as u32)?;
-    let values = boxes::<P>(
-        alloc, &tree, &lists, points, &up, &local, &weights, &radii, &mut work,
-    )?;
+    let basis = Basis::<P>::over(alloc, points, cap, tree)?;
+    let cells = basis.tree.cells().len();
+    let mut up = vec![in alloc; Place::zero(); cells]?;
+    let mut local = vec![in alloc; Place::zero(); cells]?;
+    let mut values = vec![in alloc; TargetPlace::zero(); basis.targets.len()]?;
+    upward_pass::<P>(&basis.tree, &basis.points, &mut up);
+    downward_pass(&basis, &up, &mut local);
+    value_pass(&basis, &up, &local, &mut values);
+    let translations = all_translations::<P>(&up) + all_translations::<P>(&local);
+    let pairs = all_pairs(&values);
     Ok(Field {
-        cap,
-        tree,
-        lists,
+        basis,
         up,
         local,
-        radii,
         values,
-        translations: work.translations(),
-        pairs: work.pairs(),
+        translations,
+        pairs,
     })
 }
 
@@ -76,12 +70,12 @@ pub fn solve<const P: usize>(
     requires list { WithinLimits points.now.mode points.now.list }
     requires order { IsOrder P }
     requires cap { IsCapacity cap }
-    ensures field { IfOk result (λ field. IsSolved points.now.list cap P (kept field)) }
-    ensures contains { IfOk result (λ field. BoxesContain points.now.list (kept field).values) }
+    ensures field { IfOk result (λ field. IsSolved points.now.list cap P field) }
+    ensures contains { IfOk result (λ field. BoxesContain points.now.list field.values) }
     ensures none_crowded { OnOk result (NoneIsCrowded 16 points.now.list) }
     ensures no_more { OnOk result (HasMoreCells 16 points.now.list cap most_cells → ⊥) }
     ensures fault { IfErr result (IsFaultOf 16 points.now.list cap) }
 {
     let tree = Tree::build(alloc, points, cap)?;
-    field_over::<P>(alloc, points.list.points(), cap, tree)
+    Ok(field_over::<P>(alloc, points.list.points(), cap, tree)?)
 }

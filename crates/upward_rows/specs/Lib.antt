@@ -1,2 +1,3 @@
--- What the contracts cite: what a row is made of, which boxes stay, and how many shifts the rows take.
-pub mod Upward
+-- What the contracts cite: the rows behind a cell, and which cells have theirs shifted up.
+pub mod Behind
+pub mod Shifted

@@ -1,37 +1,32 @@
 //! The rows of all cells.
-ghost use Rattle.std.specs.Prelude.{◌≡◌, ◌+◌, ◌*◌, ◌^◌, ◌<◌, length, count_by};
+ghost use Rattle.std.specs.Prelude.{◌≡◌, length, sum_by, count_by};
 ghost use Rattle.exact_math.specs.Orders.{IsOrder};
+ghost use Rattle.field_basis.specs.FieldPlaces.{AreAllMultipolePlaces};
+ghost use Rattle.field_basis.specs.Trees.{IsTreeOfPoints};
+ghost use Rattle.places.specs.Place.{all_translations};
 ghost use Rattle.quadtree.specs.TreeModel.{size, squares};
-ghost use Rattle.tree_rows.specs.FieldRows.{HasMultipoleRows};
-ghost use Rattle.tree_rows.specs.Trees.{IsTreeOfPoints};
-ghost use Rattle.upward_rows.specs.Upward.{is_shifted};
+ghost use Rattle.upward_rows.specs.Shifted.{is_shifted};
 
-use crate::fill::fill_row;
-use complex_box::{CBox, Work};
+use crate::fill::fill_place;
+use complex_box::Work;
+use places::Place;
 use points::Point;
 use quadtree::Tree;
 
-/// Makes the multipole rows of all cells, from the last to the first, whatever stood in the slice. The translations are raised by one for each
-/// cell below the root that has a source.
+/// Makes the multipole rows of all cells, from the last to the first, whatever rows stood in their places, and keeps in each place how many
+/// translations its row took: together one for each cell below the root that has a source.
 ///
-/// Conditions: `P` is one of the orders, the tree is that of the points, which are within the limits, the slice has `P` boxes for each cell,
-/// and the count of translations is below 2^61.
-pub fn upward_pass<const P: usize>(
-    tree: &Tree,
-    points: &[Point],
-    rows: &mut [CBox],
-    work: &mut Work,
-)
+/// Conditions: `P` is one of the orders, the tree is that of the points, which are within the limits, and there is a place for each cell.
+pub fn upward_pass<const P: usize>(tree: &Tree, points: &[Point], places: &mut [Place<P>])
     requires order { IsOrder P }
     requires tree { IsTreeOfPoints points.now tree.now }
-    requires len { length rows.old ≡ size tree.now * P }
-    requires room { work.old.translations < 2 ^ 61 }
-    ensures len { length rows.new ≡ length rows.old }
-    ensures rows { HasMultipoleRows points.now P tree.now rows.new }
-    ensures translations { work.new.translations ≡ work.old.translations + count_by (is_shifted points.now) (squares tree.now) }
-    ensures pairs { work.new.pairs ≡ work.old.pairs }
+    requires len { length places.old ≡ size tree.now }
+    ensures rows { AreAllMultipolePlaces P points.now tree.now places.new }
+    ensures translations { all_translations places.new ≡ count_by (is_shifted points.now) (squares tree.now) }
 {
     for n in (0..tree.cells().len()).rev() {
-        fill_row::<P>(tree, points, n, rows, work);
+        let mut work = Work::new();
+        fill_place::<P>(tree, points, n, places, &mut work);
+        places[n].set_translations(work.translations());
     }
 }

@@ -1,0 +1,18 @@
+-- The weights of the cells of a tree.
+use Rattle.std.specs.Prelude.{ℕ, ◌^◌, ◌<◌, ◌≡◌, ℤ, pos, ◌≤ℤ◌, List, slice_index_or, unsigned_abs}
+use Rattle.points.specs.declared.Point.{Point}
+use Rattle.quadtree.specs.TreeModel.{TreeModel, size, square_of}
+use Rattle.tree_field.specs.Field.{weight_in}
+
+-- what a weight may be: 0 to the greatest total of a list
+pub record IsWeight (w : ℤ) : Type 0 where
+  pub least : pos 0 ≤ℤ w
+  pub most : w ≤ℤ pos (2 ^ 32)
+
+-- the weights of all cells
+pub record AreWeights (points : List Point) (P : ℕ) (tree : TreeModel) (weights : List ℤ) : Type 0 where
+  pub each : (n : ℕ) → n < size tree → slice_index_or weights n (pos 0) ≡ pos (weight_in points P (square_of tree n))
+
+-- the weight of cell n
+abbrev pub stored_weight : List ℤ → ℕ → ℕ
+stored_weight weights n = unsigned_abs (slice_index_or weights n (pos 0))

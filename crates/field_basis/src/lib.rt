@@ -1,0 +1,9 @@
+//! What the rows of a field are made from, and what its places hold: a basis of points, tree, lists, kernel, weights and targets, which all
+//! passes are lent, and the words for the rows of all cells.
+#![tactic(auto)]
+
+mod basis;
+mod targets;
+mod weights;
+
+pub use basis::Basis;
