@@ -4,7 +4,7 @@ ghost use Rattle.field_report.specs.FieldText.{field_text, target_text};
 ghost use Rattle.io_ports.specs.Bytes.{Writes};
 ghost use Rattle.io_ports.specs.Faults.{HasCause};
 ghost use Rattle.points.specs.Limits.{InRange, WithinLimits};
-ghost use Rattle.solve_phase.specs.Field.{IsSolved, kept};
+ghost use Rattle.solve_phase.specs.Field.{IsSolved};
 ghost use Rattle.tree_field.specs.Lists.{TreeLists, AreTreeLists};
 
 use crate::ends::{write_end, write_head};
@@ -21,9 +21,9 @@ fn write_targets<const P: usize, S: Sink>(
     sink: &mut S,
 ) -> Result<(), WriteFault>
     requires range { All InRange points.now }
-    requires field { IsSolved points.now (kept field.now).cap P (kept field.now) }
-    ensures bytes { (lists : TreeLists) → AreTreeLists 16 points.now (kept field.now).cap lists
-        → Writes result (S.held sink.old) (S.held sink.new) (target_text mode points.now (kept field.now).cap P lists points.now) }
+    requires field { IsSolved points.now field.now.basis.cap P field.now }
+    ensures bytes { (lists : TreeLists) → AreTreeLists 16 points.now field.now.basis.cap lists
+        → Writes result (S.held sink.old) (S.held sink.new) (target_text mode points.now field.now.basis.cap P lists points.now) }
     ensures cause { HasCause (S.faults sink.old) (S.faults sink.new) result }
 {
     let mut k = 0;
@@ -50,7 +50,7 @@ pub fn write_report<const P: usize, S: Sink>(
     sink: &mut S,
 ) -> Result<(), WriteFault>
     requires list { WithinLimits points.now.mode points.now.list }
-    requires field { IsSolved points.now.list cap P (kept field.now) }
+    requires field { IsSolved points.now.list cap P field.now }
     ensures bytes { (lists : TreeLists) → AreTreeLists 16 points.now.list cap lists
         → Writes result (S.held sink.old) (S.held sink.new) (field_text points.now.mode points.now.list P cap lists) }
     ensures cause { HasCause (S.faults sink.old) (S.faults sink.new) result }

@@ -4,7 +4,7 @@ ghost use Rattle.std.specs.List.{range_with_len, count_by};
 ghost use Rattle.points.specs.Points.{is_source};
 ghost use Rattle.quadtree.specs.TreeModel.{size, node_of};
 ghost use Rattle.sample_summary.specs.Summary.{summary_of};
-ghost use Rattle.solve_phase.specs.Field.{IsSolved, kept};
+ghost use Rattle.solve_phase.specs.Field.{IsSolved};
 ghost use Rattle.tree_field.specs.Lists.{TreeLists, AreTreeLists};
 
 use crate::widths::Widest;
@@ -55,8 +55,8 @@ fn leaf_count(tree: &Tree) -> u64
 impl Summary {
     /// The numbers of the field of some points.
     pub(crate) fn of<const P: usize>(points: &[Point], field: &Field<P>) -> Summary
-        requires { IsSolved points.now (kept field.now).cap P (kept field.now) }
-        ensures { (lists : TreeLists) → AreTreeLists 16 points.now (kept field.now).cap lists → result ≡ summary_of points.now (kept field.now).cap P lists }
+        requires { IsSolved points.now field.now.basis.cap P field.now }
+        ensures { (lists : TreeLists) → AreTreeLists 16 points.now field.now.basis.cap lists → result ≡ summary_of points.now field.now.basis.cap P lists }
     {
         let tree = field.tree();
         let lists = field.lists();

@@ -4,7 +4,6 @@ ghost use Rattle.complex_box.specs.Box.{BoxWithin, box_ends};
 ghost use Rattle.field_report.specs.Counts.{count_ends};
 ghost use Rattle.fixed_interval.specs.Interval.{IntervalWithin, ends_of};
 ghost use Rattle.sample_summary.specs.Summary.{width, widest_re, widest_im};
-ghost use Rattle.solve_phase.specs.Field.{kept};
 
 use complex_box::CBox;
 use field_report::to_count;
@@ -41,8 +40,8 @@ impl Widest {
 
     /// Those of the boxes of all targets; 0 where there is none.
     pub(crate) fn of<const P: usize>(field: &Field<P>) -> Widest
-        ensures re { result.re ≡ widest_re (map box_ends (kept field.now).values) }
-        ensures im { result.im ≡ widest_im (map box_ends (kept field.now).values) }
+        ensures re { result.re ≡ widest_re (map box_ends field.now.values) }
+        ensures im { result.im ≡ widest_im (map box_ends field.now.values) }
     {
         let mut widest = Widest { re: 0, im: 0 };
         for k in 0..field.targets() {

@@ -4,7 +4,7 @@ ghost use Rattle.io_ports.specs.Bytes.{Writes};
 ghost use Rattle.io_ports.specs.Faults.{HasCause};
 ghost use Rattle.sample_summary.specs.Summary.{summary_of};
 ghost use Rattle.sample_summary.specs.Text.{summary_text};
-ghost use Rattle.solve_phase.specs.Field.{IsSolved, kept};
+ghost use Rattle.solve_phase.specs.Field.{IsSolved};
 ghost use Rattle.tree_field.specs.Lists.{TreeLists, AreTreeLists};
 
 use crate::numbers::Summary;
@@ -26,7 +26,7 @@ pub fn write_summary<const P: usize, S: Sink>(
     field: &Field<P>,
     sink: &mut S,
 ) -> Result<(), WriteFault>
-    requires { IsSolved points.now.list cap P (kept field.now) }
+    requires { IsSolved points.now.list cap P field.now }
     ensures bytes { (lists : TreeLists) → AreTreeLists 16 points.now.list cap lists
         → Writes result (S.held sink.old) (S.held sink.new) (summary_text seed (length points.now.list) P cap (summary_of points.now.list cap P lists)) }
     ensures cause { HasCause (S.faults sink.old) (S.faults sink.new) result }
