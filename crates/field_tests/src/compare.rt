@@ -1,5 +1,7 @@
 //! What several fields are made of and give.
-use test_boxes::Ends;
+use complex_box::Row;
+use std::process::Abort;
+use test_boxes::{Ends, ends};
 
 /// Nine charges at the origin.
 pub const NINE_CHARGES: (u32, &str) = (9, "charge 0 0 1\n");
@@ -9,3 +11,15 @@ pub const FAR_TARGET: Ends = (
     (1_127_786_607_614, 1_373_822_247_902),
     (-75_518_917_824, 170_516_722_464),
 );
+
+/// There is a row, and its boxes are the known ones.
+pub fn row_is(rt: &impl Abort, row: Option<Row<4>>, known: &[Ends; 4]) {
+    match row {
+        Some(row) => {
+            for k in 0..4usize {
+                assert_eq!(rt; ends(row.get(k)), known[k]);
+            }
+        }
+        None => assert!(rt; false),
+    }
+}

@@ -106,3 +106,22 @@ fn far_source(rt: HostRuntime) -> Result<(), Fail> {
     has_rows(&rt, &field, radius);
     Ok(())
 }
+
+/// A charge near two targets, in a tree of one cell.
+#[test]
+fn near_charge(rt: HostRuntime) -> Result<(), Fail> {
+    let lines = [(1, "charge 0 0 1\n"), (2, "target 3 4\n")];
+    let points = points_of(rt.alloc(), &lines)?;
+    let field = solve::<4>(rt.alloc(), &points, 8)?;
+    let known = (
+        (131_941_395_333, 131_941_395_334),
+        (-175_921_860_445, -175_921_860_444),
+    );
+    assert_eq!(rt; field.tree().cells().len(), 1);
+    assert_eq!(rt; field.targets(), 2);
+    for k in 0..field.targets() {
+        assert_eq!(rt; ends(field.value(k)), known);
+    }
+    assert_eq!(rt; (field.translations(), field.pairs()), (0, 2));
+    Ok(())
+}

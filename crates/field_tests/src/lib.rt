@@ -6,12 +6,8 @@ mod boards;
 #[cfg(test)]
 mod compare;
 #[cfg(test)]
-mod downward;
-#[cfg(test)]
 mod fields;
 #[cfg(test)]
-mod upward;
+mod passes;
 #[cfg(test)]
-mod values;
-#[cfg(test)]
-mod weights;
+mod rows;
