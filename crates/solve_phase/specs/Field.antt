@@ -1,5 +1,6 @@
 -- The field of a list of points, as a solve keeps it.
 use Rattle.std.specs.Prelude.{ℕ, ◌≡◌, ◌+◌, ◌*◌, ◌≤◌, List, length, map, sum_by}
+use Rattle.exact_math.specs.Orders.{IsOrder}
 use Rattle.cell_lists.specs.Lists.{AreLists}
 use Rattle.complex_box.specs.Box.{box_ends}
 use Rattle.field_basis.specs.FieldPlaces.{AreAllMultipolePlaces, AreAllLocalPlaces}
@@ -20,6 +21,7 @@ pub record IsFieldOver (points : List Point) (cap P : ℕ) (lists : TreeLists) (
 
 -- the field of the points with a leaf capacity at an order: the tree is theirs, all rows and radii are those of the field, and so are boxes and counts over the lists of the tree
 pub record IsSolved (points : List Point) (cap P : ℕ) (f : FieldParts) : Type 0 where
+  pub order : IsOrder P
   pub points_are : f.basis.points ≡ points
   pub cap_is : f.basis.cap ≡ cap
   pub is_tree : IsTreeOf 16 f.basis.tree points cap

@@ -1,5 +1,6 @@
-use Rattle.std.proofs.Common.{◌∙◌}
+use Rattle.std.proofs.Common.{◌∙◌, arith}
 use Rattle.std.specs.Io.KnownBytes.{Appends}
+use Rattle.exact_math.proofs.Orders.{order_bounds}
 use Rattle.io_ports.specs.Bytes.{AppendsPrefix}
 use Rattle.field_report.proofs.FieldTexts.{head-exit, targets-exit, end-written, of-same}
 use Rattle.field_report.proofs.Pieces.{Writes-failed}
@@ -23,3 +24,6 @@ returns-clause-bytes g c lists are =
     let lines = of-same c.args.points.now.mode _ _ _ _ g.row.P lists (Appends _ _) c.points.ensures c.requires.field.cap_is (c.in_ok-write_targets.ensures.bytes lists) are in
     end-written c.args.points.now.mode c.args.points.now.list g.row.P c.args.cap lists c.translations.result c.pairs.result (c.translations.ensures ∙ over.translations_are) (c.pairs.ensures ∙ over.pairs_are)
     c.write_end.result _ _ _ _ c.in_ok-write_head.ensures.bytes lines c.write_end.ensures.bytes
+
+pub overflow_cast-write_head : goal.overflow_cast-write_head
+overflow_cast-write_head g c = let most = order_bounds g.row.P c.requires.field.order in omega (arith, most)

@@ -9,15 +9,15 @@ use Rattle.field_report.proofs.report.write_targets.Goals.{then-not-is_source+in
 
 pub value-requires : goal.value-requires
 value-requires g c =
-    let some = each_list_has_tree 16 c.args.points.now c.args.field.now.cap (omega arith) (in_grid c.args.points.now c.requires.range) in
-    let here = value-in_range c.args.mode c.args.points.now c.args.field.now.cap g.row.P some.0 c.args.field.now.values.items c.loop-p.p-index c.loop-p.k _ (omega arith)
+    let some = each_list_has_tree 16 c.args.points.now c.args.field.now.basis.cap (omega arith) (in_grid c.args.points.now c.requires.range) in
+    let here = value-in_range c.args.mode c.args.points.now c.args.field.now.basis.cap g.row.P some.0 c.args.field.now.values c.loop-p.p-index c.loop-p.k _ (omega arith)
     (ap not (sym c.is_source.ensures ∙ c.if-not-is_source.true)) c.loop-p.invariant.count (c.requires.field.over some.0 some.1).values_are in
     (omega arith, omega (arith, here))
 
 pub returns-in_err-write_target-clause-bytes : goal.returns-in_err-write_target-clause-bytes
 returns-in_err-write_target-clause-bytes g c lists are =
     Writes-failed _ c.from_residual.result _ _ _ c.from_residual.ensures.1
-    (written-exit c.args.mode c.args.points.now c.args.field.now.cap g.row.P lists c.args.field.now.values.items c.loop-p.p-index c.loop-p.k _ c.value.result (omega arith)
+    (written-exit c.args.mode c.args.points.now c.args.field.now.basis.cap g.row.P lists c.args.field.now.values c.loop-p.p-index c.loop-p.k _ c.value.result (omega arith)
     (ap not (sym c.is_source.ensures ∙ c.if-not-is_source.true)) c.loop-p.invariant.count (c.requires.field.over lists are).values_are (c.requires.range _ _ (omega arith)) c.value.ensures.value
     _ _ _ (c.loop-p.invariant.held lists are) c.in_err-write_target.ensures.bytes)
 
@@ -31,7 +31,7 @@ loop-p-preserved g c =
           let has = ap not (sym c.is_source.ensures ∙ w.if-not-is_source.true) in
           record {
             held = λ lists are. subst (λ s. Appends (g.S.Sink.held c.args.sink.now) (g.S.Sink.held s) _) (sym w.sink-is)
-                (written-step c.args.mode c.args.points.now c.args.field.now.cap g.row.P lists c.args.field.now.values.items c.loop-p.p-index c.loop-p.k _ w.value.result (omega arith)
+                (written-step c.args.mode c.args.points.now c.args.field.now.basis.cap g.row.P lists c.args.field.now.values c.loop-p.p-index c.loop-p.k _ w.value.result (omega arith)
                 has c.loop-p.invariant.count (c.requires.field.over lists are).values_are (c.requires.range _ _ (omega arith)) w.value.ensures.value
                 _ _ _ (c.loop-p.invariant.held lists are) w.in_ok-write_target.ensures.bytes);
             faults = rw w.sink-is (omega (arith, c.loop-p.invariant.faults, w.write_target.ensures.cause.later));
@@ -40,7 +40,7 @@ loop-p-preserved g c =
       | else-not-is_source w ↦
           let none = ap not (sym c.is_source.ensures ∙ w.if-not-is_source.false) in
           record {
-            held = λ lists are. rw (w.sink-is, text-source c.args.mode c.args.points.now c.args.field.now.cap g.row.P lists c.args.points.now c.loop-p.p-index _ (omega arith) none) (c.loop-p.invariant.held lists are);
+            held = λ lists are. rw (w.sink-is, text-source c.args.mode c.args.points.now c.args.field.now.basis.cap g.row.P lists c.args.points.now c.loop-p.p-index _ (omega arith) none) (c.loop-p.invariant.held lists are);
             faults = rw w.sink-is c.loop-p.invariant.faults;
             count = w.k-is ∙ c.loop-p.invariant.count ∙ sym (count-source c.args.points.now c.loop-p.p-index _ (omega arith) none);
           }

@@ -7,7 +7,7 @@ use Rattle.field_report.proofs.report.write_targets.Given as goal
 
 abbrev pub invariant-loop-p : goal.invariant-loop-p
 invariant-loop-p g l = record {
-  held : (lists : TreeLists) → AreTreeLists 16 l.points l.field.cap lists → Appends (g.S.Sink.held l.initial.sink) (g.S.Sink.held l.sink) (target_text l.mode l.points l.field.cap g.row.P lists (take l.p-index l.points));
+  held : (lists : TreeLists) → AreTreeLists 16 l.points l.field.basis.cap lists → Appends (g.S.Sink.held l.initial.sink) (g.S.Sink.held l.sink) (target_text l.mode l.points l.field.basis.cap g.row.P lists (take l.p-index l.points));
   faults : g.S.Sink.faults l.initial.sink ≤ g.S.Sink.faults l.sink;
   count : l.k ≡ length (targets (take l.p-index l.points));
 }

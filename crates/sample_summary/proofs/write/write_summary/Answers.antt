@@ -17,5 +17,5 @@ bytes_are seed P cap kept_cap points given lists s text bytes same all a are t b
 
 pub returns-clause-bytes : goal.returns-clause-bytes
 returns-clause-bytes g c lists a =
-    let e = bytes_are c.args.seed g.row.P c.args.cap c.args.field.now.cap c.args.points.now.list c.points.result.now lists c.of-summary.result c.summary_text-text.result c.as_bytes.result.now c.requires.cap_is c.points.ensures a c.of-summary.ensures c.summary_text-text.ensures c.as_bytes.ensures in
+    let e = bytes_are c.args.seed g.row.P c.args.cap c.args.field.now.basis.cap c.args.points.now.list c.points.result.now lists c.of-summary.result c.summary_text-text.result c.as_bytes.result.now c.requires.cap_is c.points.ensures a c.of-summary.ensures c.summary_text-text.ensures c.as_bytes.ensures in
     subst (Writes c.put.result (g.S.Sink.held c.args.sink.now) (g.S.Sink.held c.put.new.sink)) e c.put.ensures.bytes

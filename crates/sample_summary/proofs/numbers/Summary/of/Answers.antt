@@ -17,11 +17,11 @@ use Rattle.sample_summary.proofs.numbers.Summary.of.Goals as goal
 
 pub returns : goal.returns
 returns g c these a =
-    let tree = c.args.field.now.tree in
-    let lists = c.args.field.now.lists in
-    let values = c.args.field.now.values.items in
+    let tree = c.args.field.now.basis.tree in
+    let lists = c.args.field.now.basis.lists in
+    let values = c.args.field.now.values in
     let points : List Point = c.args.points.now in
-    let cap = c.args.field.now.cap in
+    let cap = c.args.field.now.basis.cap in
     let h = c.requires.is_tree in
     let are = c.requires.lists_are in
     let is_tree = c.tree-tree.ensures in

@@ -8,7 +8,7 @@ use Rattle.sample_summary.proofs.widths.Widest.of.Goals as goal
 
 pub loop-k-preserved : goal.loop-k-preserved
 loop-k-preserved g c =
-    let values = c.args.field.now.values.items in
+    let values = c.args.field.now.values in
     let k = c.loop-k.k in
     record {
       re = c.with-widest.ensures.re ∙ ap₂ (λ m v. max m (width (target_counts Field (box_ends v)).first)) c.loop-k.invariant.re c.value.ensures.value

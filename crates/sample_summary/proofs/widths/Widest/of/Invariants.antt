@@ -7,6 +7,6 @@ use Rattle.sample_summary.proofs.widths.Widest.of.Given as goal
 abbrev pub invariant-loop-k : goal.invariant-loop-k
 invariant-loop-k g l =
     record {
-      re : l.widest.re ≡ widest_re (map box_ends (take l.k l.field.values.items));
-      im : l.widest.im ≡ widest_im (map box_ends (take l.k l.field.values.items));
+      re : l.widest.re ≡ widest_re (map box_ends (take l.k l.field.values));
+      im : l.widest.im ≡ widest_im (map box_ends (take l.k l.field.values));
     }
