@@ -14,7 +14,7 @@ use Rattle.row_recursions.proofs.Worked.{box}
 use Rattle.row_recursions.specs.Rows.{source_moment, pole_moment, dipole_moment, local_value, local_round}
 use Rattle.soundness.specs.Accounts.{LeafSource, LeafTarget, Accounting, under, is_leaf, accounts}
 use Rattle.soundness.specs.Computed.{leaf_row, local_row, local_radius, target_box}
-use Rattle.soundness.specs.Rules.{RowInside, SourceStands, TargetStands, Apart, Rules}
+use Rattle.soundness.specs.Rules.{RowInside, SourceStands, TargetStands, Apart, IsTiled, LocalHolds, BoxHolds, Rules}
 use Rattle.soundness.specs.Soundness.{BoxesContain}
 use Rattle.soundness.proofs.Inside.{BoxEndsInside-same}
 use Rattle.soundness.proofs.Targets.{boxes_contain}
@@ -109,13 +109,13 @@ rules_met = record {
   targets = only (TargetStands presented) target target_stands;
   in_range = only (λ e. e.c < 1) near (omega arith);
   apart = only (λ e. Apart presented e.letter e.b e.c) near tt;
-  once = only (λ t. All (λ x. count_by (accounts presented t.leaf x) presented.entries ≡ 1) presented.sources) target
-      (only (λ x. count_by (accounts presented 0 x) presented.entries ≡ 1) charge accounted_once);
-  leaf_rows = λ n l e. at_zero (λ n. RowInside 4 (leaf_row presented n) given_row) leaf_row_inside n l;
-  inner_rows = λ n l e. absurd (true≢false (sym (at_zero (λ n. is_leaf presented n ≡ true) refl n l) ∙ e));
-  local_rows = only (λ t. (n : ℕ) → under presented.parent t.leaf n ≡ true → RowInside 4 (local_row 4 presented n) (λ k. zero_box)) target local_row_inside;
-  radii = only (λ t. (n : ℕ) → under presented.parent t.leaf n ≡ true → local_radius 4 presented n ≤ 0) target radius_at_least;
-  boxes = only (λ t. BoxEndsInside (target_box 4 presented t) t.box) target box_inside;
+  tiled = only (λ t. IsTiled presented t.leaf) target (only (λ x. count_by (accounts presented 0 x) presented.entries ≡ 1) charge accounted_once);
+  multipoles = λ n l. record {
+    of_leaf = λ e. at_zero (λ n. RowInside 4 (leaf_row presented n) given_row) leaf_row_inside n l;
+    of_inner = λ e. absurd (true≢false (sym (at_zero (λ n. is_leaf presented n ≡ true) refl n l) ∙ e));
+  };
+  locals = only (λ t. (n : ℕ) → under presented.parent t.leaf n ≡ true → LocalHolds 4 presented n) target (λ n u. record { row = local_row_inside n u; radius = radius_at_least n u });
+  boxes = only (BoxHolds 4 presented) target box_inside;
 }
 
 -- so the box contains the direct sum, which is 1

@@ -18,7 +18,7 @@ use Rattle.row_recursions.specs.Rows.{shifted_up}
 use Rattle.soundness.specs.Squares.{quadrant, IsQuarterOf, IsFarFrom, CellsAreApart}
 use Rattle.soundness.specs.Accounts.{LeafSource, LeafTarget, Accounting, under, is_leaf, accounts}
 use Rattle.soundness.specs.Computed.{total_row, moments_in, leaf_row, shifted_rows, local_row, local_radius, target_box}
-use Rattle.soundness.specs.Rules.{RowInside, SourceStands, TargetStands, Apart, Rules}
+use Rattle.soundness.specs.Rules.{RowInside, SourceStands, TargetStands, Apart, IsTiled, LocalHolds, BoxHolds, Rules}
 use Rattle.soundness.specs.Soundness.{BoxesContain}
 use Rattle.soundness.proofs.Example.{only}
 use Rattle.soundness.proofs.Inside.{BoxEndsInside-same, RowInside-same}
@@ -256,12 +256,10 @@ rules_met = record {
   targets = only (TargetStands presented) target target_stands;
   in_range = four (λ e. e.c < 7) (entry U 3 3) (entry X 3 6) (entry V 3 4) (entry W 3 5) (omega arith) (omega arith) (omega arith) (omega arith);
   apart = four (λ e. Apart presented e.letter e.b e.c) (entry U 3 3) (entry X 3 6) (entry V 3 4) (entry W 3 5) tt source_far cells_apart target_far;
-  once = only (λ t. All (λ x. count_by (accounts presented t.leaf x) entries ≡ 1) sources) target accounted_once;
-  leaf_rows = leaf_rows_inside;
-  inner_rows = inner_rows_inside;
-  local_rows = only (λ t. (n : ℕ) → under above t.leaf n ≡ true → RowInside 2 (local_row 2 presented n) (local n)) target local_rows_inside;
-  radii = only (λ t. (n : ℕ) → under above t.leaf n ≡ true → local_radius 2 presented n ≤ radius n) target radii_at_least;
-  boxes = only (λ t. BoxEndsInside (target_box 2 presented t) t.box) target (BoxEndsInside-same refl);
+  tiled = only (λ t. IsTiled presented t.leaf) target accounted_once;
+  multipoles = λ n l. record { of_leaf = leaf_rows_inside n l; of_inner = inner_rows_inside n l };
+  locals = only (λ t. (n : ℕ) → under above t.leaf n ≡ true → LocalHolds 2 presented n) target (λ n u. record { row = local_rows_inside n u; radius = radii_at_least n u });
+  boxes = only (BoxHolds 2 presented) target (BoxEndsInside-same refl);
 }
 
 sum_contained : BoxesContain presented

@@ -90,13 +90,13 @@ module _ (P : ℕ) (A : Accounting) (rules : Rules P A) where
   Held n = HoldsIn P (A.cell n) (sources_under A n) (A.multipole n)
 
   leaf_held : (n : ℕ) → n < A.nodes → is_leaf A n ≡ true → Held n
-  leaf_held n l e = HoldsIn-inside P (A.cell n) (sources_under A n) _ (A.multipole n) (rules.leaf_rows n l e) (HoldsIn-sources P (A.cell n) (sources_under A n))
+  leaf_held n l e = HoldsIn-inside P (A.cell n) (sources_under A n) _ (A.multipole n) ((rules.multipoles n l).of_leaf e) (HoldsIn-sources P (A.cell n) (sources_under A n))
 
   child_is : (n d : ℕ) → is_child A n d ≡ true → (0 < d) × (A.parent d ≡ n)
   child_is n d e = let p = and_parts (nat_lt 0 d) (A.parent d == n) e in (ltb-true 0 d p.0, eqb-true _ _ p.1)
 
   inner_held : (n : ℕ) → n < A.nodes → is_leaf A n ≡ false → ((d : ℕ) → n < d → d < A.nodes → Held d) → Held n
-  inner_held n l e ih = HoldsIn-inside P (A.cell n) (sources_under A n) (shifted_rows A n) (A.multipole n) (rules.inner_rows n l e)
+  inner_held n l e ih = HoldsIn-inside P (A.cell n) (sources_under A n) (shifted_rows A n) (A.multipole n) ((rules.multipoles n l).of_inner e)
       (HoldsIn-parts P (A.cell n) (λ d. shifted_up (A.multipole d) (quadrant (A.cell d))) (sources_under A) (children A n) (sources_under A n)
       (λ k d i. at_child (get_or (children A n) k d) (All-filter (is_child A n) (λ d. d < A.nodes) (range_with_len 0 A.nodes) in_range k d i) (filter_passes (is_child A n) (range_with_len 0 A.nodes) k d i))
       (λ f. sum-children A.parent rules.root rules.parents complex_rationals A.nodes (λ x. x.leaf) f A.sources n elsewhere))

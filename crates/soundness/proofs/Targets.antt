@@ -18,7 +18,7 @@ use Rattle.row_recursions.specs.Rows.{multipole_value}
 use Rattle.soundness.specs.Squares.{offset, IsIn, IsFarFrom}
 use Rattle.soundness.specs.Accounts.{LeafTarget, Accounting, is_letter, under, sources_under, entries_of, reaches, accounts, points_of}
 use Rattle.soundness.specs.Computed.{total_box, single_radius_of, local_row, local_radius, local_at, multipoles_at, pairs_at, target_radius}
-use Rattle.soundness.specs.Rules.{RowInside, Rules}
+use Rattle.soundness.specs.Rules.{RowInside, IsTiled, LocalHolds, Rules}
 use Rattle.soundness.specs.Soundness.{RulesImplyContainment}
 use Rattle.soundness.proofs.Boxes.{slack, IsNear, IsNear-add, IsNear-sum, EnclosesBox-total, EnclosesBox-widen}
 use Rattle.soundness.proofs.Choices.{when, sum_list-filter_and, sum_list-once}
@@ -40,7 +40,7 @@ module _ (P : ℕ) (A : Accounting) (order : 2 ≤ P) (rules : Rules P A) (t : G
   sum_of es = sum_list complex_rationals terms es
 
   -- ---- each source once: over the entries that reach the leaf
-  by_entries : All (λ x. count_by (accounts A leaf x) A.entries ≡ 1) A.sources
+  by_entries : IsTiled A leaf
       → all_terms ≡ sum_list complex_rationals (λ e. when complex_rationals (reaches A e.letter e.b leaf) (terms e)) A.entries
   by_entries once =
       sum_list-once complex_rationals (accounts A leaf) (term_in_units t) A.sources A.entries once
@@ -91,9 +91,13 @@ module _ (P : ℕ) (A : Accounting) (order : 2 ≤ P) (rules : Rules P A) (t : G
 
     -- ---- all together
     module _ (leaf_in : leaf < A.nodes) (in_leaf : IsIn (A.cell leaf) t)
-        (rows : (n : ℕ) → under A.parent leaf n ≡ true → RowInside P (local_row P A n) (A.local n))
-        (radii : (n : ℕ) → under A.parent leaf n ≡ true → local_radius P A n ≤ A.radius n)
-        (once : All (λ x. count_by (accounts A leaf x) A.entries ≡ 1) A.sources) where
+        (locals : (n : ℕ) → under A.parent leaf n ≡ true → LocalHolds P A n) (tiled : IsTiled A leaf) where
+      rows : (n : ℕ) → under A.parent leaf n ≡ true → RowInside P (local_row P A n) (A.local n)
+      rows n u = (locals n u).row
+
+      radii : (n : ℕ) → under A.parent leaf n ≡ true → local_radius P A n ≤ A.radius n
+      radii n u = (locals n u).radius
+
       on_leaf : under A.parent leaf leaf ≡ true
       on_leaf = under-self A.parent rules.root rules.parents leaf
 
@@ -114,7 +118,7 @@ module _ (P : ℕ) (A : Accounting) (order : 2 ≤ P) (rules : Rules P A) (t : G
       gathered p p' w w' u {m} {n} h k = subst (EnclosesBox (slack (m + n))) (ring5 complex_rationals p p' w w' u (λ p q w x u. search quotes depth 12) tt) (IsNear-add p p' w w' h k)
 
       all_near : IsNear (target_radius P A leaf) all_terms held
-      all_near = subst (λ z. IsNear (target_radius P A leaf) z held) (sym (by_entries once ∙ by_letters))
+      all_near = subst (λ z. IsNear (target_radius P A leaf) z held) (sym (by_entries tiled ∙ by_letters))
           (gathered _ _ _ _ (sum_of (entries_of A U leaf)) (path_near P A order rules t leaf leaf_in in_leaf radii leaf on_leaf) values_near)
 
       pub box_held : EnclosesBox (widen_box (add_box (local_at P A leaf t) (add_box (multipoles_at P A leaf t) (pairs_at P A leaf t))) (pos (target_radius P A leaf))) all_terms
@@ -126,7 +130,7 @@ boxes_contain P A order rules k d i =
     contained_from_enclosed (pos (2 ^ 40)) target.box (direct_sum-stands target.place (points_of A.sources))
     (subst (EnclosesBox target.box) (sym (direct_sum-in_units target.place A.sources))
     (EnclosesBox-inside (rules.boxes k d i)
-    (box_held P A order rules target.place target.leaf far (rules.targets k d i).in_range (rules.targets k d i).held (rules.local_rows k d i) (rules.radii k d i) (rules.once k d i))))
+    (box_held P A order rules target.place target.leaf far (rules.targets k d i).in_range (rules.targets k d i).held (rules.locals k d i) (rules.tiled k d i))))
   where
     target : LeafTarget
     target = get_or A.targets k d

@@ -4,3 +4,4 @@ pub mod Computed
 pub mod Rules
 pub mod Soundness
 pub mod Squares
+pub mod Steps

@@ -33,6 +33,26 @@ module _ (A : Accounting) where
   Apart W b c = All (λ t. under A.parent t.leaf b ≡ true → IsFarFrom (A.cell c) t.place) A.targets
   Apart X b c = All (λ x. under A.parent x.leaf c ≡ true → IsFarFrom (A.cell b) (place x.point)) A.sources
 
+  -- the entries that reach a leaf account for each source exactly once
+  abbrev pub IsTiled : ℕ → Type 0
+  IsTiled leaf = All (λ x. count_by (accounts A leaf x) A.entries ≡ 1) A.sources
+
+-- ---- one rule for each thing that is presented, at order P
+module _ (P : ℕ) (A : Accounting) where
+  -- the multipole row of a node: a leaf's has that of its sources in it, and another's its children's, shifted up
+  pub record MultipoleHolds (n : ℕ) : Type 0 where
+    pub of_leaf : is_leaf A n ≡ true → RowInside P (leaf_row A n) (A.multipole n)
+    pub of_inner : is_leaf A n ≡ false → RowInside P (shifted_rows A n) (A.multipole n)
+
+  -- the local row of a node, and its radius
+  pub record LocalHolds (n : ℕ) : Type 0 where
+    pub row : RowInside P (local_row P A n) (A.local n)
+    pub radius : local_radius P A n ≤ A.radius n
+
+  -- the box of a target
+  abbrev pub BoxHolds : LeafTarget → Type 0
+  BoxHolds t = BoxEndsInside (target_box P A t) t.box
+
 -- the rules at order P
 pub record Rules (P : ℕ) (A : Accounting) : Type 0 where
   -- nodes; past the last of them any smaller number serves as a parent
@@ -44,11 +64,8 @@ pub record Rules (P : ℕ) (A : Accounting) : Type 0 where
   -- entries
   pub in_range : All (λ e. e.c < A.nodes) A.entries
   pub apart : All (λ e. Apart A e.letter e.b e.c) A.entries
-  pub once : All (λ t. All (λ x. count_by (accounts A t.leaf x) A.entries ≡ 1) A.sources) A.targets
-  -- rows, and the radii of the nodes above a target
-  pub leaf_rows : (n : ℕ) → n < A.nodes → is_leaf A n ≡ true → RowInside P (leaf_row A n) (A.multipole n)
-  pub inner_rows : (n : ℕ) → n < A.nodes → is_leaf A n ≡ false → RowInside P (shifted_rows A n) (A.multipole n)
-  pub local_rows : All (λ t. (n : ℕ) → under A.parent t.leaf n ≡ true → RowInside P (local_row P A n) (A.local n)) A.targets
-  pub radii : All (λ t. (n : ℕ) → under A.parent t.leaf n ≡ true → local_radius P A n ≤ A.radius n) A.targets
-  -- boxes
-  pub boxes : All (λ t. BoxEndsInside (target_box P A t) t.box) A.targets
+  pub tiled : All (λ t. IsTiled A t.leaf) A.targets
+  -- rows, those of the nodes above a target with their radii, and boxes
+  pub multipoles : (n : ℕ) → n < A.nodes → MultipoleHolds P A n
+  pub locals : All (λ t. (n : ℕ) → under A.parent t.leaf n ≡ true → LocalHolds P A n) A.targets
+  pub boxes : All (BoxHolds P A) A.targets

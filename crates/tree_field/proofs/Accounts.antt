@@ -15,6 +15,7 @@ use Rattle.points.specs.declared.Point.{Point}
 use Rattle.quadtree.specs.Tree.{AreInGrid, IsTreeCell}
 use Rattle.soundness.specs.Accounts.{LeafSource, LeafTarget, Accounting, under, is_letter, sources_under, entries_of}
 use Rattle.soundness.specs.Computed.{total_box}
+pub use Rattle.tree_field.specs.Accounting.{leaf_number, leaf_source, leaf_target, sources, entry, entries_from, of_cell, accounting}
 use Rattle.tree_field.specs.Lists.{TreeLists, AreTreeLists}
 use Rattle.tree_field.specs.Field.{is_source_in, sources_in, targets, multipole_row, leaf_at, local_row, local_radius, target_box}
 use Rattle.quadtree.proofs.Ascending.{ascending_differ}
@@ -25,47 +26,12 @@ use Rattle.tree_field.proofs.Numbers.{number, cell_at, above, tree_cell, number_
 use Rattle.tree_field.proofs.Sums.{total_box-map, total_box-same, sum_by-map, sum_by-same}
 
 module _ (grid : ℕ) (points : List Point) (cap P : ℕ) (lists : TreeLists) where
-  abbrev pub leaf_number : Point → ℕ
-  leaf_number p = number lists.cells (leaf_at points cap grid (place p))
-
-  abbrev pub leaf_source : Point → LeafSource
-  leaf_source p = record { point = p; leaf = leaf_number p }
-
-  abbrev pub leaf_target : Point → LeafTarget
-  leaf_target t = record { place = place t; leaf = leaf_number t; box = target_box points cap P lists grid (place t) }
-
-  abbrev pub sources : List Point
-  sources = filter (λ p. is_source p.kind) points
-
-  abbrev pub entry : Letter → Square → Square → Entry
-  entry letter b c = record { letter = letter; b = number lists.cells b; c = number lists.cells c }
-
-  abbrev pub entries_from : Letter → Square → List Entry
-  entries_from letter b = map (entry letter b) (lists.entries letter b)
-
-  -- the entries of a cell, one letter after the other
-  abbrev pub of_cell : Square → List Entry
-  of_cell b = entries_from U b ++ (entries_from V b ++ (entries_from W b ++ entries_from X b))
-
-  abbrev pub accounting : Accounting
-  accounting = record {
-    nodes = length lists.cells;
-    parent = above grid lists.cells;
-    cell = cell_at grid lists.cells;
-    sources = map leaf_source sources;
-    targets = map leaf_target (targets points);
-    entries = flat_map of_cell lists.cells;
-    multipole = λ n. multipole_row points cap (cell_at grid lists.cells n);
-    local = λ n. local_row points cap P lists (cell_at grid lists.cells n);
-    radius = λ n. local_radius points cap P lists (cell_at grid lists.cells n);
-  }
-
   -- a fact of all entries of a cell, from one of each
-  pub All-of_cell : (Q : Entry → Type 0) (b : Square) → ((letter : Letter) → All (λ c. Q (entry letter b c)) (lists.entries letter b)) → All Q (of_cell b)
+  pub All-of_cell : (Q : Entry → Type 0) (b : Square) → ((letter : Letter) → All (λ c. Q (entry grid points cap P lists letter b c)) (lists.entries letter b)) → All Q (of_cell grid points cap P lists b)
   All-of_cell Q b h =
-      All-append Q (entries_from U b) (entries_from V b ++ (entries_from W b ++ entries_from X b)) (All-map Q (entry U b) (lists.entries U b) (h U))
-      (All-append Q (entries_from V b) (entries_from W b ++ entries_from X b) (All-map Q (entry V b) (lists.entries V b) (h V))
-      (All-append Q (entries_from W b) (entries_from X b) (All-map Q (entry W b) (lists.entries W b) (h W)) (All-map Q (entry X b) (lists.entries X b) (h X))))
+      All-append Q (entries_from grid points cap P lists U b) (entries_from grid points cap P lists V b ++ (entries_from grid points cap P lists W b ++ entries_from grid points cap P lists X b)) (All-map Q (entry grid points cap P lists U b) (lists.entries U b) (h U))
+      (All-append Q (entries_from grid points cap P lists V b) (entries_from grid points cap P lists W b ++ entries_from grid points cap P lists X b) (All-map Q (entry grid points cap P lists V b) (lists.entries V b) (h V))
+      (All-append Q (entries_from grid points cap P lists W b) (entries_from grid points cap P lists X b) (All-map Q (entry grid points cap P lists W b) (lists.entries W b) (h W)) (All-map Q (entry grid points cap P lists X b) (lists.entries X b) (h X))))
 
 module _ (grid : ℕ) (points : List Point) (cap P : ℕ) (lists : TreeLists) (positive : 0 < grid) (inside : AreInGrid grid points) (are : AreTreeLists grid points cap lists) where
   abbrev given : Accounting

@@ -8,10 +8,8 @@ use Rattle.cell_name.specs.Square.{Square, root, parent}
 use Rattle.cell_name.proofs.Cells.{same_square}
 use Rattle.cell_name.proofs.Order.{IsBefore-irrefl}
 use Rattle.quadtree.specs.Tree.{AreInGrid, IsTreeCell, AreTreeCells}
+pub use Rattle.tree_field.specs.Accounting.{same_cell, number, cell_at, above}
 use Rattle.quadtree.proofs.Parents.{IsTreeCell-parent}
-
-abbrev pub same_cell : Square → Square → Bool
-same_cell c d = (c.grid == d.grid) && (c.level == d.level) && (c.i == d.i) && (c.j == d.j)
 
 pub same_from_test : (c d : Square) → same_cell c d ≡ true → c ≡ d
 same_from_test c d e =
@@ -22,11 +20,6 @@ same_from_test c d e =
 
 pub test_itself : (c : Square) → same_cell c c ≡ true
 test_itself c = and_from _ _ (and_from _ _ (and_from _ _ (eq-eqb c.grid c.grid refl) (eq-eqb c.level c.level refl)) (eq-eqb c.i c.i refl)) (eq-eqb c.j c.j refl)
-
--- where a cell stands in a list
-pub number : List Square → Square → ℕ
-number [] c = 0
-number (d ∷ ds) c = cond (same_cell d c) 0 (suc (number ds c))
 
 -- it stands there
 pub record IsNumber (cells : List Square) (c : Square) (n : ℕ) : Type 0 where
@@ -42,14 +35,6 @@ number_is (d ∷ ds) c h = step (same_cell d c) refl h (number_is ds c)
     step true e h rest = record { in_range = omega arith; is = λ z. same_from_test d c e }
     step false e (zero, lt, f) rest = absurd (false≢true (sym e ∙ ap (λ z. same_cell z c) f ∙ test_itself c))
     step false e (suc k, lt, f) rest = let r = rest (k, omega arith, f) in record { in_range = omega (arith, r.in_range); is = r.is }
-
--- the cell of a number
-abbrev pub cell_at : ℕ → List Square → ℕ → Square
-cell_at grid cells n = slice_index_or cells n (root grid)
-
--- the number of the parent
-abbrev pub above : ℕ → List Square → ℕ → ℕ
-above grid cells n = cond (nat_lt n (length cells)) (number cells (parent (cell_at grid cells n))) 0
 
 module _ (grid : ℕ) (points : List Point) (cap : ℕ) (cells : List Square) (positive : 0 < grid) (inside : AreInGrid grid points) (are : AreTreeCells grid points cap cells) where
   pub tree_cell : (n : ℕ) → n < length cells → IsTreeCell grid points cap (cell_at grid cells n)

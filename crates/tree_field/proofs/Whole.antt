@@ -19,7 +19,7 @@ use Rattle.quadtree.proofs.Distinct.{Contains-filter}
 use Rattle.row_recursions.proofs.Geometry.{held_places}
 use Rattle.soundness.specs.Accounts.{LeafSource, LeafTarget, Accounting, under, is_leaf, accounts, points_of}
 use Rattle.soundness.specs.Computed.{local_row as given_local_row, local_radius as given_local_radius, target_box as given_target_box}
-use Rattle.soundness.specs.Rules.{RowInside, SourceStands, TargetStands, Rules}
+use Rattle.soundness.specs.Rules.{RowInside, SourceStands, TargetStands, IsTiled, LocalHolds, BoxHolds, Rules}
 use Rattle.soundness.specs.Squares.{IsIn}
 use Rattle.soundness.proofs.Inside.{BoxEndsInside-same, RowInside-same}
 use Rattle.soundness.proofs.Targets.{boxes_contain}
@@ -99,15 +99,17 @@ module _ (grid : ℕ) (points : List Point) (cap P : ℕ) (lists : TreeLists) (p
     targets = All-targets (TargetStands given) (λ t h. target_stands t (listed_target t h));
     in_range = entries_in_range grid points cap P lists positive inside are;
     apart = entries_apart grid points cap P lists positive inside are;
-    once = All-targets (λ t. All (λ x. count_by (accounts given t.leaf x) given.entries ≡ 1) given.sources)
+    tiled = All-targets (λ t. IsTiled given t.leaf)
         (λ t ht. All-sources (λ x. count_by (accounts given (leaf_number grid points cap P lists t) x) given.entries ≡ 1) (λ p hp. accounted_once grid points cap P lists positive inside are t p ht hp));
-    leaf_rows = λ n lt e. RowInside-same P _ _ (leaf_rows_same grid points cap P lists positive inside are n lt e);
-    inner_rows = λ n lt e. RowInside-same P _ _ (inner_rows_same grid points cap P lists positive inside are n lt e);
-    local_rows = All-targets (λ t. (n : ℕ) → under given.parent t.leaf n ≡ true → RowInside P (given_local_row P given n) (given.local n))
-        (λ t h n u. RowInside-same P _ _ (local_rows_same grid points cap P lists positive inside are n (node_below t h n u)));
-    radii = All-targets (λ t. (n : ℕ) → under given.parent t.leaf n ≡ true → given_local_radius P given n ≤ given.radius n)
-        (λ t h n u. at_most _ _ (radii_same grid points cap P lists positive inside are n (node_below t h n u)));
-    boxes = All-targets (λ t. BoxEndsInside (given_target_box P given t) t.box)
+    multipoles = λ n lt. record {
+      of_leaf = λ e. RowInside-same P _ _ (leaf_rows_same grid points cap P lists positive inside are n lt e);
+      of_inner = λ e. RowInside-same P _ _ (inner_rows_same grid points cap P lists positive inside are n lt e);
+    };
+    locals = All-targets (λ t. (n : ℕ) → under given.parent t.leaf n ≡ true → LocalHolds P given n) (λ t h n u. record {
+      row = RowInside-same P _ _ (local_rows_same grid points cap P lists positive inside are n (node_below t h n u));
+      radius = at_most _ _ (radii_same grid points cap P lists positive inside are n (node_below t h n u));
+    });
+    boxes = All-targets (BoxHolds P given)
         (λ t h. BoxEndsInside-same (boxes_same grid points cap P lists positive inside are (leaf_target grid points cap P lists t) (in_range t (listed_target t h))
         ∙ ap (λ c. box_in points cap P lists c (place t)) (cell_of_leaf grid points cap lists.cells positive inside are.cells_are t (listed_target t h))));
   }

@@ -1,0 +1,91 @@
+-- What the entries of a cell add to its row, to its radius and to the box of a place, at order P: one step each, for whatever names the entries, with the rows, cells, sources and
+-- weights of these given. The field is the recursion of these steps over a tree, and the rules of an accounting include them.
+use Rattle.std.specs.Prelude.{ℕ, ◌+◌, pos, List, fold, sum_by}
+use Rattle.exact_math.specs.Ends.{BoxEnds, zero_box, add_box, widen_box}
+use Rattle.exact_math.specs.Gaussian.{Gaussian}
+use Rattle.cell_name.specs.Square.{Square, side}
+use Rattle.kernel_table.specs.Kernel.{kernel_entry}
+use Rattle.near_field.specs.Pair.{pair_box}
+use Rattle.points.specs.Points.{place, pole, dipole}
+use Rattle.points.specs.declared.Point.{Point}
+use Rattle.row_recursions.specs.Rows.{source_moment, shifted_up, converted, far_source, shifted_down, local_value, multipole_value}
+use Rattle.row_recursions.specs.Sources.{source_of}
+use Rattle.truncation.specs.Entries.{weight}
+use Rattle.truncation.specs.Tails.{pair_radius, single_radius}
+use Rattle.soundness.specs.Squares.{offset, quadrant, sides_between}
+
+-- the sum of the boxes of all members, from zero on
+abbrev pub total_box : {A : Type 0} → (A → BoxEnds) → List A → BoxEnds
+total_box f xs = fold (λ b x. add_box b (f x)) zero_box xs
+
+abbrev pub total_row : {A : Type 0} → (A → ℕ → BoxEnds) → List A → ℕ → BoxEnds
+total_row f xs k = total_box (λ x. f x k) xs
+
+-- the moments of a point about the centre of a cell
+abbrev pub moments_in : Square → Point → ℕ → BoxEnds
+moments_in c p k = source_moment (side c) (pole p.kind) (dipole p.kind) (offset c (place p)) k
+
+-- what a far point adds to the local row of a cell
+abbrev pub far_coefficients_in : Square → Point → ℕ → BoxEnds
+far_coefficients_in b p l = far_source (side b) (pole p.kind) (dipole p.kind) (offset b (place p)) l
+
+-- ---- from sources, which are points by `point`
+module _ {X : Type 0} (point : X → Point) where
+  -- their moments in a cell
+  abbrev pub moments_of : Square → List X → ℕ → BoxEnds
+  moments_of c xs = total_row (λ x. moments_in c (point x)) xs
+
+  -- how heavy they are
+  abbrev pub weight_of : ℕ → List X → ℕ
+  weight_of P xs = sum_by (λ x. weight P (source_of (point x))) xs
+
+  -- from the sources of entries
+  module _ {E : Type 0} (sources : E → List X) where
+    -- X: what the sources of each add to the local row of the cell b
+    abbrev pub x_rows : Square → List E → ℕ → BoxEnds
+    x_rows b es = total_row (λ e. total_row (λ x. far_coefficients_in b (point x)) (sources e)) es
+
+    -- U: the pairs of a place with the sources of each
+    abbrev pub u_pairs : Gaussian → List E → BoxEnds
+    u_pairs z es = total_box (λ e. total_box (λ x. pair_box z (point x)) (sources e)) es
+
+-- ---- from the rows of cells
+module _ {E : Type 0} (cell : E → Square) (row : E → ℕ → BoxEnds) where
+  -- children: their multipole rows, shifted up
+  abbrev pub child_rows : List E → ℕ → BoxEnds
+  child_rows es = total_row (λ e. shifted_up (row e) (quadrant (cell e))) es
+
+  module _ (P : ℕ) where
+    -- V: their multipole rows, converted for the cell b
+    abbrev pub v_rows : Square → List E → ℕ → BoxEnds
+    v_rows b es = total_row (λ e. converted P (kernel_entry (sides_between b (cell e))) (row e)) es
+
+    -- W: the values of their multipole rows at a place
+    abbrev pub w_values : Gaussian → List E → BoxEnds
+    w_values z es = total_box (λ e. multipole_value P (row e) (side (cell e)) (offset (cell e) z)) es
+
+-- ---- what entries can lose, from the weights of their sources
+module _ {E : Type 0} (P : ℕ) (weight : E → ℕ) where
+  -- V and X: in a cell of the side s
+  abbrev pub v_losses : ℕ → List E → ℕ
+  v_losses s es = sum_by (λ e. pair_radius P (weight e) s) es
+
+  abbrev pub x_losses : ℕ → List E → ℕ
+  x_losses s es = sum_by (λ e. single_radius P (weight e) s) es
+
+  -- W: each by its own cell's side
+  abbrev pub w_losses : (E → Square) → List E → ℕ
+  w_losses cell es = sum_by (λ e. single_radius P (weight e) (side (cell e))) es
+
+-- ---- a row, a radius and a box from these
+-- the local row of the cell b below the root, from its parent's row
+abbrev pub from_parent : ℕ → Square → (ℕ → BoxEnds) → ℕ → BoxEnds
+from_parent P b parent k = shifted_down P parent (quadrant b) k
+
+-- the value of the cell's local row at a place
+abbrev pub value_in : ℕ → Square → (ℕ → BoxEnds) → Gaussian → BoxEnds
+value_in P b row z = local_value P row (side b) (offset b z)
+
+-- the box of a place from the three sums, widened by what all entries on the way can lose
+abbrev pub box_of : BoxEnds → BoxEnds → BoxEnds → ℕ → BoxEnds
+box_of value far near radius = widen_box (add_box value (add_box far near)) (pos radius)
