@@ -1,4 +1,4 @@
--- The boxes of the field contain the direct sum.
+-- The field meets the rules of an accounting, and its boxes contain the direct sum.
 use Rattle.std.specs.Prelude.{ℕ, ◌<◌, ◌≤◌, List, All}
 use Rattle.exact_math.specs.Ends.{BoxEndsContain}
 use Rattle.exact_math.specs.Units.{unit}
@@ -6,6 +6,8 @@ use Rattle.near_field.specs.DirectSum.{direct_sum}
 use Rattle.points.specs.Points.{place}
 use Rattle.points.specs.declared.Point.{Point}
 use Rattle.quadtree.specs.Tree.{AreInGrid}
+use Rattle.soundness.specs.Rules.{Rules}
+use Rattle.tree_field.specs.Accounting.{accounting}
 use Rattle.tree_field.specs.Field.{targets, target_box}
 use Rattle.tree_field.specs.Lists.{TreeLists, AreTreeLists}
 
@@ -13,3 +15,7 @@ use Rattle.tree_field.specs.Lists.{TreeLists, AreTreeLists}
 abbrev pub FieldContains : Type 0
 FieldContains = (grid : ℕ) (points : List Point) (cap P : ℕ) (lists : TreeLists) → 0 < grid → 2 ≤ P → AreInGrid grid points → AreTreeLists grid points cap lists
     → All (λ t. BoxEndsContain unit (target_box points cap P lists grid (place t)) (direct_sum (place t) points)) (targets points)
+
+-- at each order, so it does as an accounting of its own cells, entries, rows and radii
+abbrev pub FieldMeetsRules : Type 0
+FieldMeetsRules = (grid : ℕ) (points : List Point) (cap P : ℕ) (lists : TreeLists) → 0 < grid → AreInGrid grid points → AreTreeLists grid points cap lists → Rules P (accounting grid points cap P lists)

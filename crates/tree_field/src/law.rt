@@ -1,5 +1,5 @@
 //! The laws of the field. Nothing here runs: each law is the contract of a function with an empty body.
-ghost use Rattle.tree_field.specs.Contains.{FieldContains};
+ghost use Rattle.tree_field.specs.Contains.{FieldContains, FieldMeetsRules};
 ghost use Rattle.tree_field.specs.Laws.{LeafRows, InnerRows, RootRows, LocalRows, RootRadius, Radii, EachListHasTree, OneTree, TranslationsAreFew};
 ghost use Rattle.tree_field.specs.Program.{ListsOfTree, NodesOfTree, LeavesOfTree, WorkOfTree};
 
@@ -9,6 +9,7 @@ ghost use Rattle.tree_field.specs.Program.{ListsOfTree, NodesOfTree, LeavesOfTre
 /// The field is an accounting of its own cells, entries, rows and radii that meets the rules of soundness: what is computed of it is what it
 /// has. Cells that don't touch are apart, and exactly one entry accounts for each target and source.
 pub fn boxes_contain_the_sum()
+    ensures rules { FieldMeetsRules }
     ensures contains { FieldContains }
 {}
 

@@ -1,5 +1,5 @@
-use Rattle.tree_field.proofs.Whole.{field_contains}
+use Rattle.tree_field.proofs.Whole.{field_contains, rules_met}
 use Rattle.tree_field.proofs.law.boxes_contain_the_sum.Goals as goal
 
 pub returns : goal.returns
-returns c = record { contains = field_contains }
+returns c = record { rules = rules_met; contains = field_contains }
