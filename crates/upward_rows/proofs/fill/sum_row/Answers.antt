@@ -30,23 +30,23 @@ use Rattle.upward_rows.proofs.fill.sum_row.Goals as goal
 use Rattle.upward_rows.proofs.fill.sum_row.Goals.{then-has_source, else-has_source}
 
 pub has_source-requires : goal.has_source-requires
-has_source-requires g c = (child_at c.args.points.now c.args.tree.now c.requires.tree c.args.n c.requires.cell c.children-children.result.now c.loop-child.child-index c.children-children.ensures c.loop-child-test.true).in_range
+has_source-requires g c = (child_at _ _ c.requires.tree _ c.requires.cell _ _ c.children-children.ensures c.loop-child-test.true).in_range
 
 pub overflow_sub-m : goal.overflow_sub-m
 overflow_sub-m g c =
-    let listed = child_with_source c.args.points.now c.args.tree.now c.requires.tree c.args.n c.requires.cell c.children-children.result.now c.loop-child.child-index c.children-children.ensures c.loop-child-test.true (sym c.has_source.ensures ∙ c.if-has_source.true) in
+    let listed = child_with_source _ _ c.requires.tree _ c.requires.cell _ _ c.children-children.ensures c.loop-child-test.true (sym c.has_source.ensures ∙ c.if-has_source.true) in
     let here = All-contains (IsBehind g.row.P c.args.points.now c.args.tree.now c.args.behind.now) (source_children c.args.tree.now c.args.n) (get_or c.children-children.result.now c.loop-child.child-index 0) c.requires.behind.each listed in
     omega (arith, here.is_behind, ap length c.cells-cells.ensures.all)
 
 pub bounds-behind-m : goal.bounds-behind-m
 bounds-behind-m g c =
-    let child = child_at c.args.points.now c.args.tree.now c.requires.tree c.args.n c.requires.cell c.children-children.result.now c.loop-child.child-index c.children-children.ensures c.loop-child-test.true in
+    let child = child_at _ _ c.requires.tree _ c.requires.cell _ _ c.children-children.ensures c.loop-child-test.true in
     let few = c.requires.behind.few in
     omega (arith, child.in_range, few, overflow_sub-m g c, ap length c.cells-cells.ensures.all)
 
 pub quadrant-requires : goal.quadrant-requires
 quadrant-requires g c =
-    let child = child_at c.args.points.now c.args.tree.now c.requires.tree c.args.n c.requires.cell c.children-children.result.now c.loop-child.child-index c.children-children.ensures c.loop-child-test.true in
+    let child = child_at _ _ c.requires.tree _ c.requires.cell _ _ c.children-children.ensures c.loop-child-test.true in
     let here = read_at c.args.tree.now c.cells-cells.result.now (get_or c.children-children.result.now c.loop-child.child-index 0) c.index-cells-m.result c.cells-cells.ensures.all child.in_range c.index-cells-m.is in
     omega (arith, child.level_is, ap (λ (s : Square). s.level) here)
 
@@ -55,14 +55,12 @@ shift_up-requires g c =
     let P = g.row.P in
     let tree = c.args.tree.now in
     let points = c.args.points.now in
-    let of_points = c.requires.tree in
     let m : ℕ = get_or c.children-children.result.now c.loop-child.child-index 0 in
-    let child = child_at c.args.points.now c.args.tree.now c.requires.tree c.args.n c.requires.cell c.children-children.result.now c.loop-child.child-index c.children-children.ensures c.loop-child-test.true in
-    let listed = child_with_source c.args.points.now c.args.tree.now c.requires.tree c.args.n c.requires.cell c.children-children.result.now c.loop-child.child-index c.children-children.ensures c.loop-child-test.true (sym c.has_source.ensures ∙ c.if-has_source.true) in
+    let child = child_at _ _ c.requires.tree _ c.requires.cell _ _ c.children-children.ensures c.loop-child-test.true in
+    let listed = child_with_source _ _ c.requires.tree _ c.requires.cell _ _ c.children-children.ensures c.loop-child-test.true (sym c.has_source.ensures ∙ c.if-has_source.true) in
     let here = All-contains (IsBehind P points tree c.args.behind.now) (source_children tree c.args.n) m c.requires.behind.each listed in
-    let small = row_small tree points of_points of_points.cap of_points.is_tree m child.in_range P (let b = order_bounds P c.requires.order in omega (arith, b)) in
-    let read_row = row_behind P points tree c.args.behind.now m child.in_range here c.requires.behind.few (length c.cells-cells.result.now) c.index-behind-m.result c.row.result.cells.now (ap length c.cells-cells.ensures.all) c.index-behind-m.is c.row.ensures of_points.cap of_points.is_tree in
-    let few = children_few c.args.points.now c.args.tree.now c.requires.tree c.args.n c.requires.cell (sym c.is_leaf.ensures ∙ c.if-is_leaf.false) in
+    let read = row_behind P points tree c.args.behind.now m child.in_range c.requires.tree (order_bounds P c.requires.order).1 here c.requires.behind.few _ _ _ (ap length c.cells-cells.ensures.all) c.index-behind-m.is c.row.ensures in
+    let few = children_few _ _ c.requires.tree _ c.requires.cell (sym c.is_leaf.ensures ∙ c.if-is_leaf.false) in
     let as_many = ap length c.children-children.ensures in
     let before : c.loop-child.child-index < 4 = omega (arith, c.loop-child-test.true, as_many, few) in
     let kept = kept_few tree c.children-children.result.now c.loop-child.child-index in
@@ -76,7 +74,7 @@ shift_up-requires g c =
         (
           omega (arith, c.loop-child.auto.row, c.clear.auto.cells, as_long),
           (
-            λ k h. subst (BoxEndsWithin (2 ^ 80)) (sym (read_row k h)) (box_wider (2 ^ 72) (2 ^ 80) _ (omega arith) (small k h)),
+            λ k h. box_wider (2 ^ 72) (2 ^ 80) _ (omega arith) (read.small k h),
             (λ k h. box_wider (2 ^ 72 * c.loop-child.child-index) (2 ^ 80) _ (omega (arith, before)) (c.loop-child.invariant.size k h), omega (arith, raised, kept, room, before)),
           ),
         ),
@@ -88,22 +86,19 @@ loop-child-preserved g c =
     let P = g.row.P in
     let tree = c.args.tree.now in
     let points = c.args.points.now in
-    let of_points = c.requires.tree in
     let behind = c.args.behind.now in
     let xs : List ℕ = c.children-children.result.now in
     let k = c.loop-child.child-index in
     let lt = c.loop-child-test.true in
     let m : ℕ = get_or xs k 0 in
-    let child = child_at c.args.points.now c.args.tree.now c.requires.tree c.args.n c.requires.cell c.children-children.result.now c.loop-child.child-index c.children-children.ensures c.loop-child-test.true in
+    let child = child_at _ _ c.requires.tree _ c.requires.cell _ _ c.children-children.ensures c.loop-child-test.true in
     let kept : List ℕ = with_source tree (take k xs) in
     elim c.if-has_source.branch [
       | then-has_source w ↦
           let source : (node_of tree m).has_source ≡ true = sym c.has_source.ensures ∙ w.if-has_source.true in
-          let listed = child_with_source c.args.points.now c.args.tree.now c.requires.tree c.args.n c.requires.cell c.children-children.result.now c.loop-child.child-index c.children-children.ensures c.loop-child-test.true source in
+          let listed = child_with_source _ _ c.requires.tree _ c.requires.cell _ _ c.children-children.ensures c.loop-child-test.true source in
           let place = All-contains (IsBehind P points tree behind) (source_children tree c.args.n) m c.requires.behind.each listed in
-          let small = row_small tree points of_points of_points.cap of_points.is_tree m child.in_range P (let b = order_bounds P c.requires.order in omega (arith, b)) in
-          let read_row : (cap : ℕ) → IsTreeOf 16 tree points cap → AreSameRows P (row_of w.row.result.cells.now) (multipole_row points cap (square_of tree m)) =
-              row_behind P points tree behind m child.in_range place c.requires.behind.few (length c.cells-cells.result.now) w.index-behind-m.result w.row.result.cells.now (ap length c.cells-cells.ensures.all) w.index-behind-m.is w.row.ensures in
+          let read = row_behind P points tree behind m child.in_range c.requires.tree (order_bounds P c.requires.order).1 place c.requires.behind.few _ _ _ (ap length c.cells-cells.ensures.all) w.index-behind-m.is w.row.ensures in
           let here : square w.index-cells-m.result ≡ square_of tree m = read_at tree c.cells-cells.result.now m w.index-cells-m.result c.cells-cells.ensures.all child.in_range w.index-cells-m.is in
           let turned : quadrant (square_of tree m) ≡ quadrant_of w.quadrant.result = ap quadrant (sym here) ∙ quadrant_is (square w.index-cells-m.result) w.quadrant.result w.quadrant.ensures in
           let more = kept_more (λ j. (node_of tree j).has_source) xs k lt source in
@@ -114,14 +109,14 @@ loop-child-preserved g c =
                 ap (λ l. row_of l j) w.row-is
                 ∙ w.shift_up.ensures.adds j h
                 ∙ ap₂ add_box (c.loop-child.invariant.row cap is j h) (
-                shifted_same P (row_of w.row.result.cells.now) (multipole_row points cap (square_of tree m)) (quadrant_of w.quadrant.result) (read_row cap is) j h
+                shifted_same P (row_of w.row.result.cells.now) (multipole_row points cap (square_of tree m)) (quadrant_of w.quadrant.result) (read.row_is cap is) j h
                 ∙ ap (λ z. shifted_up (multipole_row points cap (square_of tree m)) z j) (sym turned))
                 ∙ sym (total_row-more (shifted_row points cap tree) kept m j)
                 ∙ ap (λ l. total_row (shifted_row points cap tree) l j) (sym more);
             size = λ j h.
                 subst (λ l. BoxEndsWithin (2 ^ 72 * (k + 1)) (row_of l j)) (sym w.row-is)
                 (box_wider (2 ^ 72 * k + 2 ^ 72) (2 ^ 72 * (k + 1)) _ (omega arith)
-                (w.shift_up.ensures.size (2 ^ 72 * k) (2 ^ 72) c.loop-child.invariant.size (λ i l. subst (BoxEndsWithin (2 ^ 72)) (sym (read_row of_points.cap of_points.is_tree i l)) (small i l)) j h));
+                (w.shift_up.ensures.size (2 ^ 72 * k) (2 ^ 72) c.loop-child.invariant.size read.small j h));
             work = w.work-is ∙ raised_by (length (with_source tree (take (k + 1) xs))) w.shift_up.new.work c.args.work.now
                 (omega (arith, w.shift_up.ensures.translations, ap (λ (v : Counts). v.translations) before, longer))
                 (w.shift_up.ensures.pairs ∙ ap (λ (v : Counts). v.pairs) before);
@@ -169,4 +164,4 @@ returns-after-loop-child-clause-work g c =
     all_kept tree c.children-children.result.now c.loop-child.child-index (omega (arith, c.loop-child-test.false))
     ∙ ap (with_source tree) c.children-children.ensures
     ∙ source_children_are tree c.args.points.now c.requires.tree.cap c.requires.tree.is_tree c.args.n c.requires.cell)
-    ∙ shifts_of_cell c.args.points.now c.args.tree.now c.requires.tree c.args.n c.requires.cell (sym c.is_leaf.ensures ∙ c.if-is_leaf.false))
+    ∙ shifts_of_cell _ _ c.requires.tree _ c.requires.cell (sym c.is_leaf.ensures ∙ c.if-is_leaf.false))
