@@ -46,7 +46,8 @@ fn sum_row<const P: usize>(
         for child in children {
             let m = *child as usize;
             if tree.has_source(m) {
-                shift_up::<P>(behind[m - first].row(), cells[m].quadrant(), row, work);
+                let q = cells[m].quadrant();
+                shift_up::<P>(behind[m - first].row(), q, row, work);
             }
         }
     }

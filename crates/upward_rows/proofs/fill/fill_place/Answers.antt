@@ -22,7 +22,7 @@ make_place-requires g c =
     let few = order_bounds P c.requires.order in
     let whole = c.split_at_mut-front.ensures.back_len ∙ c.requires.len in
     let each = All-from_members (IsBehind P points tree behind) (source_children tree n) (λ m listed.
-        let child = source_child_is points tree c.requires.tree n c.requires.cell m listed in
-        let held = All-contains (λ m. (m < length places) × IsMultipolePlace P points tree m (place_at places m)) (source_children tree n) m c.requires.quarters listed in
-        place_behind P points tree behind m child.in_range n places whole child.behind c.split_at_mut-front.ensures.by_index.1 held.1) in
+    let child = source_child_is points tree c.requires.tree n c.requires.cell m listed in
+    let held = All-contains (λ m. (m < length places) × IsMultipolePlace P points tree m (place_at places m)) (source_children tree n) m c.requires.quarters listed in
+    place_behind P points tree behind m child.in_range n places whole child.behind c.split_at_mut-front.ensures.by_index.1 held.1) in
     (omega (arith, few), (c.requires.order, (c.requires.tree, (c.requires.cell, (record { few = omega (arith, whole); each = each }, c.requires.room)))))

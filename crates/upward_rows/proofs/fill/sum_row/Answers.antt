@@ -1,7 +1,5 @@
 -- One child more.
-use Rattle.std.proofs.Common.{◌≡◌, ℕ, ◌+◌, ◌*◌, ◌^◌, ◌<◌, ◌≤◌, List, [], ◌∷◌, length, get_or, take, true, ap, ap₂, lit<, sym, subst, ◌∙◌, arith, length-append}
-use Rattle.std.proofs.lemmas.List.{take_all}
-use Rattle.std.proofs.lemmas.List.Elements.{All-contains}
+use Rattle.std.proofs.Common.{◌≡◌, ℕ, ◌+◌, ◌*◌, ◌^◌, ◌<◌, List, [], ◌∷◌, length, get_or, take, true, ap, ap₂, lit<, sym, subst, ◌∙◌, arith, length-append}
 use Rattle.exact_math.specs.Ends.{BoxEndsWithin, add_box}
 use Rattle.exact_math.proofs.Orders.{order_bounds}
 use Rattle.complex_box.specs.Counts.{Counts}
@@ -10,20 +8,17 @@ use Rattle.cell_lists.proofs.TreeNumbers.{read_at}
 use Rattle.cell_name.specs.Cell.{square}
 use Rattle.cell_name.specs.Square.{Square}
 use Rattle.field_basis.specs.Counts.{translated}
-use Rattle.field_basis.specs.FieldPlaces.{AreSameRows}
-use Rattle.quadtree.specs.TreeModel.{TreeModel, square_of, node_of, IsTreeOf}
+use Rattle.quadtree.specs.TreeModel.{square_of, node_of}
 use Rattle.row_recursions.specs.Cells.{quadrant_of}
 use Rattle.row_recursions.specs.Rows.{row_of, shifted_up}
 use Rattle.soundness.specs.Computed.{total_row}
 use Rattle.soundness.specs.Squares.{quadrant}
 use Rattle.tree_field.specs.Field.{leaf_row, multipole_row}
-use Rattle.tree_field.specs.Program.{with_source, source_children}
-use Rattle.tree_field.proofs.SourceChildren.{source_children_are}
-use Rattle.upward_rows.specs.Behind.{IsBehind}
+use Rattle.tree_field.specs.Program.{with_source}
 use Rattle.upward_rows.proofs.Behind.{row_behind}
-use Rattle.upward_rows.proofs.Children.{child_at, child_with_source, children_few, kept_few, shifts_of_cell}
+use Rattle.upward_rows.proofs.Children.{child_at, child_behind, children_few, kept_few, kept_whole, shifts_of_cell}
 use Rattle.upward_rows.proofs.Counts.{raised_by}
-use Rattle.upward_rows.proofs.FieldRows.{shifted_row, row_of_inner, row_small}
+use Rattle.upward_rows.proofs.FieldRows.{shifted_row, row_of_inner}
 use Rattle.upward_rows.proofs.Totals.{total_row-more, shifted_same}
 use Rattle.upward_rows.proofs.Trees.{quadrant_is, kept_more, kept_same, row_of_leaf}
 use Rattle.upward_rows.proofs.fill.sum_row.Goals as goal
@@ -34,8 +29,7 @@ has_source-requires g c = (child_at _ _ c.requires.tree _ c.requires.cell _ _ c.
 
 pub overflow_sub-m : goal.overflow_sub-m
 overflow_sub-m g c =
-    let listed = child_with_source _ _ c.requires.tree _ c.requires.cell _ _ c.children-children.ensures c.loop-child-test.true (sym c.has_source.ensures ∙ c.if-has_source.true) in
-    let here = All-contains (IsBehind g.row.P c.args.points.now c.args.tree.now c.args.behind.now) (source_children c.args.tree.now c.args.n) (get_or c.children-children.result.now c.loop-child.child-index 0) c.requires.behind.each listed in
+    let here = child_behind _ _ c.requires.tree _ c.requires.cell _ _ c.children-children.ensures c.loop-child-test.true _ _ c.requires.behind (sym c.has_source.ensures ∙ c.if-has_source.true) in
     omega (arith, here.is_behind, ap length c.cells-cells.ensures.all)
 
 pub bounds-behind-m : goal.bounds-behind-m
@@ -44,8 +38,8 @@ bounds-behind-m g c =
     let few = c.requires.behind.few in
     omega (arith, child.in_range, few, overflow_sub-m g c, ap length c.cells-cells.ensures.all)
 
-pub quadrant-requires : goal.quadrant-requires
-quadrant-requires g c =
+pub quadrant-q-requires : goal.quadrant-q-requires
+quadrant-q-requires g c =
     let child = child_at _ _ c.requires.tree _ c.requires.cell _ _ c.children-children.ensures c.loop-child-test.true in
     let here = read_at c.args.tree.now c.cells-cells.result.now (get_or c.children-children.result.now c.loop-child.child-index 0) c.index-cells-m.result c.cells-cells.ensures.all child.in_range c.index-cells-m.is in
     omega (arith, child.level_is, ap (λ (s : Square). s.level) here)
@@ -54,12 +48,9 @@ pub shift_up-requires : goal.shift_up-requires
 shift_up-requires g c =
     let P = g.row.P in
     let tree = c.args.tree.now in
-    let points = c.args.points.now in
-    let m : ℕ = get_or c.children-children.result.now c.loop-child.child-index 0 in
     let child = child_at _ _ c.requires.tree _ c.requires.cell _ _ c.children-children.ensures c.loop-child-test.true in
-    let listed = child_with_source _ _ c.requires.tree _ c.requires.cell _ _ c.children-children.ensures c.loop-child-test.true (sym c.has_source.ensures ∙ c.if-has_source.true) in
-    let here = All-contains (IsBehind P points tree c.args.behind.now) (source_children tree c.args.n) m c.requires.behind.each listed in
-    let read = row_behind P points tree c.args.behind.now m child.in_range c.requires.tree (order_bounds P c.requires.order).1 here c.requires.behind.few _ _ _ (ap length c.cells-cells.ensures.all) c.index-behind-m.is c.row.ensures in
+    let here = child_behind _ _ c.requires.tree _ c.requires.cell _ _ c.children-children.ensures c.loop-child-test.true _ _ c.requires.behind (sym c.has_source.ensures ∙ c.if-has_source.true) in
+    let read = row_behind P _ _ _ _ child.in_range c.requires.tree (order_bounds P c.requires.order).1 here c.requires.behind.few _ _ _ (ap length c.cells-cells.ensures.all) c.index-behind-m.is c.row.ensures in
     let few = children_few _ _ c.requires.tree _ c.requires.cell (sym c.is_leaf.ensures ∙ c.if-is_leaf.false) in
     let as_many = ap length c.children-children.ensures in
     let before : c.loop-child.child-index < 4 = omega (arith, c.loop-child-test.true, as_many, few) in
@@ -86,7 +77,6 @@ loop-child-preserved g c =
     let P = g.row.P in
     let tree = c.args.tree.now in
     let points = c.args.points.now in
-    let behind = c.args.behind.now in
     let xs : List ℕ = c.children-children.result.now in
     let k = c.loop-child.child-index in
     let lt = c.loop-child-test.true in
@@ -96,11 +86,10 @@ loop-child-preserved g c =
     elim c.if-has_source.branch [
       | then-has_source w ↦
           let source : (node_of tree m).has_source ≡ true = sym c.has_source.ensures ∙ w.if-has_source.true in
-          let listed = child_with_source _ _ c.requires.tree _ c.requires.cell _ _ c.children-children.ensures c.loop-child-test.true source in
-          let place = All-contains (IsBehind P points tree behind) (source_children tree c.args.n) m c.requires.behind.each listed in
-          let read = row_behind P points tree behind m child.in_range c.requires.tree (order_bounds P c.requires.order).1 place c.requires.behind.few _ _ _ (ap length c.cells-cells.ensures.all) w.index-behind-m.is w.row.ensures in
+          let place = child_behind _ _ c.requires.tree _ c.requires.cell _ _ c.children-children.ensures c.loop-child-test.true _ _ c.requires.behind source in
+          let read = row_behind P _ _ _ _ child.in_range c.requires.tree (order_bounds P c.requires.order).1 place c.requires.behind.few _ _ _ (ap length c.cells-cells.ensures.all) w.index-behind-m.is w.row.ensures in
           let here : square w.index-cells-m.result ≡ square_of tree m = read_at tree c.cells-cells.result.now m w.index-cells-m.result c.cells-cells.ensures.all child.in_range w.index-cells-m.is in
-          let turned : quadrant (square_of tree m) ≡ quadrant_of w.quadrant.result = ap quadrant (sym here) ∙ quadrant_is (square w.index-cells-m.result) w.quadrant.result w.quadrant.ensures in
+          let turned : quadrant (square_of tree m) ≡ quadrant_of w.quadrant-q.result = ap quadrant (sym here) ∙ quadrant_is (square w.index-cells-m.result) w.quadrant-q.result w.quadrant-q.ensures in
           let more = kept_more (λ j. (node_of tree j).has_source) xs k lt source in
           let longer = ap length more ∙ length-append kept (m ∷ []) in
           let before = c.loop-child.invariant.work in
@@ -109,7 +98,7 @@ loop-child-preserved g c =
                 ap (λ l. row_of l j) w.row-is
                 ∙ w.shift_up.ensures.adds j h
                 ∙ ap₂ add_box (c.loop-child.invariant.row cap is j h) (
-                shifted_same P (row_of w.row.result.cells.now) (multipole_row points cap (square_of tree m)) (quadrant_of w.quadrant.result) (read.row_is cap is) j h
+                shifted_same P (row_of w.row.result.cells.now) (multipole_row points cap (square_of tree m)) (quadrant_of w.quadrant-q.result) (read.row_is cap is) j h
                 ∙ ap (λ z. shifted_up (multipole_row points cap (square_of tree m)) z j) (sym turned))
                 ∙ sym (total_row-more (shifted_row points cap tree) kept m j)
                 ∙ ap (λ l. total_row (shifted_row points cap tree) l j) (sym more);
@@ -140,28 +129,15 @@ returns-then-is_leaf-clause-row g c = λ cap is k h.
     ∙ sym (row_of_leaf tree points cap is c.args.n c.requires.cell (sym c.is_leaf.ensures ∙ c.if-is_leaf.true) k)
 
 -- ---- another cell
-all_kept : (tree : TreeModel) (xs : List ℕ) (k : ℕ) → length xs ≤ k → with_source tree (take k xs) ≡ with_source tree xs
-all_kept tree xs k le = ap (with_source tree) (take_all k xs le)
-
 pub returns-after-loop-child-clause-row : goal.returns-after-loop-child-clause-row
 returns-after-loop-child-clause-row g c = λ cap is k h.
     let tree = c.args.tree.now in
     let points = c.args.points.now in
-    let n = c.args.n in
     c.loop-child.invariant.row cap is k h
-    ∙ ap (λ l. total_row (shifted_row points cap tree) l k) (
-    all_kept tree c.children-children.result.now c.loop-child.child-index (omega (arith, c.loop-child-test.false))
-    ∙ ap (with_source tree) c.children-children.ensures
-    ∙ source_children_are tree points cap is n c.requires.cell)
-    ∙ row_of_inner tree points c.requires.tree cap is n c.requires.cell (sym c.is_leaf.ensures ∙ c.if-is_leaf.false) k
+    ∙ ap (λ l. total_row (shifted_row points cap tree) l k) (kept_whole _ _ c.requires.tree _ c.requires.cell c.children-children.result.now c.loop-child.child-index c.children-children.ensures (omega (arith, c.loop-child-test.false)))
+    ∙ row_of_inner tree points c.requires.tree cap is c.args.n c.requires.cell (sym c.is_leaf.ensures ∙ c.if-is_leaf.false) k
 
 pub returns-after-loop-child-clause-work : goal.returns-after-loop-child-clause-work
 returns-after-loop-child-clause-work g c =
-    let tree = c.args.tree.now in
-    c.loop-child.invariant.work
-    ∙ ap (λ (count : ℕ). translated count c.args.work.now) (
-    ap length (
-    all_kept tree c.children-children.result.now c.loop-child.child-index (omega (arith, c.loop-child-test.false))
-    ∙ ap (with_source tree) c.children-children.ensures
-    ∙ source_children_are tree c.args.points.now c.requires.tree.cap c.requires.tree.is_tree c.args.n c.requires.cell)
-    ∙ shifts_of_cell _ _ c.requires.tree _ c.requires.cell (sym c.is_leaf.ensures ∙ c.if-is_leaf.false))
+    let kept = kept_whole _ _ c.requires.tree _ c.requires.cell c.children-children.result.now c.loop-child.child-index c.children-children.ensures (omega (arith, c.loop-child-test.false)) in
+    c.loop-child.invariant.work ∙ ap (λ (count : ℕ). translated count c.args.work.now) (ap length kept ∙ shifts_of_cell _ _ c.requires.tree _ c.requires.cell (sym c.is_leaf.ensures ∙ c.if-is_leaf.false))

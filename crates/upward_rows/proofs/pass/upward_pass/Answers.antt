@@ -30,8 +30,8 @@ fill_place-requires g c =
     let few = order_bounds P c.requires.order in
     let as_many : length places ≡ size tree = omega (arith, c.loop-n.auto.places, c.requires.len) in
     let quarters = All-from_members (λ m. (m < length places) × IsMultipolePlace P points tree m (place_at places m)) (source_children tree n) (λ m listed.
-        let child = source_child_is points tree c.requires.tree n lt m listed in
-        (omega (arith, child.in_range, as_many), c.loop-n.invariant.rows m (omega (arith, child.behind)) child.in_range)) in
+    let child = source_child_is points tree c.requires.tree n lt m listed in
+    (omega (arith, child.in_range, as_many), c.loop-n.invariant.rows m (omega (arith, child.behind)) child.in_range)) in
     (omega (arith, few), (c.requires.order, (c.requires.tree, (lt, (as_many, (quarters, omega (arith, c.new-work.ensures.translations)))))))
 
 pub loop-n-preserved : goal.loop-n-preserved
@@ -44,7 +44,7 @@ loop-n-preserved g c =
     let filled = c.fill_place.new.places in
     let inside : n < length filled = omega (arith, lt, c.fill_place.auto.places, c.loop-n.auto.places, c.requires.len) in
     let taken : c.set_translations.new.self.translations ≡ shifts_into points tree n =
-        omega (arith, c.set_translations.ensures.translations, c.translations.ensures, ap (λ (w : Counts). w.translations) c.fill_place.ensures.work, c.new-work.ensures.translations) in
+    omega (arith, c.set_translations.ensures.translations, c.translations.ensures, ap (λ (w : Counts). w.translations) c.fill_place.ensures.work, c.new-work.ensures.translations) in
     let row = c.set_translations.ensures.row ∙ ap (λ (p : PlaceModel). p.row) (get_or_default filled n c.index-places-n.result no_place inside) in
     record {
       rows = λ m le last.
