@@ -1,5 +1,5 @@
 -- One place more.
-use Rattle.std.proofs.Common.{inl, inr, ◌≡◌, ◌-◌, ◌<◌, length, ap, ◌∙◌, sym, subst, arith}
+use Rattle.std.proofs.Common.{inl, inr, ◌≡◌, ℕ, ◌-◌, ◌<◌, length, ap, ◌∙◌, sym, subst, arith}
 use Rattle.std.specs.Prelude.{sum_by, slice_set}
 use Rattle.std.specs.List.{range_with_len}
 use Rattle.std.proofs.lemmas.Bool.{cases_lt}
@@ -46,27 +46,30 @@ loop-n-preserved g c =
     let taken : c.set_translations.new.self.translations ≡ shifts_into points tree n =
     omega (arith, c.set_translations.ensures.translations, c.translations.ensures, ap (λ (w : Counts). w.translations) c.fill_place.ensures.work, c.new-work.ensures.translations) in
     let row = c.set_translations.ensures.row ∙ ap (λ (p : PlaceModel). p.row) (get_or_default filled n c.index-places-n.result no_place inside) in
+    let kept : (m : ℕ) → n < m → place_at (slice_set filled n c.set_translations.new.self) m ≡ place_at c.loop-n.places m =
+    λ m after. get_or-set_other filled n m c.set_translations.new.self no_place (omega (arith, after)) ∙ c.fill_place.ensures.others.others m (omega (arith, after)) in
+    let own : place_at (slice_set filled n c.set_translations.new.self) n ≡ c.set_translations.new.self = get_or-set_same filled n c.set_translations.new.self no_place inside in
     record {
       rows = λ m le last.
           elim (cases_lt n m) [
             | inl after ↦
-                subst (IsMultipolePlace P points tree m) (sym (get_or-set_other filled n m c.set_translations.new.self no_place (omega (arith, after)) ∙ c.fill_place.ensures.others.others m (omega (arith, after))))
+                subst (IsMultipolePlace P points tree m) (sym (kept m after))
                 (c.loop-n.invariant.rows m (omega (arith, after)) last)
             | inr early ↦
                 let e : n ≡ m = omega (arith, le, early) in
                 subst (λ j. IsMultipolePlace P points tree j (place_at (slice_set filled n c.set_translations.new.self) j)) e
-                (subst (IsMultipolePlace P points tree n) (sym (get_or-set_same filled n c.set_translations.new.self no_place inside))
+                (subst (IsMultipolePlace P points tree n) (sym own)
                 (record { row_is = λ cap is k h. ap (λ l. row_of l k) row ∙ c.fill_place.ensures.row.row_is cap is k h }))
           ];
       translations = λ m le last.
           elim (cases_lt n m) [
             | inl after ↦
-                ap (λ (p : PlaceModel). p.translations) (get_or-set_other filled n m c.set_translations.new.self no_place (omega (arith, after)) ∙ c.fill_place.ensures.others.others m (omega (arith, after)))
+                ap (λ (p : PlaceModel). p.translations) (kept m after)
                 ∙ c.loop-n.invariant.translations m (omega (arith, after)) last
             | inr early ↦
                 let e : n ≡ m = omega (arith, le, early) in
                 subst (λ j. (place_at (slice_set filled n c.set_translations.new.self) j).translations ≡ shifts_into points tree j) e
-                (ap (λ (p : PlaceModel). p.translations) (get_or-set_same filled n c.set_translations.new.self no_place inside) ∙ taken)
+                (ap (λ (p : PlaceModel). p.translations) own ∙ taken)
           ];
     }
 
