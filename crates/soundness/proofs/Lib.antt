@@ -1,6 +1,7 @@
 -- What the proofs of this crate rest on.
 pub mod Boxes
 pub mod Choices
+pub mod Counts
 pub mod Entries
 pub mod Example
 pub mod FarExample

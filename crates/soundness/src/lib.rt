@@ -7,13 +7,15 @@
 //! tree was made, how many points its leaves may have, and which cells touch, no rule says.
 #![tactic(auto)]
 
-ghost use Rattle.soundness.specs.Soundness.{RulesImplyContainment};
+ghost use Rattle.soundness.specs.Soundness.{RulesImplyContainment, RulesImplyCounts};
 
-/// Where the rules hold, the box of each target contains the direct sum of all sources at its place, at every order from 2 on.
+/// Where the rules hold, the box of each target contains the direct sum of all sources at its place, at every order from 2 on, and so do
+/// counts of 10^-12 that enclose the box.
 ///
 /// Multipole rows contain the moments of the sources under their nodes, from the leaves up. Local rows contain the fields of the cut terms of
 /// the V and X entries on the path from the root, and the radii bound what those terms lose. At a leaf come the W entries, whose
 /// rows are evaluated, and the U entries, whose pairs are summed; together the entries have each source once.
 pub fn rules_imply_containment()
     ensures sound { RulesImplyContainment }
+    ensures counts { RulesImplyCounts }
 {}
