@@ -26,7 +26,7 @@ use Rattle.quadtree.specs.TreeModel.{TreeModel, size, square_of, node_of}
 use Rattle.row_recursions.proofs.Geometry.{pairs_of_cells, far_places}
 use Rattle.quadtree.proofs.Lists.{range_below}
 use Rattle.downward_rows.specs.Entries.{IsPairAt, IsFarPosition, IsFarCell, HasFarEntries}
-use Rattle.tree_rows.specs.Trees.{IsTreeWithLists}
+use Rattle.field_basis.specs.Trees.{IsTreeWithLists}
 
 module _ (tree : TreeModel) (lists : EntryListsModel) (points : List Point) (has : IsTreeWithLists points tree lists) (n : ℕ) (lt : n < size tree) where
   the_list : (letter : Letter) → IsListOf tree points has.tree_is.cap letter n (list_at (lists_of lists letter) n)
