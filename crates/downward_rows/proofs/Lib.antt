@@ -9,6 +9,7 @@ pub mod FilledRows
 pub mod Lists
 pub mod Losses
 pub mod MadePlaces
+pub mod PlacesSoFar
 pub mod SameRows
 pub mod Totals
 pub mod Translations

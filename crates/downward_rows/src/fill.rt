@@ -94,6 +94,8 @@ pub fn fill_place<const P: usize>(
     ensures others { OthersStay n places.old places.new }
     ensures work { work.new ≡ translated (translations_into basis.now n) work.old }
 {
+    // what the basis says of its tree: a parent stands before its children
+    let _ = &basis.tree;
     let (above, rest) = places.split_at_mut(n);
     make_place(basis, up, n, above, &mut rest[0], work);
 }

@@ -1,7 +1,8 @@
-use Rattle.std.proofs.Common.{ℕ, ◌≡◌, ◌+◌, ◌*◌, ◌^◌, ◌<◌, ◌≤◌, List, length, get_or, take, ap, ◌∙◌, subst, sym, arith}
+use Rattle.std.proofs.Common.{ℕ, ◌≡◌, ◌+◌, ◌*◌, ◌^◌, ◌<◌, ◌≤◌, List, length, get_or, take, ap, ◌∙◌, subst, sym, arith, lit<}
 use Rattle.std.specs.Prelude.{All}
 use Rattle.std.proofs.Math.Seq.{take-length}
 use Rattle.exact_math.specs.Ends.{add_box}
+use Rattle.exact_math.proofs.Orders.{order_bounds}
 use Rattle.cell_lists.specs.ListAt.{list_at}
 use Rattle.field_sizes.proofs.RowTotals.{wider}
 use Rattle.letters.specs.declared.Letter.TheVariants.{V}
@@ -32,36 +33,37 @@ loop-c-init g c = record {
   work = none_translated c.args.work.now;
 }
 
-pub add_v_entry-requires-clause-entry : goal.add_v_entry-requires-clause-entry
-add_v_entry-requires-clause-entry g c =
+pub add_v_entry-requires : goal.add_v_entry-requires
+add_v_entry-requires g c =
     let b = c.args.basis.now in
     let s : IsBasis g.row.P b = subst (IsBasis g.row.P) c.basis.view_is c.basis.invariant in
     let same = c.v_list-c-items.ensures ∙ ap (λ b. list_at b.lists.v c.args.n) c.basis.view_is in
+    let entries = far_entries b.tree b.lists b.points s.tree_is c.args.n c.requires.cell in
     let Q : List ℕ → Type 0 = λ l. All (IsPairAt b.tree c.args.n) l in
-    subst Q (sym same) (far_entries b.tree b.lists b.points s.tree_is c.args.n c.requires.cell).pairs c.loop-c.c-index 0 c.loop-c-test.true
-
-pub add_v_entry-requires-clause-row : goal.add_v_entry-requires-clause-row
-add_v_entry-requires-clause-row g c =
-    let b = c.args.basis.now in
-    let same = c.v_list-c-items.ensures ∙ ap (λ b. list_at b.lists.v c.args.n) c.basis.view_is in
-    let Q : List ℕ → Type 0 = λ l. AreMultipolePlaces g.row.P b.points b.tree c.args.up.now l in
-    subst Q (sym same) c.requires.rows c.loop-c.c-index 0 c.loop-c-test.true
-
-pub add_v_entry-requires-clause-sum : goal.add_v_entry-requires-clause-sum
-add_v_entry-requires-clause-sum g c =
-    let b = c.args.basis.now in
-    let s : IsBasis g.row.P b = subst (IsBasis g.row.P) c.basis.view_is c.basis.invariant in
-    let same = c.v_list-c-items.ensures ∙ ap (λ b. list_at b.lists.v c.args.n) c.basis.view_is in
-    let short = (far_entries b.tree b.lists b.points s.tree_is c.args.n c.requires.cell).short in
-    wider g.row.P (2 ^ 90 + 3 * 2 ^ 79 * c.loop-c.c-index) (2 ^ 110) (row_of c.loop-c.into) (omega (arith, short, ap (λ l. length l) same, c.loop-c-test.true)) c.loop-c.invariant.size
-
-pub add_v_entry-requires-clause-room : goal.add_v_entry-requires-clause-room
-add_v_entry-requires-clause-room g c =
-    let b = c.args.basis.now in
-    let s : IsBasis g.row.P b = subst (IsBasis g.row.P) c.basis.view_is c.basis.invariant in
-    let same = c.v_list-c-items.ensures ∙ ap (λ b. list_at b.lists.v c.args.n) c.basis.view_is in
-    let short = (far_entries b.tree b.lists b.points s.tree_is c.args.n c.requires.cell).short in
-    omega (arith, short, ap (λ l. length l) same, c.loop-c-test.true, c.requires.room, ap (λ w. w.translations) c.loop-c.invariant.work)
+    let R : List ℕ → Type 0 = λ l. AreMultipolePlaces g.row.P b.points b.tree c.args.up.now l in
+    let small : c.loop-c.c-index < 27 = omega (arith, entries.short, ap (λ l. length l) same, c.loop-c-test.true) in
+    let few = order_bounds g.row.P s.order in (
+      lit< tt,
+      (
+        omega (arith, few),
+        (
+          c.requires.cell,
+          (
+            subst Q (sym same) entries.pairs c.loop-c.c-index 0 c.loop-c-test.true,
+            (
+              subst R (sym same) c.requires.rows c.loop-c.c-index 0 c.loop-c-test.true,
+              (
+                c.loop-c.invariant.len,
+                (
+                  wider g.row.P (2 ^ 90 + 3 * 2 ^ 79 * c.loop-c.c-index) (2 ^ 110) (row_of c.loop-c.into) (omega (arith, small)) c.loop-c.invariant.size,
+                  omega (arith, small, c.requires.room, ap (λ w. w.translations) c.loop-c.invariant.work),
+                ),
+              ),
+            ),
+          ),
+        ),
+      ),
+    )
 
 pub loop-c-preserved : goal.loop-c-preserved
 loop-c-preserved g c =
