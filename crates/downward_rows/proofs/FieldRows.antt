@@ -1,14 +1,12 @@
 -- What the entries of a cell add, by numbers, is what those of the field add.
-use Rattle.std.proofs.Common.{ℕ, ◌+◌, ◌-◌, ◌*◌, ◌<◌, ◌≡◌, List, length, Bool, true, false, ◌&&◌, Some, refl, sym, ap, ap₂, ◌∙◌, subst, arith}
-use Rattle.std.specs.Prelude.{All, slice_get, sum_by}
-use Rattle.std.specs.List.{range_with_len}
+use Rattle.std.proofs.Common.{ℕ, ◌+◌, ◌-◌, ◌*◌, ◌<◌, ◌≡◌, List, [], ◌∷◌, map, filter, true, false, refl, sym, ap, ap₂, ◌∙◌, subst}
+use Rattle.std.specs.Prelude.{All, Contains, sum_by}
 use Rattle.std.proofs.lemmas.Bool.{false≢true}
 use Rattle.std.proofs.lemmas.List.Elements.{All-contains}
-use Rattle.std.proofs.lemmas.Option.{slice_get_within}
 use Rattle.exact_math.specs.Ends.{BoxEnds, zero_box, add_box}
 use Rattle.exact_math.specs.Gaussian.{Gaussian}
 use Rattle.exact_math.specs.Within.{GaussianBeyond}
-use Rattle.cell_name.specs.Square.{Square, side, holds_test, parent}
+use Rattle.cell_name.specs.Square.{Square, side, parent}
 use Rattle.cell_lists.specs.ListAt.{list_at}
 use Rattle.letters.specs.declared.Letter.TheVariants.{V, X}
 use Rattle.kernel_table.specs.Kernel.{kernel_entry}
@@ -18,24 +16,24 @@ use Rattle.points.specs.declared.Strength.{Strength}
 use Rattle.points.specs.declared.Strength.TheVariants.{Pole, Dipole, Nothing}
 use Rattle.points.specs.Strength.{pole_part, dipole_part, acts}
 use Rattle.points.specs.declared.Point.{Point}
-use Rattle.quadtree.proofs.Distinct.{Contains-into_filter}
-use Rattle.quadtree.proofs.Lists.{Contains-range}
-use Rattle.quadtree.specs.Members.{holds_point, holds_position, members_of}
+use Rattle.quadtree.proofs.Limits.{in_grid}
+use Rattle.quadtree.proofs.Lists.{image_of}
 use Rattle.quadtree.specs.TreeModel.{size, square_of, node_of}
 use Rattle.row_recursions.proofs.RowSizes.{power_positive}
 use Rattle.row_recursions.specs.Geometry.{sides_between}
 use Rattle.row_recursions.specs.Rows.{converted, far_source}
 use Rattle.soundness.specs.Computed.{total_row, total_box, far_coefficients_in}
-use Rattle.soundness.specs.Squares.{offset, quadrant}
+use Rattle.soundness.specs.Squares.{IsFarFrom, offset, quadrant}
 use Rattle.tree_field.proofs.LocalRows.{local_row-below, local_radius-below}
-use Rattle.tree_field.proofs.Sums.{total_box-map, sum_by-map}
-use Rattle.tree_field.specs.Field.{is_source_in, sources_in, multipole_row, converted_rows, far_rows, local_row, local_radius, pair_radius_in, single_radius_in}
+use Rattle.tree_field.proofs.Program.{nodes_of_tree}
+use Rattle.tree_field.proofs.Sums.{total_box-map, total_box-fewer, sum_by-map}
+use Rattle.tree_field.specs.Field.{sources_in, multipole_row, converted_rows, far_rows, local_row, local_radius, pair_radius_in, single_radius_in}
 use Rattle.tree_field.specs.Lists.{TreeLists, AreTreeLists}
 use Rattle.field_basis.specs.Basis.{BasisModel, IsBasis}
 use Rattle.field_basis.specs.FieldPlaces.{AreSameRows}
-use Rattle.downward_rows.specs.Entries.{far_of, far_row_at, v_rows, x_entry, x_rows, row_below, IsFarCell, IsFarPosition}
+use Rattle.field_basis.specs.Targets.{no_point, point_at}
+use Rattle.downward_rows.specs.Entries.{far_row_at, v_rows, x_entry, x_rows, row_below, IsFarCell, IsFarPosition}
 use Rattle.downward_rows.specs.Radii.{v_losses, x_losses}
-use Rattle.downward_rows.proofs.FarTotals.{positions_total}
 use Rattle.downward_rows.proofs.Lists.{entries_by_number}
 use Rattle.downward_rows.proofs.SameRows.{shifted_down_same}
 
@@ -46,36 +44,33 @@ nothing_of_target (Pole re im) b z e far l = absurd (false≢true (sym e))
 nothing_of_target (Dipole re im) b z e far l = absurd (false≢true (sym e))
 nothing_of_target Nothing b z e far l = sym (no_coefficients (side b) (b.grid - b.level) (offset b z) (offset b z) (power_positive (b.grid - b.level)) refl refl far l)
 
-and_second : (u v : Bool) → (u && v) ≡ true → v ≡ true
-and_second true v e = e
-and_second false v e = absurd (false≢true e)
+all_kept : {X : Type 0} (xs : List X) → filter (λ x. true) xs ≡ xs
+all_kept [] = refl
+all_kept (x ∷ xs) = ap (λ l. x ∷ l) (all_kept xs)
 
-first_false : (u v : Bool) → v ≡ true → (u && v) ≡ false → u ≡ false
-first_false true v t e = absurd (false≢true (sym e ∙ t))
-first_false false v t e = refl
-
--- what the points of a far cell add is what its sources add
-far_total : (points : List Point) (b c : Square) → All (IsFarPosition points b) (members_of points c) → (k : ℕ) → total_row (far_row_at points b) (members_of points c) k ≡ total_row (far_coefficients_in b) (sources_in points c) k
-far_total points b c far k =
-    positions_total (λ o. far_of b o k) (holds_point c) (λ p. far_coefficients_in b p k) (is_source_in c) (slice_get points) 0 points
-    (λ i x e. record {
-      kept = and_second (is_source x.kind) (holds_test c x.x x.y);
-      same = λ t. refl;
-      none = λ held out. nothing_of_target (strength x.kind) b (place x) (first_false (is_source x.kind) (holds_test c x.x x.y) held out) ((far_at i x e held).far x e) k;
-    })
-    (λ i lt. ap (slice_get points) (omega arith)) zero_box
+-- of some points far from a cell, those that are sources add what all do
+sources_add : (points : List Point) (b : Square) (members : List ℕ) → All (IsFarPosition points b) members → (l : ℕ)
+    → total_row (far_row_at points b) members l ≡ total_row (far_coefficients_in b) (filter (λ p. is_source p.kind) (map (point_at points) members)) l
+sources_add points b members far l =
+    let here : List Point = map (point_at points) members in
+    let f : Point → BoxEnds = λ p. far_coefficients_in b p l in
+    sym (total_box-map f (point_at points) members)
+    ∙ ap (total_box f) (sym (all_kept here))
+    ∙ total_box-fewer f (λ p. true) (λ p. is_source p.kind) here (λ p h t. refl)
+    (λ p h t out. nothing_of_target (strength p.kind) b (place p) out (far_at p h) l)
   where
-    far_at : (i : ℕ) (x : Point) → slice_get points i ≡ Some x → holds_test c x.x x.y ≡ true → IsFarPosition points b i
-    far_at i x e held = All-contains (IsFarPosition points b) (members_of points c) i far
-        (Contains-into_filter (λ j. holds_position c points j) (range_with_len 0 (length points)) i (Contains-range (length points) i (slice_get_within points i x e)) (ap (holds_point c) e ∙ held))
+    far_at : (p : Point) → Contains (map (point_at points) members) p → GaussianBeyond (3 * side b) (offset b (place p))
+    far_at p h =
+        let i = image_of (point_at points) members p h in
+        let Q : Point → Type 0 = λ q. IsFarFrom b (place q) in
+        subst Q i.gives (All-contains (IsFarPosition points b) members i.source far i.listed).far
 
 -- ---- by numbers
 module _ (P : ℕ) (b : BasisModel) (is : IsBasis P b) (n : ℕ) (lt : n < size b.tree) where
   pub far_cell_is : (c : ℕ) → IsFarCell b.tree b.points (square_of b.tree n) c → (k : ℕ) → total_row (far_row_at b.points (square_of b.tree n)) (node_of b.tree c).members k ≡ x_entry b n c k
   far_cell_is c far k =
-      let e = (is.is_tree.nodes_are c far.in_range).members_are in
-      let Q : List ℕ → Type 0 = λ l. All (IsFarPosition b.points (square_of b.tree n)) l in
-      ap (λ l. total_row (far_row_at b.points (square_of b.tree n)) l k) e ∙ far_total b.points (square_of b.tree n) (square_of b.tree c) (subst Q e far.each) k
+      sources_add b.points (square_of b.tree n) (node_of b.tree c).members far.each k
+      ∙ ap (λ l. total_row (far_coefficients_in (square_of b.tree n)) l k) ((nodes_of_tree b.tree b.points b.cap (in_grid b.points is.tree_is.tree_is.range) is.is_tree c far.in_range).members no_point)
 
   module _ (lists : TreeLists) (are : AreTreeLists 16 b.points b.cap lists) where
     v_rows_are : (k : ℕ) → v_rows P b n k ≡ converted_rows b.points b.cap P lists (square_of b.tree n) k

@@ -1,8 +1,6 @@
 -- What the proofs of this crate rest on.
 pub mod Counts
 pub mod EntryPlaces
-pub mod FarPoints
-pub mod FarTotals
 pub mod FieldRows
 pub mod FieldSizes
 pub mod FilledRows

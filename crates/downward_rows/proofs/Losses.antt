@@ -60,14 +60,6 @@ module _ (P : ℕ) (b : BasisModel) (is : IsBasis P b) (c : ℕ) (lt : c < size 
       let m : here * tail ≤ 2 ^ 32 * tail = mul-le-mul_right tail weight_small in
       bound (div_ceil (here * tail) s) (here * tail) tail (div_ceil-le (here * tail) s least) m t
 
--- the sum of two numbers that come back from calls
-pub sum_read : (p z : ℤ) (r : ℕ) → pos 0 ≤ℤ p → p ≤ℤ pos (2 ^ 120) → z ≡ pos r → r < 2 ^ 100 → to_z w128 (of_z w128 (to_z w128 (of_z w128 p) +ℤ to_z w128 (of_z w128 z))) ≡ p +ℤ pos r
-sum_read p z r low high e small =
-    let f : SFits w128 p = omega (arith, ints) in
-    let g : SFits w128 z = omega (arith, ints) in
-    let h : SFits w128 (p +ℤ pos r) = omega (arith, ints) in
-    ap (λ x. to_z w128 (of_z w128 x)) (ap₂ (λ x y. x +ℤ y) (to_z-of_z w128 p f) (to_z-of_z w128 z g ∙ e)) ∙ to_z-of_z w128 (p +ℤ pos r) h
-
 pub room_for : (r x y : ℕ) → x ≡ y → y ≤ 2 ^ 75 → r ≤ 2 ^ 99 → r + x < 2 ^ 100
 room_for r x y e s h = omega arith
 

@@ -1,11 +1,11 @@
 -- What the entries of a cell add to its local row.
-use Rattle.std.specs.Prelude.{ℕ, ◌^◌, ◌<◌, ◌≤◌, ◌≡◌, List, length, Option, Some, None, slice_get, All}
-use Rattle.exact_math.specs.Ends.{BoxEnds, zero_box, add_box}
+use Rattle.std.specs.Prelude.{ℕ, ◌^◌, ◌<◌, ◌≤◌, List, length, All}
+use Rattle.exact_math.specs.Ends.{BoxEnds, add_box}
 use Rattle.cell_name.specs.Square.{Square}
 use Rattle.cell_lists.specs.ListAt.{list_at}
 use Rattle.cell_lists.specs.EntryLists.{EntryListsModel}
 use Rattle.kernel_table.specs.Kernel.{IsKernelDistance, kernel_entry}
-use Rattle.points.specs.Limits.{InRange, weight64}
+use Rattle.points.specs.Limits.{InRange}
 use Rattle.points.specs.Points.{place}
 use Rattle.points.specs.declared.Point.{Point}
 use Rattle.quadtree.specs.TreeModel.{TreeModel, size, square_of, node_of}
@@ -15,34 +15,18 @@ use Rattle.soundness.specs.Computed.{total_row, far_coefficients_in}
 use Rattle.soundness.specs.Squares.{IsFarFrom, quadrant}
 use Rattle.tree_field.specs.Field.{multipole_row, sources_in}
 use Rattle.field_basis.specs.Basis.{BasisModel}
+use Rattle.field_basis.specs.Targets.{point_at}
 
 -- the centre of cell b is a distance of the kernel from that of cell c
 pub record IsPairAt (tree : TreeModel) (b c : ℕ) : Type 0 where
   pub in_range : c < size tree
   pub distance : IsKernelDistance (sides_between (square_of tree b) (square_of tree c))
 
--- what a point adds to the row of the cell b, where there is one
-abbrev pub far_of : Square → Option Point → ℕ → BoxEnds
-far_of b (Some p) l = far_coefficients_in b p l
-far_of b None l = zero_box
-
--- what the point at a position adds
-abbrev pub far_row_at : List Point → Square → ℕ → ℕ → BoxEnds
-far_row_at points b k = far_of b (slice_get points k)
-
--- how heavy the point at a position is
-abbrev pub weight64_of : Option Point → ℕ
-weight64_of (Some p) = weight64 p
-weight64_of None = 0
-
-abbrev pub far_weight_at : List Point → ℕ → ℕ
-far_weight_at points k = weight64_of (slice_get points k)
-
 -- the point at a position is in range and far from the cell b
 pub record IsFarPosition (points : List Point) (b : Square) (k : ℕ) : Type 0 where
   pub inside : k < length points
-  pub range : (p : Point) → slice_get points k ≡ Some p → InRange p
-  pub far : (p : Point) → slice_get points k ≡ Some p → IsFarFrom b (place p)
+  pub range : InRange (point_at points k)
+  pub far : IsFarFrom b (place (point_at points k))
 
 -- the points of cell c are
 pub record IsFarCell (tree : TreeModel) (points : List Point) (b : Square) (c : ℕ) : Type 0 where
@@ -60,6 +44,10 @@ pub record HasFarEntries (tree : TreeModel) (lists : EntryListsModel) (points : 
   pub few : length (list_at lists.x n) ≤ 2 ^ 16
 
 -- ---- what they add
+-- the point at a position, to the row of the cell b
+abbrev pub far_row_at : List Point → Square → ℕ → ℕ → BoxEnds
+far_row_at points b k = far_coefficients_in b (point_at points k)
+
 -- the row of the cell c of the V list of cell n, converted, and those of all of them
 abbrev pub v_entry : ℕ → BasisModel → ℕ → ℕ → ℕ → BoxEnds
 v_entry P b n c = converted P (kernel_entry (sides_between (square_of b.tree n) (square_of b.tree c))) (multipole_row b.points b.cap (square_of b.tree c))

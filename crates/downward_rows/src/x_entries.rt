@@ -6,7 +6,7 @@ ghost use Rattle.quadtree.specs.TreeModel.{size};
 ghost use Rattle.row_recursions.specs.Rows.{row_of, RowsAdd};
 ghost use Rattle.row_recursions.specs.Sizes.{RowWithin};
 ghost use Rattle.soundness.specs.Computed.{total_row};
-ghost use Rattle.downward_rows.specs.Entries.{IsFarPosition, far_row_at, far_weight_at, x_rows};
+ghost use Rattle.downward_rows.specs.Entries.{IsFarPosition, far_row_at, x_rows};
 
 use cell_name::Cell;
 use complex_box::CBox;
@@ -22,8 +22,7 @@ fn add_position<const P: usize>(cell: Cell, points: &[Point], k: u32, into: &mut
     requires sum { RowWithin P (2 ^ 110) (row_of into.old) }
     ensures len { length into.new ≡ P }
     ensures adds { RowsAdd P (row_of into.old) (far_row_at points.now (square cell) k) (row_of into.new) }
-    ensures size { (n : ℕ) → RowWithin P n (row_of into.old) → RowWithin P (n + 2 ^ 40 * far_weight_at points.now k) (row_of into.new) }
-    ensures light { far_weight_at points.now k ≤ 2 ^ 27 }
+    ensures size { (n : ℕ) → RowWithin P n (row_of into.old) → RowWithin P (n + 2 ^ 67) (row_of into.new) }
 {
     add_far_source::<P>(into, cell, &points[k as usize]);
 }
@@ -37,8 +36,7 @@ fn add_positions<const P: usize>(cell: Cell, points: &[Point], list: &[u32], int
     requires sum { RowWithin P (2 ^ 109) (row_of into.old) }
     ensures len { length into.new ≡ P }
     ensures adds { RowsAdd P (row_of into.old) (total_row (far_row_at points.now (square cell)) list.now) (row_of into.new) }
-    ensures size { (n : ℕ) → RowWithin P n (row_of into.old) → RowWithin P (n + 2 ^ 40 * sum_by (far_weight_at points.now) list.now) (row_of into.new) }
-    ensures light { sum_by (far_weight_at points.now) list.now ≤ 2 ^ 43 }
+    ensures size { (n : ℕ) → RowWithin P n (row_of into.old) → RowWithin P (n + 2 ^ 83) (row_of into.new) }
 {
     for k in list {
         add_position::<P>(cell, points, *k, into);

@@ -1,5 +1,5 @@
 use Rattle.std.proofs.Common.{ℕ, ◌≡◌, ◌+◌, ◌*◌, ◌^◌, ◌<◌, List, length, get_or, take, ap, ◌∙◌, subst, sym, arith}
-use Rattle.std.specs.Prelude.{All, sum_by}
+use Rattle.std.specs.Prelude.{All}
 use Rattle.std.proofs.Math.Seq.{take-length}
 use Rattle.exact_math.specs.Ends.{add_box}
 use Rattle.cell_name.specs.Cell.{square}
@@ -11,7 +11,7 @@ use Rattle.quadtree.specs.TreeModel.{size, square_of, node_of}
 use Rattle.row_recursions.specs.Rows.{row_of}
 use Rattle.soundness.specs.Computed.{total_row}
 use Rattle.field_basis.specs.Basis.{IsBasis}
-use Rattle.downward_rows.specs.Entries.{IsFarCell, far_weight_at, x_entry}
+use Rattle.downward_rows.specs.Entries.{IsFarCell, x_entry}
 use Rattle.downward_rows.proofs.EntryPlaces.{far_entries}
 use Rattle.downward_rows.proofs.Lists.{listed, number_in}
 use Rattle.downward_rows.proofs.Totals.{none_added, one_added}
@@ -92,7 +92,7 @@ loop-c-preserved g c =
       len = c.add_positions.ensures.len;
       adds = one_added g.row.P (x_entry b c.args.n) c.x_list-c-items.result.now c.loop-c.c-index 0 (row_of c.args.into.now) (row_of c.loop-c.into) (row_of c.add_positions.new.into) c.loop-c-test.true c.loop-c.invariant.adds
           (λ j h. c.add_positions.ensures.adds j h ∙ ap (add_box (row_of c.loop-c.into j)) (positions_read g.row.P b s c.args.n c.requires.cell k far c.deref.result.now points (square c.index-cells-n.result) cell c.members.result.now members j));
-      size = wider g.row.P (2 ^ 91 + 2 ^ 83 * c.loop-c.c-index + 2 ^ 40 * sum_by (far_weight_at c.deref.result.now) c.members.result.now) (2 ^ 91 + 2 ^ 83 * (c.loop-c.c-index + 1)) (row_of c.add_positions.new.into) (omega (arith, c.add_positions.ensures.light))
+      size = wider g.row.P (2 ^ 91 + 2 ^ 83 * c.loop-c.c-index + 2 ^ 83) (2 ^ 91 + 2 ^ 83 * (c.loop-c.c-index + 1)) (row_of c.add_positions.new.into) (omega arith)
           (c.add_positions.ensures.size (2 ^ 91 + 2 ^ 83 * c.loop-c.c-index) c.loop-c.invariant.size);
     }
 
