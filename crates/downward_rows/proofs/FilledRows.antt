@@ -31,4 +31,3 @@ half_is false n e = ap (λ m. m == 1) e
 
 pub quadrant_read : (q : Quadrant) (c : Square) → half_number q.right ≡ c.i % 2 → half_number q.top ≡ c.j % 2 → quadrant_of q ≡ quadrant c
 quadrant_read q c r t = ap₂ (λ x y. gaussian (sign x) (sign y)) (half_is q.right (c.i % 2) r) (half_is q.top (c.j % 2) t)
-

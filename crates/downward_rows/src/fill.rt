@@ -17,7 +17,7 @@ use field_basis::Basis;
 use local_shift::shift_down;
 use places::Place;
 
-/// Makes the local row of a cell below the root that has a target, from its parent's.
+/// Makes the local row of cell `n`, which is below the root, from its parent's.
 fn make_row<const P: usize>(
     basis: &Basis<P>,
     up: &[Place<P>],

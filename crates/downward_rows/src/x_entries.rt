@@ -1,5 +1,5 @@
 //! The X entries of a cell: the sources of cells that are far from it.
-ghost use Rattle.std.specs.Prelude.{◌≡◌, ℕ, ◌+◌, ◌*◌, ◌^◌, ◌≤◌, ◌<◌, length, sum_by, All};
+ghost use Rattle.std.specs.Prelude.{◌≡◌, ℕ, ◌+◌, ◌^◌, ◌≤◌, ◌<◌, length, All};
 ghost use Rattle.exact_math.specs.Orders.{IsOrder};
 ghost use Rattle.cell_name.specs.Cell.{square};
 ghost use Rattle.quadtree.specs.TreeModel.{size};
