@@ -5,7 +5,7 @@ use Rattle.std.proofs.lemmas.Int.{ints}
 use Rattle.std.proofs.Math.Nat.{mul-le-mul_right}
 use Rattle.truncation.specs.Tails.{single_radius}
 use Rattle.truncation.proofs.Tails.{single_tail_le, div_ceil-le}
-use Rattle.tree_rows.specs.FlatRows.{IsWeight}
+use Rattle.field_basis.specs.Weights.{IsWeight}
 
 loss_small : (w t s : ℕ) → w ≤ 2 ^ 32 → t ≤ 2 ^ 40 → 1 ≤ s → div_ceil (w * t) s ≤ 2 ^ 73
 loss_small w t s hw ht hs =
