@@ -23,6 +23,7 @@ use Rattle.letters.specs.declared.Letter.TheVariants.{U, W}
 use Rattle.near_field.specs.DirectSum.{direct_sum}
 use Rattle.near_field.specs.Pair.{pair_box}
 use Rattle.places.specs.Place.{PlaceModel}
+use Rattle.points.specs.Limits.{InGrid}
 use Rattle.points.specs.Points.{place}
 use Rattle.points.specs.declared.Point.{Point}
 use Rattle.quadtree.proofs.TreeChildren.{tree_cell_at}
@@ -88,6 +89,17 @@ module _ (P : ℕ) (b : BasisModel) (is : IsBasis P b) where
 
     pub leaf_is : IsLeafOf 16 b.tree b.points b.cap (target_leaf b k) (target_of b k)
     leaf_is = leaf_at_position b.tree b.points b.cap is.is_tree (get_or b.targets k 0) no_point position.inside
+
+    -- its leaf and itself, as they are read
+    module _ (n : ℕ) (leaf : n ≡ target_leaf b k) where
+      pub leaf_below : n < size b.tree
+      leaf_below = omega (arith, leaf, leaf_is.in_range)
+
+      pub leaf_holds : (t : Point) → t ≡ target_of b k → Holds (square_of b.tree n) t.x t.y
+      leaf_holds t e = subst (λ (p : Point). Holds (square_of b.tree n) p.x p.y) (sym e) (subst (λ n. Holds (square_of b.tree n) (target_of b k).x (target_of b k).y) (sym leaf) leaf_is.held)
+
+    pub target_in_grid : (t : Point) → t ≡ target_of b k → InGrid t.x t.y
+    target_in_grid t e = subst (λ (p : Point). InGrid p.x p.y) (sym e) (is.tree_is.tree_is.range (get_or b.targets k 0) no_point position.inside).grid
 
     module _ (place : PlaceModel) (here : IsLocalPlace P b (target_leaf b k) place) where
       row_here : (lists : TreeLists) → AreTreeLists 16 b.points b.cap lists → HasLocalRow P b lists (target_leaf b k) place

@@ -16,7 +16,7 @@ use Rattle.complex_box.specs.Counts.{Counts}
 use Rattle.field_basis.specs.Counts.{paired, sources_at, count_apart}
 use Rattle.field_basis.specs.Targets.{point_at}
 
-abbrev sources : List Point → List Point
+abbrev pub sources : List Point → List Point
 sources some = filter (λ p. is_source p.kind) some
 
 abbrev with_box : Gaussian → BoxEnds → Point → BoxEnds

@@ -10,6 +10,7 @@ use Rattle.cell_lists.specs.Entries.{IsEntry}
 use Rattle.cell_lists.specs.EntryLists.{lists_of}
 use Rattle.cell_lists.specs.Lists.{IsListOf}
 use Rattle.cell_lists.specs.ListAt.{list_at}
+use Rattle.field_basis.proofs.CellWeights.{position_inside}
 use Rattle.field_basis.specs.Basis.{BasisModel, IsBasis}
 use Rattle.letters.specs.declared.Letter.{Letter}
 use Rattle.quadtree.specs.Members.{members_of, holds_position}
@@ -61,3 +62,8 @@ module _ (P : ℕ) (b : BasisModel) (is : IsBasis P b) where
       let g = count_by-le-length p (range_with_len 0 (length b.points)) in
       let l = length-range_with_len 0 (length b.points) in
       omega (arith, e, f, g, l, is.tree_is.tree_is.few)
+
+  pub member_below : (n : ℕ) → n < size b.tree → (members : List ℕ) → members ≡ (node_of b.tree n).members → (i : ℕ) → i < length members → get_or members i 0 < length b.points
+  member_below n lt members are i l =
+      let here = position_inside b.points b.tree is.tree_is.tree_is n lt i (omega (arith, ap length are, l)) in
+      subst (λ (xs : List ℕ). get_or xs i 0 < length b.points) (sym are) here

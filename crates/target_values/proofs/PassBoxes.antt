@@ -1,7 +1,8 @@
 -- What holds of all places of targets, since it holds of each.
-use Rattle.std.proofs.Common.{ℕ, zero, suc, ◌≡◌, ◌∙◌, ◌*◌, ◌^◌, ◌<◌, ◌≤◌, pos, List, [], ◌∷◌, length, map, get_or, sym, ap, ap₂, refl, subst, arith, lit<}
+use Rattle.std.proofs.Common.{ℕ, zero, suc, inl, inr, ◌≡◌, ◌∙◌, ◌+◌, ◌*◌, ◌^◌, ◌<◌, ◌≤◌, pos, List, [], ◌∷◌, length, map, get_or, slice_index_or, slice_set, get_or-set_same, get_or-set_other, sym, ap, ap₂, refl, subst, arith, lit<}
 use Rattle.std.specs.Prelude.{All, sum_by}
 use Rattle.std.specs.List.{AllZip, range_with_len}
+use Rattle.std.proofs.lemmas.Bool.{cases_lt}
 use Rattle.std.proofs.lemmas.List.{get_or-map, get_or_default, length-map}
 use Rattle.std.proofs.lemmas.List.Elements.{All-map, All-tail}
 use Rattle.std.proofs.lemmas.List.Sums.{sum_by-le}
@@ -49,6 +50,15 @@ zip-from_images {A} {B} {C} R f g (t ∷ ts) (v ∷ vs) e h =
 all-from_images : {A B C : Type 0} (P : C → Type 0) (f : A → C) (g : B → C) (ts : List A) (vs : List B) → map g vs ≡ map f ts → All (λ t. P (f t)) ts → All (λ v. P (g v)) vs
 all-from_images P f g ts vs e h k d lt =
     subst P (get_or-map g vs k d (g d) lt) (subst (All P) (sym e) (All-map P f ts h) k (g d) (omega (arith, length-map vs g)))
+
+-- ---- one element more
+-- what holds of the first k elements, and of what is written behind them, holds of the first k + 1
+pub one_more : {X : Type 0} (Q : ℕ → X → Type 0) (xs : List X) (k : ℕ) (x d : X) → k < length xs → ((m : ℕ) → m < k → Q m (slice_index_or xs m d)) → Q k x → (m : ℕ) → m < k + 1 → Q m (slice_index_or (slice_set xs k x) m d)
+one_more {X} Q xs k x d lt before now m h =
+    elim (cases_lt m k) [
+      | inl less ↦ subst (Q m) (sym (get_or-set_other xs k m x d (λ e. absurd (omega arith)))) (before m less)
+      | inr ge ↦ let R : ℕ → Type 0 = λ n. Q n (slice_index_or (slice_set xs k x) n d) in subst R (omega arith) (subst (Q k) (sym (get_or-set_same xs k x d lt)) now)
+    ]
 
 -- ---- the place of a target
 pub record IsTargetPlaceOf (P : ℕ) (b : BasisModel) (k : ℕ) (place : TargetModel) : Type 0 where
