@@ -1,5 +1,5 @@
 -- The box of a target from the rows of the field is the field's.
-use Rattle.std.proofs.Common.{◌≡◌, ◌∙◌, ◌+◌, ◌^◌, ◌<◌, sym, ap, ap₂, subst, arith, ℕ, pos, List, length, map, get_or, lit<}
+use Rattle.std.proofs.Common.{◌≡◌, ◌∙◌, ◌+◌, ◌^◌, ◌<◌, sym, ap, ap₂, subst, arith, ℕ, pos, length, map, get_or, lit<}
 use Rattle.std.specs.Prelude.{All, sum_by}
 use Rattle.std.proofs.lemmas.List.{get_or-map, length-map}
 use Rattle.std.proofs.lemmas.Option.{slice_get-get_or}
@@ -14,7 +14,7 @@ use Rattle.complex_box.specs.Box.{box_ends, BoxContains, BoxWithin}
 use Rattle.complex_box.specs.declared.CBox.{CBox}
 use Rattle.field_basis.proofs.Positions.{IsTargetPosition, position_at, leaf_at_position, has_target, targets_at}
 use Rattle.field_basis.specs.Basis.{BasisModel, IsBasis, target_of, target_place, target_leaf}
-use Rattle.field_basis.specs.FieldPlaces.{AreSameRows, HasLocalRow, IsLocalPlace, IsMultipolePlace, IsTargetBox}
+use Rattle.field_basis.specs.FieldPlaces.{HasLocalRow, IsLocalPlace, IsMultipolePlace, IsTargetBox}
 use Rattle.field_basis.specs.Targets.{no_point, point_at}
 use Rattle.field_sizes.proofs.Bounds.{rows_within, boxes_within}
 use Rattle.field_sizes.specs.Sizes.{IsLimited, RowsWithin}

@@ -1,5 +1,5 @@
 -- Sums of boxes and counts over sources, one position after another.
-use Rattle.std.proofs.Common.{◌≡◌, ◌∙◌, ◌+◌, ◌*◌, ◌^◌, ◌<◌, ◌≤◌, sym, ap, ap₂, refl, arith, Bool, true, false, cond, not, if◌then◌else◌, ℕ, List, [], ◌∷◌, ◌++◌, length, take, get_or, fold, map, filter, to_z-of_z, to_z, of_z, SFits, w64, ℤ, pos}
+use Rattle.std.proofs.Common.{◌≡◌, ◌∙◌, ◌+◌, ◌*◌, ◌^◌, ◌<◌, ◌≤◌, sym, ap, ap₂, refl, arith, Bool, true, false, cond, not, if◌then◌else◌, ℕ, List, [], ◌∷◌, ◌++◌, length, take, get_or, fold, map, filter, to_z-of_z, to_z, of_z, SFits, w64, ℤ}
 use Rattle.std.proofs.lemmas.Int.{ints}
 use Rattle.std.proofs.lemmas.List.{map_more}
 use Rattle.std.proofs.lemmas.List.Elements.{filter-append}
@@ -39,9 +39,6 @@ pub sum_of_one : (t : Gaussian) (p : Point) (s : BoxEnds) → is_source p.kind �
 sum_of_one t p s source = ap (λ b. fold (with_box t) s (cond b (p ∷ []) [])) (sym source)
 
 -- ---- counts that are raised
-pub not_paired : (w : Counts) → w ≡ paired 0 w
-not_paired w = ap (λ n. record w { pairs = n }) (omega arith)
-
 pub paired_again : (a b : ℕ) (w : Counts) → paired b (paired a w) ≡ paired (a + b) w
 paired_again a b w = ap (λ n. record w { pairs = n }) (omega arith)
 

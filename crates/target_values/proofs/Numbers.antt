@@ -1,5 +1,5 @@
 -- Lists of numbers of cells, and the members of a cell.
-use Rattle.std.proofs.Common.{◌≡◌, ◌∙◌, ◌+◌, ◌<◌, ◌≤◌, zero, suc, sym, ap, subst, arith, ◌^◌, ℕ, List, [], ◌∷◌, length, get_or}
+use Rattle.std.proofs.Common.{◌≡◌, ◌∙◌, ◌+◌, ◌<◌, ◌≤◌, zero, suc, sym, ap, subst, arith, ℕ, List, [], ◌∷◌, length, get_or}
 use Rattle.std.specs.Prelude.{All}
 use Rattle.std.specs.List.{range_with_len}
 use Rattle.std.specs.List.Sorted.{IsStrictlyIncreasing}
@@ -13,7 +13,8 @@ use Rattle.cell_lists.specs.ListAt.{list_at}
 use Rattle.field_basis.proofs.CellWeights.{position_inside}
 use Rattle.field_basis.specs.Basis.{BasisModel, IsBasis}
 use Rattle.letters.specs.declared.Letter.{Letter}
-use Rattle.quadtree.specs.Members.{members_of, holds_position}
+use Rattle.points.specs.Limits.{most_points}
+use Rattle.quadtree.specs.Members.{holds_position}
 use Rattle.quadtree.specs.Tree.{AreInGrid}
 use Rattle.quadtree.specs.TreeModel.{size, square_of, node_of}
 use Rattle.quadtree.proofs.Limits.{in_grid}
@@ -47,14 +48,14 @@ module _ (P : ℕ) (b : BasisModel) (is : IsBasis P b) where
     pub number_below : (i : ℕ) → i < length items → get_or items i 0 < size b.tree
     number_below i l = list_of.numbers i 0 l
 
-    pub few_items : length items ≤ 2 ^ 16
+    pub few_items : length items ≤ most_points
     few_items = let f = few_below (size b.tree) items list_of.numbers list_of.ascending in omega (arith, f, is.is_tree.few)
 
     pub entry_at : (i : ℕ) → i < length items → IsEntry 16 b.points b.cap letter (square_of b.tree n) (square_of b.tree (get_or items i 0))
     entry_at i l = (list_of.exact (get_or items i 0) (number_below i l)).0 (Contains-get_or items i 0 l)
 
   -- ---- the members of a cell
-  pub few_members : (n : ℕ) → n < size b.tree → (members : List ℕ) → members ≡ (node_of b.tree n).members → length members ≤ 2 ^ 16
+  pub few_members : (n : ℕ) → n < size b.tree → (members : List ℕ) → members ≡ (node_of b.tree n).members → length members ≤ most_points
   few_members n lt members are =
       let p : ℕ → _ = holds_position (square_of b.tree n) b.points in
       let e = ap length (are ∙ (is.is_tree.nodes_are n lt).members_are) in

@@ -1,5 +1,5 @@
 -- What holds of all places of targets, since it holds of each.
-use Rattle.std.proofs.Common.{ℕ, zero, suc, inl, inr, ◌≡◌, ◌∙◌, ◌+◌, ◌*◌, ◌^◌, ◌<◌, ◌≤◌, pos, List, [], ◌∷◌, length, map, get_or, slice_index_or, slice_set, get_or-set_same, get_or-set_other, sym, ap, ap₂, refl, subst, arith, lit<}
+use Rattle.std.proofs.Common.{ℕ, suc, inl, inr, ◌≡◌, ◌∙◌, ◌+◌, ◌*◌, ◌^◌, ◌<◌, ◌≤◌, List, [], ◌∷◌, length, map, get_or, slice_index_or, slice_set, get_or-set_same, get_or-set_other, sym, ap, ap₂, refl, subst, arith, lit<}
 use Rattle.std.specs.Prelude.{All, sum_by}
 use Rattle.std.specs.List.{AllZip, range_with_len}
 use Rattle.std.proofs.lemmas.Bool.{cases_lt}
@@ -11,7 +11,6 @@ use Rattle.exact_math.specs.Ends.{BoxEnds, BoxEndsContain, BoxEndsWithin}
 use Rattle.exact_math.specs.Units.{unit}
 use Rattle.exact_math.proofs.Orders.{order_bounds}
 use Rattle.complex_box.specs.Box.{box_ends, BoxWithin}
-use Rattle.complex_box.specs.declared.CBox.{CBox}
 use Rattle.field_basis.proofs.PlaceSums.{sum_by_number}
 use Rattle.field_basis.proofs.Positions.{targets_at}
 use Rattle.field_basis.specs.Basis.{BasisModel, IsBasis}
@@ -24,7 +23,7 @@ use Rattle.places.specs.Target.{TargetModel, no_target, target_at, values_of, al
 use Rattle.points.specs.Points.{place}
 use Rattle.points.specs.declared.Point.{Point}
 use Rattle.quadtree.specs.TreeModel.{leaf_of}
-use Rattle.tree_field.specs.Field.{target_box, target_boxes, targets}
+use Rattle.tree_field.specs.Field.{target_box, targets}
 use Rattle.tree_field.proofs.Whole.{field_contains}
 use Rattle.target_values.proofs.FieldBox.{some_lists, limited}
 use Rattle.target_values.proofs.NearBounds.{few_pairs}

@@ -2,7 +2,7 @@
 use Rattle.std.specs.Prelude.{ℕ}
 use Rattle.exact_math.specs.Ends.{BoxEnds}
 use Rattle.exact_math.specs.Gaussian.{Gaussian}
-use Rattle.cell_name.specs.Square.{Square, side}
+use Rattle.cell_name.specs.Square.{side}
 use Rattle.field_basis.specs.Basis.{BasisModel}
 use Rattle.field_basis.specs.Counts.{count_apart, sources_at}
 use Rattle.near_field.specs.Pair.{pair_box}

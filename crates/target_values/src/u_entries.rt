@@ -5,7 +5,7 @@ ghost use Rattle.cell_lists.specs.ListAt.{list_at};
 ghost use Rattle.complex_box.specs.Box.{box_ends, BoxWithin};
 ghost use Rattle.field_basis.specs.Counts.{paired, count_apart};
 ghost use Rattle.near_field.specs.Pair.{pair_box};
-ghost use Rattle.points.specs.Limits.{InGrid, InRange};
+ghost use Rattle.points.specs.Limits.{InGrid, InRange, most_points};
 ghost use Rattle.points.specs.Points.{is_source, place};
 ghost use Rattle.quadtree.specs.TreeModel.{size};
 ghost use Rattle.soundness.specs.Computed.{total_box};
@@ -36,11 +36,11 @@ fn with_pair(sum: CBox, p: &Point, target: &Point, work: &mut Work) -> CBox
 fn cell_pairs<const P: usize>(basis: &Basis<P>, c: usize, target: &Point, work: &mut Work) -> CBox
     requires number { c < size basis.now.tree }
     requires grid { InGrid target.now.x target.now.y }
-    requires room { work.old.pairs + 2 ^ 16 < 2 ^ 63 }
+    requires room { work.old.pairs + most_points < 2 ^ 63 }
     ensures ends { box_ends result ≡ pairs_of_cell basis.now (place target.now) c }
     ensures size { BoxWithin (2 ^ 83) result }
     ensures work { work.new ≡ paired (count_of_cell basis.now (place target.now) c) work.old }
-    ensures few { work.new.pairs ≤ work.old.pairs + 2 ^ 16 }
+    ensures few { work.new.pairs ≤ work.old.pairs + most_points }
 {
     let mut sum = CBox::zero();
     for k in basis.tree.members(c) {

@@ -1,5 +1,5 @@
 -- One place more, and all places.
-use Rattle.std.proofs.Common.{rules, ◌≡◌, ◌∙◌, ◌<◌, ℕ, ap, sym, subst, arith, List, length, get_or, length-set}
+use Rattle.std.proofs.Common.{rules, ◌≡◌, ◌∙◌, ◌<◌, ap, subst, arith, length, get_or, length-set}
 use Rattle.exact_math.proofs.Orders.{order_bounds}
 use Rattle.cell_lists.specs.ListAt.{list_at}
 use Rattle.complex_box.specs.Box.{box_ends}
@@ -21,9 +21,19 @@ target_value-value-requires g c =
     let leaf = target_leaf b k in
     let in_tree = (leaf_is g.row.P b is k lt).in_range in
     let below = (is.tree_is.lists_are.each b.points b.cap (inside g.row.P b is) is.is_tree W leaf in_tree).numbers in
-    let orders = order_bounds g.row.P is.order in
-    (search rules, (omega (arith, orders), (lt, (λ i d l. (omega (arith, below i d l, c.requires.up.as_many), c.requires.up.each (get_or (list_at b.lists.w leaf) i d) (below i d l)),
-    (record { in_range = omega (arith, in_tree, c.requires.local.as_many); place_is = c.requires.local.each leaf in_tree }, omega (arith, c.new-work.ensures.pairs))))))
+    let orders = order_bounds g.row.P is.order in (
+      search rules,
+      (
+        omega (arith, orders),
+        (
+          lt,
+          (
+            λ i d l. (omega (arith, below i d l, c.requires.up.as_many), c.requires.up.each (get_or (list_at b.lists.w leaf) i d) (below i d l)),
+            (record { in_range = omega (arith, in_tree, c.requires.local.as_many); place_is = c.requires.local.each leaf in_tree }, omega (arith, c.new-work.ensures.pairs)),
+          ),
+        ),
+      ),
+    )
 
 pub loop-k-preserved : goal.loop-k-preserved
 loop-k-preserved g c =

@@ -1,5 +1,5 @@
 -- The box from its parts.
-use Rattle.std.proofs.Common.{rules, ◌≡◌, ◌∙◌, ◌+◌, ◌*◌, ◌^◌, ◌<◌, ◌≤◌, ℕ, ℤ, pos, ap, ap₂, sym, subst, arith, List, length, get_or, to_z-of_z}
+use Rattle.std.proofs.Common.{rules, ◌≡◌, ◌∙◌, ◌+◌, ◌*◌, ◌^◌, ◌<◌, ◌≤◌, ℕ, pos, ap, ap₂, sym, subst, arith, List, length, get_or, to_z-of_z}
 use Rattle.std.specs.Prelude.{sum_by}
 use Rattle.std.proofs.lemmas.Int.{ints}
 use Rattle.std.proofs.lemmas.List.{get_or_default}
@@ -28,7 +28,7 @@ use Rattle.row_recursions.specs.Rows.{row_of, local_value}
 use Rattle.row_recursions.specs.Sizes.{RowWithin}
 use Rattle.soundness.specs.Computed.{total_box}
 use Rattle.soundness.specs.Squares.{offset}
-use Rattle.target_values.proofs.FieldBox.{position, leaf_is, leaf_below, leaf_holds, target_in_grid, local_small, box_is, box_contains, box_small}
+use Rattle.target_values.proofs.FieldBox.{position, leaf_below, leaf_holds, target_in_grid, local_small, box_is, box_contains, box_small}
 use Rattle.target_values.proofs.Losses.{lost_is}
 use Rattle.target_values.specs.Values.{value_of_cell, pairs_of_cell, count_of_cell, loss_of_cell}
 use Rattle.target_values.proofs.value.target_value.Goals as goal
@@ -44,7 +44,6 @@ index-target-requires g c =
     let long : length c.basis.inside.points.items ≡ length b.points = ap (λ (b : BasisModel). length b.points) c.basis.view_is in
     omega (arith, below, long, c.basis.inside.points.ok.0)
 
-
 pub leaf_of-leaf-requires : goal.leaf_of-leaf-requires
 leaf_of-leaf-requires g c =
     let b = c.args.basis.now in
@@ -54,7 +53,6 @@ leaf_of-leaf-requires g c =
     c.index.ensures ∙ get_or_default c.basis.inside.targets.items c.args.k found 0 (subst (λ (b : BasisModel). c.args.k < length b.targets) (sym c.basis.view_is) c.requires.target) ∙ ap (λ (b : BasisModel). get_or b.targets c.args.k 0) c.basis.view_is in
     let below : found < length b.points = omega (arith, found_is, (position g.row.P b is c.args.k c.requires.target).inside) in
     subst (λ (b : BasisModel). found < length b.tree.leaves) (sym c.basis.view_is) (omega (arith, below, is.is_tree.as_many_leaves))
-
 
 pub bounds-cells-leaf : goal.bounds-cells-leaf
 bounds-cells-leaf g c =
@@ -68,7 +66,6 @@ bounds-cells-leaf g c =
     let in_tree = leaf_below g.row.P b is c.args.k c.requires.target c.leaf_of-leaf.result leaf in
     let long : length c.cells.result.now ≡ size b.tree = ap length c.cells.ensures.all ∙ ap (λ (b : BasisModel). size b.tree) c.basis.view_is in
     omega (arith, in_tree, long)
-
 
 pub at_local-value-requires : goal.at_local-value-requires
 at_local-value-requires g c =
@@ -95,7 +92,6 @@ at_local-value-requires g c =
     let held = subst (λ s. Holds s c.index-target.result.now.x c.index-target.result.now.y) (sym read) (leaf_holds g.row.P b is c.args.k c.requires.target c.leaf_of-leaf.result leaf c.index-target.result.now target_is) in
     simp to_z-of_z (search rules, (is.order, (held, wider g.row.P (2 ^ 82) (2 ^ 90) _ (omega arith) small)))
 
-
 pub w_values-far-requires : goal.w_values-far-requires
 w_values-far-requires g c =
     let b = c.args.basis.now in
@@ -109,10 +105,22 @@ w_values-far-requires g c =
     let leaf : c.leaf_of-leaf.result ≡ target_leaf b c.args.k = c.leaf_of-leaf.ensures ∙ ap (λ (b : BasisModel). leaf_of b.tree found) c.basis.view_is ∙ ap (leaf_of b.tree) found_is in
     let in_tree = leaf_below g.row.P b is c.args.k c.requires.target c.leaf_of-leaf.result leaf in
     let rows = subst (λ n. AreMultipolePlaces g.row.P b.points b.tree c.args.up.now (list_at b.lists.w n)) (sym leaf) c.requires.rows in
-    let orders = order_bounds g.row.P is.order in
-    (search rules, (omega (arith, orders), (in_tree, (rows, (target_in_grid g.row.P b is c.args.k c.requires.target c.index-target.result.now target_is,
-    leaf_holds g.row.P b is c.args.k c.requires.target c.leaf_of-leaf.result leaf c.index-target.result.now target_is)))))
-
+    let orders = order_bounds g.row.P is.order in (
+      search rules,
+      (
+        omega (arith, orders),
+        (
+          in_tree,
+          (
+            rows,
+            (
+              target_in_grid g.row.P b is c.args.k c.requires.target c.index-target.result.now target_is,
+              leaf_holds g.row.P b is c.args.k c.requires.target c.leaf_of-leaf.result leaf c.index-target.result.now target_is,
+            ),
+          ),
+        ),
+      ),
+    )
 
 pub u_pairs-near-requires : goal.u_pairs-near-requires
 u_pairs-near-requires g c =
@@ -128,7 +136,6 @@ u_pairs-near-requires g c =
     let in_tree = leaf_below g.row.P b is c.args.k c.requires.target c.leaf_of-leaf.result leaf in
     (search rules, (in_tree, (target_in_grid g.row.P b is c.args.k c.requires.target c.index-target.result.now target_is, c.requires.room)))
 
-
 pub w_radius-requires : goal.w_radius-requires
 w_radius-requires g c =
     let b = c.args.basis.now in
@@ -141,11 +148,9 @@ w_radius-requires g c =
     let in_tree = leaf_below g.row.P b is c.args.k c.requires.target c.leaf_of-leaf.result leaf in
     (search rules, in_tree)
 
-
 pub add-requires : goal.add-requires
 add-requires g c =
     box_wider _ _ _ (omega arith) (add_box_within (2 ^ 96) (2 ^ 99) (box_ends c.w_values-far.result) (box_ends c.u_pairs-near.result) c.w_values-far.ensures.size c.u_pairs-near.ensures.size)
-
 
 pub add-requires-2 : goal.add-requires-2
 add-requires-2 g c =
@@ -166,7 +171,6 @@ add-requires-2 g c =
     let first = box_wider (g.row.P * 2 ^ 82) (2 ^ 88) _ (omega (arith, orders)) (c.at_local-value.ensures.size (2 ^ 82) small) in
     let sum = add_box_within (2 ^ 88) (2 ^ 96 + 2 ^ 99) (box_ends c.at_local-value.result) (box_ends c.add.result) first inner in
     box_wider _ _ _ (omega arith) sum
-
 
 pub widen-requires-clause-fits : goal.widen-requires-clause-fits
 widen-requires-clause-fits g c =
@@ -194,7 +198,6 @@ widen-requires-clause-fits g c =
     let little : Within (2 ^ 91) (pos (m + n)) = record { above = omega (arith, ints, c.radius.ensures.bound, few); below = omega (arith, ints, c.radius.ensures.bound, few) } in
     subst (λ r. BoxEndsWithin (2 ^ 126) (widen_box (box_ends c.add-2.result) r)) (sym lost)
     (box_wider _ _ _ (omega arith) (widen_box_within (2 ^ 88 + (2 ^ 96 + 2 ^ 99)) (2 ^ 91) (box_ends c.add-2.result) _ whole little))
-
 
 pub returns-clause-value : goal.returns-clause-value
 returns-clause-value g c =
@@ -233,20 +236,17 @@ returns-clause-value g c =
     ∙ ap₂ widen_box (c.add-2.ensures.ends ∙ ap₂ add_box value (c.add.ensures.ends ∙ ap₂ add_box far near))
     (lost ∙ ap₂ (λ (p : PlaceModel) n. pos (p.radius + sum_by (loss_of_cell g.row.P b) (list_at b.lists.w n))) kept_is leaf))
 
-
 pub returns-clause-contains : goal.returns-clause-contains
 returns-clause-contains g c =
     let b = c.args.basis.now in
     let is : IsBasis g.row.P b = subst (IsBasis g.row.P) c.basis.view_is c.basis.invariant in
     box_contains g.row.P b is c.args.k c.requires.target c.widen.result (returns-clause-value g c)
 
-
 pub returns-clause-size : goal.returns-clause-size
 returns-clause-size g c =
     let b = c.args.basis.now in
     let is : IsBasis g.row.P b = subst (IsBasis g.row.P) c.basis.view_is c.basis.invariant in
     box_small g.row.P b is c.args.k c.requires.target c.widen.result (returns-clause-value g c)
-
 
 pub returns-clause-work : goal.returns-clause-work
 returns-clause-work g c =
@@ -261,4 +261,3 @@ returns-clause-work g c =
     let leaf : c.leaf_of-leaf.result ≡ target_leaf b c.args.k = c.leaf_of-leaf.ensures ∙ ap (λ (b : BasisModel). leaf_of b.tree found) c.basis.view_is ∙ ap (leaf_of b.tree) found_is in
     let in_tree = leaf_below g.row.P b is c.args.k c.requires.target c.leaf_of-leaf.result leaf in
     c.u_pairs-near.ensures.work ∙ ap₂ (λ (t : Point) n. paired (sum_by (count_of_cell b (place t)) (list_at b.lists.u n)) c.args.work.now) target_is leaf
-

@@ -1,4 +1,4 @@
-use Rattle.std.proofs.Common.{rules, ◌≡◌, ◌∙◌, ◌*◌, ◌^◌, ◌<◌, ℕ, ap, sym, subst, arith, List, length, get_or, to_z-of_z}
+use Rattle.std.proofs.Common.{rules, ◌≡◌, ◌∙◌, ◌*◌, ◌^◌, ◌<◌, ℕ, ap, sym, subst, arith, List, to_z-of_z}
 use Rattle.std.proofs.lemmas.List.{get_or_default}
 use Rattle.exact_math.proofs.Orders.{order_bounds}
 use Rattle.exact_math.specs.Ends.{BoxEnds}

@@ -32,9 +32,16 @@ w_value-requires g c =
     let same : items ≡ list_at b.lists.w c.args.leaf = c.w_list-c-items.ensures ∙ ap (λ (b : BasisModel). list_at b.lists.w c.args.leaf) c.basis.view_is in
     let row = subst (λ (l : List ℕ). (get_or l i 0 < length c.args.up.now) × IsMultipolePlace g.row.P b.points b.tree (get_or l i 0) (place_at c.args.up.now (get_or l i 0))) (sym same)
     (c.requires.rows i 0 (omega (arith, ap length same, c.loop-c-test.true))) in
-    let orders = order_bounds g.row.P is.order in
-    (search rules, (omega (arith, orders), (number_below g.row.P b is W c.args.leaf c.requires.number items same i c.loop-c-test.true,
-    (row.0, (row.1, (c.requires.grid, far_from g.row.P b is c.args.leaf c.requires.number items same i c.loop-c-test.true _ _ c.requires.held))))))
+    let orders = order_bounds g.row.P is.order in (
+      search rules,
+      (
+        omega (arith, orders),
+        (
+          number_below g.row.P b is W c.args.leaf c.requires.number items same i c.loop-c-test.true,
+          (row.0, (row.1, (c.requires.grid, far_from g.row.P b is c.args.leaf c.requires.number items same i c.loop-c-test.true _ _ c.requires.held))),
+        ),
+      ),
+    )
 
 pub add-sum-requires : goal.add-sum-requires
 add-sum-requires g c =
