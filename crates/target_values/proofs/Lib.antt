@@ -7,5 +7,6 @@ pub mod NearSums
 pub mod Numbers
 pub mod Pairs
 pub mod PassBoxes
+pub mod Read
 pub mod SameValues
 pub mod Sums

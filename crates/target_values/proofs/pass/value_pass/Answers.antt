@@ -1,11 +1,11 @@
 -- One place more, and all places.
-use Rattle.std.proofs.Common.{rules, ◌≡◌, ◌∙◌, ◌<◌, ap, subst, arith, length, get_or, length-set}
+use Rattle.std.proofs.Common.{rules, ◌≡◌, ◌∙◌, ◌<◌, ◌≤◌, ℕ, ap, subst, arith, length, get_or, length-set}
 use Rattle.exact_math.proofs.Orders.{order_bounds}
 use Rattle.cell_lists.specs.ListAt.{list_at}
 use Rattle.complex_box.specs.Box.{box_ends}
 use Rattle.field_basis.specs.Basis.{BasisModel, IsBasis, target_leaf}
 use Rattle.letters.specs.declared.Letter.TheVariants.{W}
-use Rattle.places.specs.Target.{no_target}
+use Rattle.places.specs.Target.{no_target, target_at}
 use Rattle.target_values.proofs.FieldBox.{leaf_is}
 use Rattle.target_values.proofs.Numbers.{inside}
 use Rattle.target_values.proofs.PassBoxes.{IsTargetPlaceOf, one_more, boxes_are, all_contain, all_small, all_pairs_are, all_pairs_few}
@@ -51,42 +51,19 @@ loop-k-preserved g c =
       each = one_more (IsTargetPlaceOf g.row.P b) c.loop-k.values k c.of.result no_target inside c.loop-k.invariant.each here;
     }
 
-pub returns-clause-values : goal.returns-clause-values
-returns-clause-values g c =
+pub returns : goal.returns
+returns g c =
     let b = c.args.basis.now in
+    let values = c.loop-k.values in
     let is : IsBasis g.row.P b = subst (IsBasis g.row.P) c.basis.view_is c.basis.invariant in
     let targets : length c.basis.inside.targets.items ≡ length b.targets = ap (λ (b : BasisModel). length b.targets) c.basis.view_is in
-    let long : length c.loop-k.values ≡ length b.targets = c.loop-k.invariant.len ∙ c.requires.len in
-    boxes_are g.row.P b is c.loop-k.values long (λ j lt. c.loop-k.invariant.each j (omega (arith, lt, long, targets, c.basis.inside.targets.ok.0, c.len-k-end.ensures, c.loop-k-test.false)))
-
-pub returns-clause-contains : goal.returns-clause-contains
-returns-clause-contains g c =
-    let b = c.args.basis.now in
-    let is : IsBasis g.row.P b = subst (IsBasis g.row.P) c.basis.view_is c.basis.invariant in
-    let targets : length c.basis.inside.targets.items ≡ length b.targets = ap (λ (b : BasisModel). length b.targets) c.basis.view_is in
-    let long : length c.loop-k.values ≡ length b.targets = c.loop-k.invariant.len ∙ c.requires.len in
-    all_contain g.row.P b is c.loop-k.values long (λ j lt. c.loop-k.invariant.each j (omega (arith, lt, long, targets, c.basis.inside.targets.ok.0, c.len-k-end.ensures, c.loop-k-test.false)))
-
-pub returns-clause-size : goal.returns-clause-size
-returns-clause-size g c =
-    let b = c.args.basis.now in
-    let is : IsBasis g.row.P b = subst (IsBasis g.row.P) c.basis.view_is c.basis.invariant in
-    let targets : length c.basis.inside.targets.items ≡ length b.targets = ap (λ (b : BasisModel). length b.targets) c.basis.view_is in
-    let long : length c.loop-k.values ≡ length b.targets = c.loop-k.invariant.len ∙ c.requires.len in
-    all_small g.row.P b is c.loop-k.values long (λ j lt. c.loop-k.invariant.each j (omega (arith, lt, long, targets, c.basis.inside.targets.ok.0, c.len-k-end.ensures, c.loop-k-test.false)))
-
-pub returns-clause-pairs : goal.returns-clause-pairs
-returns-clause-pairs g c =
-    let b = c.args.basis.now in
-    let is : IsBasis g.row.P b = subst (IsBasis g.row.P) c.basis.view_is c.basis.invariant in
-    let targets : length c.basis.inside.targets.items ≡ length b.targets = ap (λ (b : BasisModel). length b.targets) c.basis.view_is in
-    let long : length c.loop-k.values ≡ length b.targets = c.loop-k.invariant.len ∙ c.requires.len in
-    all_pairs_are g.row.P b is c.loop-k.values long (λ j lt. c.loop-k.invariant.each j (omega (arith, lt, long, targets, c.basis.inside.targets.ok.0, c.len-k-end.ensures, c.loop-k-test.false)))
-
-pub returns-clause-few : goal.returns-clause-few
-returns-clause-few g c =
-    let b = c.args.basis.now in
-    let is : IsBasis g.row.P b = subst (IsBasis g.row.P) c.basis.view_is c.basis.invariant in
-    let targets : length c.basis.inside.targets.items ≡ length b.targets = ap (λ (b : BasisModel). length b.targets) c.basis.view_is in
-    let long : length c.loop-k.values ≡ length b.targets = c.loop-k.invariant.len ∙ c.requires.len in
-    all_pairs_few g.row.P b is c.loop-k.values long (λ j lt. c.loop-k.invariant.each j (omega (arith, lt, long, targets, c.basis.inside.targets.ok.0, c.len-k-end.ensures, c.loop-k-test.false)))
+    let long : length values ≡ length b.targets = c.loop-k.invariant.len ∙ c.requires.len in
+    let all : length values ≤ c.loop-k.k = omega (arith, long, targets, c.basis.inside.targets.ok.0, c.len-k-end.ensures, c.loop-k-test.false) in
+    let each : (k : ℕ) → k < length values → IsTargetPlaceOf g.row.P b k (target_at values k) = λ k lt. c.loop-k.invariant.each k (omega (arith, lt, all)) in
+    record {
+      values = boxes_are g.row.P b is values long each;
+      contains = all_contain g.row.P b is values long each;
+      size = all_small g.row.P b is values long each;
+      pairs = all_pairs_are g.row.P b is values long each;
+      few = all_pairs_few g.row.P b is values long each;
+    }

@@ -1,6 +1,6 @@
 -- One member more.
 use Rattle.std.proofs.Common.{◌≡◌, ◌∙◌, ◌<◌, ℕ, ap, sym, subst, arith, List, [], ◌∷◌, length, get_or}
-use Rattle.std.proofs.lemmas.List.{get_or_default, take_all}
+use Rattle.std.proofs.lemmas.List.{take_all}
 use Rattle.complex_box.proofs.Sizes.{box_wider}
 use Rattle.field_basis.specs.Basis.{BasisModel, IsBasis}
 use Rattle.field_basis.specs.Counts.{paired, sources_at, count_apart}
@@ -14,6 +14,7 @@ use Rattle.soundness.specs.Computed.{total_box}
 use Rattle.tree_field.proofs.Program.{nodes_of_tree}
 use Rattle.target_values.proofs.NearSums.{sources, ends-step, count-step, one_at_most, paired_again}
 use Rattle.target_values.proofs.Numbers.{inside, few_members, member_below}
+use Rattle.target_values.proofs.Read.{point_read}
 use Rattle.target_values.proofs.u_entries.cell_pairs.Goals as goal
 
 pub index-requires : goal.index-requires
@@ -57,10 +58,8 @@ loop-k-preserved g c =
     let lt : i < length ms = omega (arith, ap length same, c.loop-k-test.true) in
     let p : Point = c.index.result.now in
     let basis_is : IsBasis g.row.P b = subst (IsBasis g.row.P) c.basis.view_is c.basis.invariant in
-    let below = subst (λ (b : BasisModel). get_or members i 0 < length b.points) (sym c.basis.view_is) (member_below g.row.P b basis_is c.args.c c.requires.number members same i c.loop-k-test.true) in
-    let is : p ≡ point_at b.points (get_or ms i 0) =
-    c.index.ensures ∙ get_or_default c.basis.inside.points.items (get_or members i 0) p no_point below
-    ∙ ap (λ (b : BasisModel). point_at b.points (get_or members i 0)) c.basis.view_is ∙ ap (λ (l : List ℕ). point_at b.points (get_or l i 0)) same in
+    let below = member_below g.row.P b basis_is c.args.c c.requires.number members same i c.loop-k-test.true in
+    let is : p ≡ point_at b.points (get_or ms i 0) = point_read c.basis.view_is (get_or members i 0) below p c.index.ensures ∙ ap (λ (l : List ℕ). point_at b.points (get_or l i 0)) same in
     let one = one_at_most t p in
     let counted = ap (λ w. w.pairs) c.with_pair-sum.ensures.work in
     record {

@@ -1,35 +1,32 @@
 -- The box from its parts.
-use Rattle.std.proofs.Common.{rules, ◌≡◌, ◌∙◌, ◌+◌, ◌*◌, ◌^◌, ◌<◌, ◌≤◌, ℕ, pos, ap, ap₂, sym, subst, arith, List, length, get_or, to_z-of_z}
+use Rattle.std.proofs.Common.{rules, ◌≡◌, ◌∙◌, ◌+◌, ◌*◌, ◌^◌, ◌<◌, ◌≤◌, ℕ, pos, ap, ap₂, sym, subst, arith, List, length, to_z-of_z}
 use Rattle.std.specs.Prelude.{sum_by}
 use Rattle.std.proofs.lemmas.Int.{ints}
-use Rattle.std.proofs.lemmas.List.{get_or_default}
 use Rattle.exact_math.proofs.Orders.{order_bounds}
 use Rattle.exact_math.specs.Ends.{BoxEndsWithin, add_box, widen_box}
 use Rattle.exact_math.specs.Within.{Within}
-use Rattle.cell_lists.proofs.TreeNumbers.{read_at}
 use Rattle.cell_lists.specs.ListAt.{list_at}
-use Rattle.cell_name.specs.Cell.{square}
 use Rattle.cell_name.specs.Square.{Square, side, Holds}
 use Rattle.complex_box.proofs.Sizes.{add_box_within, box_wider, widen_box_within}
 use Rattle.complex_box.specs.Box.{box_ends}
 use Rattle.complex_box.specs.declared.CBox.{CBox}
-use Rattle.field_basis.specs.Basis.{BasisModel, IsBasis, target_of, target_leaf}
+use Rattle.field_basis.specs.Basis.{BasisModel, IsBasis, target_leaf}
 use Rattle.field_basis.specs.Counts.{paired}
-use Rattle.field_basis.specs.FieldPlaces.{AreMultipolePlaces}
-use Rattle.field_basis.specs.Targets.{no_point, point_at}
+use Rattle.field_basis.specs.FieldPlaces.{AreMultipolePlaces, IsTargetBox}
 use Rattle.field_sizes.proofs.RowTotals.{wider}
-use Rattle.places.specs.Place.{PlaceModel, no_place, place_at}
+use Rattle.places.specs.Place.{PlaceModel, place_at}
 use Rattle.points.specs.Points.{place}
 use Rattle.points.specs.declared.Point.{Point}
-use Rattle.quadtree.specs.TreeModel.{size, square_of, leaf_of}
+use Rattle.quadtree.specs.TreeModel.{size, square_of}
 use Rattle.row_recursions.proofs.Points.{grid_fits}
 use Rattle.row_recursions.specs.Cells.{side_of, offset_from}
 use Rattle.row_recursions.specs.Rows.{row_of, local_value}
 use Rattle.row_recursions.specs.Sizes.{RowWithin}
 use Rattle.soundness.specs.Computed.{total_box}
 use Rattle.soundness.specs.Squares.{offset}
-use Rattle.target_values.proofs.FieldBox.{position, leaf_below, leaf_holds, target_in_grid, local_small, box_is, box_contains, box_small}
+use Rattle.target_values.proofs.FieldBox.{leaf_below, leaf_holds, target_in_grid, local_small, box_is, box_contains, box_small}
 use Rattle.target_values.proofs.Losses.{lost_is}
+use Rattle.target_values.proofs.Read.{place_read, cell_read, position_below, target_read, leaf_read}
 use Rattle.target_values.specs.Values.{value_of_cell, pairs_of_cell, count_of_cell, loss_of_cell}
 use Rattle.target_values.proofs.value.target_value.Goals as goal
 
@@ -37,10 +34,7 @@ pub index-target-requires : goal.index-target-requires
 index-target-requires g c =
     let b = c.args.basis.now in
     let is : IsBasis g.row.P b = subst (IsBasis g.row.P) c.basis.view_is c.basis.invariant in
-    let found : ℕ = c.index.result.now in
-    let found_is : found ≡ get_or b.targets c.args.k 0 =
-    c.index.ensures ∙ get_or_default c.basis.inside.targets.items c.args.k found 0 (subst (λ (b : BasisModel). c.args.k < length b.targets) (sym c.basis.view_is) c.requires.target) ∙ ap (λ (b : BasisModel). get_or b.targets c.args.k 0) c.basis.view_is in
-    let below : found < length b.points = omega (arith, found_is, (position g.row.P b is c.args.k c.requires.target).inside) in
+    let below = position_below c.basis.view_is g.row.P is c.args.k c.requires.target c.index.result.now c.index.ensures in
     let long : length c.basis.inside.points.items ≡ length b.points = ap (λ (b : BasisModel). length b.points) c.basis.view_is in
     omega (arith, below, long, c.basis.inside.points.ok.0)
 
@@ -48,21 +42,14 @@ pub leaf_of-leaf-requires : goal.leaf_of-leaf-requires
 leaf_of-leaf-requires g c =
     let b = c.args.basis.now in
     let is : IsBasis g.row.P b = subst (IsBasis g.row.P) c.basis.view_is c.basis.invariant in
-    let found : ℕ = c.index.result.now in
-    let found_is : found ≡ get_or b.targets c.args.k 0 =
-    c.index.ensures ∙ get_or_default c.basis.inside.targets.items c.args.k found 0 (subst (λ (b : BasisModel). c.args.k < length b.targets) (sym c.basis.view_is) c.requires.target) ∙ ap (λ (b : BasisModel). get_or b.targets c.args.k 0) c.basis.view_is in
-    let below : found < length b.points = omega (arith, found_is, (position g.row.P b is c.args.k c.requires.target).inside) in
-    subst (λ (b : BasisModel). found < length b.tree.leaves) (sym c.basis.view_is) (omega (arith, below, is.is_tree.as_many_leaves))
+    let below = position_below c.basis.view_is g.row.P is c.args.k c.requires.target c.index.result.now c.index.ensures in
+    subst (λ (b : BasisModel). c.index.result.now < length b.tree.leaves) (sym c.basis.view_is) (omega (arith, below, is.is_tree.as_many_leaves))
 
 pub bounds-cells-leaf : goal.bounds-cells-leaf
 bounds-cells-leaf g c =
     let b = c.args.basis.now in
     let is : IsBasis g.row.P b = subst (IsBasis g.row.P) c.basis.view_is c.basis.invariant in
-    let found : ℕ = c.index.result.now in
-    let found_is : found ≡ get_or b.targets c.args.k 0 =
-    c.index.ensures ∙ get_or_default c.basis.inside.targets.items c.args.k found 0 (subst (λ (b : BasisModel). c.args.k < length b.targets) (sym c.basis.view_is) c.requires.target) ∙ ap (λ (b : BasisModel). get_or b.targets c.args.k 0) c.basis.view_is in
-    let below : found < length b.points = omega (arith, found_is, (position g.row.P b is c.args.k c.requires.target).inside) in
-    let leaf : c.leaf_of-leaf.result ≡ target_leaf b c.args.k = c.leaf_of-leaf.ensures ∙ ap (λ (b : BasisModel). leaf_of b.tree found) c.basis.view_is ∙ ap (leaf_of b.tree) found_is in
+    let leaf = leaf_read c.basis.view_is g.row.P is c.args.k c.requires.target c.index.result.now c.index.ensures c.leaf_of-leaf.result c.leaf_of-leaf.ensures in
     let in_tree = leaf_below g.row.P b is c.args.k c.requires.target c.leaf_of-leaf.result leaf in
     let long : length c.cells.result.now ≡ size b.tree = ap length c.cells.ensures.all ∙ ap (λ (b : BasisModel). size b.tree) c.basis.view_is in
     omega (arith, in_tree, long)
@@ -71,80 +58,50 @@ pub at_local-value-requires : goal.at_local-value-requires
 at_local-value-requires g c =
     let b = c.args.basis.now in
     let is : IsBasis g.row.P b = subst (IsBasis g.row.P) c.basis.view_is c.basis.invariant in
-    let found : ℕ = c.index.result.now in
-    let found_is : found ≡ get_or b.targets c.args.k 0 =
-    c.index.ensures ∙ get_or_default c.basis.inside.targets.items c.args.k found 0 (subst (λ (b : BasisModel). c.args.k < length b.targets) (sym c.basis.view_is) c.requires.target) ∙ ap (λ (b : BasisModel). get_or b.targets c.args.k 0) c.basis.view_is in
-    let below : found < length b.points = omega (arith, found_is, (position g.row.P b is c.args.k c.requires.target).inside) in
-    let target_is : c.index-target.result.now ≡ target_of b c.args.k =
-    c.index-target.ensures ∙ get_or_default c.basis.inside.points.items found c.index-target.result.now no_point (subst (λ (b : BasisModel). found < length b.points) (sym c.basis.view_is) below) ∙ ap (λ (b : BasisModel). point_at b.points found) c.basis.view_is ∙ ap (point_at b.points) found_is in
-    let leaf : c.leaf_of-leaf.result ≡ target_leaf b c.args.k = c.leaf_of-leaf.ensures ∙ ap (λ (b : BasisModel). leaf_of b.tree found) c.basis.view_is ∙ ap (leaf_of b.tree) found_is in
+    let target_is = target_read c.basis.view_is g.row.P is c.args.k c.requires.target c.index.result.now c.index.ensures c.index-target.result.now c.index-target.ensures in
+    let leaf = leaf_read c.basis.view_is g.row.P is c.args.k c.requires.target c.index.result.now c.index.ensures c.leaf_of-leaf.result c.leaf_of-leaf.ensures in
     let in_tree = leaf_below g.row.P b is c.args.k c.requires.target c.leaf_of-leaf.result leaf in
-    let read : square c.index-cells-leaf.result ≡ square_of b.tree c.leaf_of-leaf.result =
-    read_at c.basis.inside.tree c.cells.result.now c.leaf_of-leaf.result c.index-cells-leaf.result c.cells.ensures.all (subst (λ (b : BasisModel). c.leaf_of-leaf.result < size b.tree) (sym c.basis.view_is) in_tree) c.index-cells-leaf.is
-    ∙ ap (λ (b : BasisModel). square_of b.tree c.leaf_of-leaf.result) c.basis.view_is in
+    let read = cell_read c.basis.view_is c.leaf_of-leaf.result in_tree c.cells.result.now c.index-cells-leaf.result c.cells.ensures.all c.index-cells-leaf.is in
     let kept : PlaceModel = place_at c.args.local.now (target_leaf b c.args.k) in
-    let kept_is : c.index-local-leaf.result ≡ kept = c.index-local-leaf.is ∙ get_or_default c.args.local.now c.leaf_of-leaf.result c.index-local-leaf.result no_place (omega (arith, leaf, c.requires.leaf.in_range)) ∙ ap (place_at c.args.local.now) leaf in
+    let kept_is : c.index-local-leaf.result ≡ kept = place_read c.args.local.now c.leaf_of-leaf.result c.index-local-leaf.result (omega (arith, leaf, c.requires.leaf.in_range)) c.index-local-leaf.is ∙ ap (place_at c.args.local.now) leaf in
     let row_is : c.row.result.cells.now ≡ kept.row = c.row.ensures ∙ ap (λ (p : PlaceModel). p.row) kept_is in
     let small = subst (λ (cells : List CBox). RowWithin g.row.P (2 ^ 82) (row_of cells)) (sym row_is) (local_small g.row.P b is c.args.k c.requires.target kept c.requires.leaf.place_is) in
-    let f = grid_fits c.index-target.result.now.x c.index-target.result.now.y (target_in_grid g.row.P b is c.args.k c.requires.target c.index-target.result.now target_is) in
+    let grid = target_in_grid g.row.P b is c.args.k c.requires.target c.index-target.result.now target_is in
+    let f = grid_fits c.index-target.result.now.x c.index-target.result.now.y grid in
     let x = f.0 in
     let y = f.1 in
-    let held = subst (λ s. Holds s c.index-target.result.now.x c.index-target.result.now.y) (sym read) (leaf_holds g.row.P b is c.args.k c.requires.target c.leaf_of-leaf.result leaf c.index-target.result.now target_is) in
-    simp to_z-of_z (search rules, (is.order, (held, wider g.row.P (2 ^ 82) (2 ^ 90) _ (omega arith) small)))
+    let held = leaf_holds g.row.P b is c.args.k c.requires.target c.leaf_of-leaf.result leaf c.index-target.result.now target_is in
+    let inside = subst (λ s. Holds s c.index-target.result.now.x c.index-target.result.now.y) (sym read) held in
+    simp to_z-of_z (search rules, (is.order, (inside, wider g.row.P (2 ^ 82) (2 ^ 90) _ (omega arith) small)))
 
 pub w_values-far-requires : goal.w_values-far-requires
 w_values-far-requires g c =
     let b = c.args.basis.now in
     let is : IsBasis g.row.P b = subst (IsBasis g.row.P) c.basis.view_is c.basis.invariant in
-    let found : ℕ = c.index.result.now in
-    let found_is : found ≡ get_or b.targets c.args.k 0 =
-    c.index.ensures ∙ get_or_default c.basis.inside.targets.items c.args.k found 0 (subst (λ (b : BasisModel). c.args.k < length b.targets) (sym c.basis.view_is) c.requires.target) ∙ ap (λ (b : BasisModel). get_or b.targets c.args.k 0) c.basis.view_is in
-    let below : found < length b.points = omega (arith, found_is, (position g.row.P b is c.args.k c.requires.target).inside) in
-    let target_is : c.index-target.result.now ≡ target_of b c.args.k =
-    c.index-target.ensures ∙ get_or_default c.basis.inside.points.items found c.index-target.result.now no_point (subst (λ (b : BasisModel). found < length b.points) (sym c.basis.view_is) below) ∙ ap (λ (b : BasisModel). point_at b.points found) c.basis.view_is ∙ ap (point_at b.points) found_is in
-    let leaf : c.leaf_of-leaf.result ≡ target_leaf b c.args.k = c.leaf_of-leaf.ensures ∙ ap (λ (b : BasisModel). leaf_of b.tree found) c.basis.view_is ∙ ap (leaf_of b.tree) found_is in
+    let target_is = target_read c.basis.view_is g.row.P is c.args.k c.requires.target c.index.result.now c.index.ensures c.index-target.result.now c.index-target.ensures in
+    let leaf = leaf_read c.basis.view_is g.row.P is c.args.k c.requires.target c.index.result.now c.index.ensures c.leaf_of-leaf.result c.leaf_of-leaf.ensures in
     let in_tree = leaf_below g.row.P b is c.args.k c.requires.target c.leaf_of-leaf.result leaf in
+    let grid = target_in_grid g.row.P b is c.args.k c.requires.target c.index-target.result.now target_is in
+    let held = leaf_holds g.row.P b is c.args.k c.requires.target c.leaf_of-leaf.result leaf c.index-target.result.now target_is in
     let rows = subst (λ n. AreMultipolePlaces g.row.P b.points b.tree c.args.up.now (list_at b.lists.w n)) (sym leaf) c.requires.rows in
-    let orders = order_bounds g.row.P is.order in (
-      search rules,
-      (
-        omega (arith, orders),
-        (
-          in_tree,
-          (
-            rows,
-            (
-              target_in_grid g.row.P b is c.args.k c.requires.target c.index-target.result.now target_is,
-              leaf_holds g.row.P b is c.args.k c.requires.target c.leaf_of-leaf.result leaf c.index-target.result.now target_is,
-            ),
-          ),
-        ),
-      ),
-    )
+    let orders = order_bounds g.row.P is.order in
+    (search rules, (omega (arith, orders), (in_tree, (rows, (grid, held)))))
 
 pub u_pairs-near-requires : goal.u_pairs-near-requires
 u_pairs-near-requires g c =
     let b = c.args.basis.now in
     let is : IsBasis g.row.P b = subst (IsBasis g.row.P) c.basis.view_is c.basis.invariant in
-    let found : ℕ = c.index.result.now in
-    let found_is : found ≡ get_or b.targets c.args.k 0 =
-    c.index.ensures ∙ get_or_default c.basis.inside.targets.items c.args.k found 0 (subst (λ (b : BasisModel). c.args.k < length b.targets) (sym c.basis.view_is) c.requires.target) ∙ ap (λ (b : BasisModel). get_or b.targets c.args.k 0) c.basis.view_is in
-    let below : found < length b.points = omega (arith, found_is, (position g.row.P b is c.args.k c.requires.target).inside) in
-    let target_is : c.index-target.result.now ≡ target_of b c.args.k =
-    c.index-target.ensures ∙ get_or_default c.basis.inside.points.items found c.index-target.result.now no_point (subst (λ (b : BasisModel). found < length b.points) (sym c.basis.view_is) below) ∙ ap (λ (b : BasisModel). point_at b.points found) c.basis.view_is ∙ ap (point_at b.points) found_is in
-    let leaf : c.leaf_of-leaf.result ≡ target_leaf b c.args.k = c.leaf_of-leaf.ensures ∙ ap (λ (b : BasisModel). leaf_of b.tree found) c.basis.view_is ∙ ap (leaf_of b.tree) found_is in
+    let target_is = target_read c.basis.view_is g.row.P is c.args.k c.requires.target c.index.result.now c.index.ensures c.index-target.result.now c.index-target.ensures in
+    let leaf = leaf_read c.basis.view_is g.row.P is c.args.k c.requires.target c.index.result.now c.index.ensures c.leaf_of-leaf.result c.leaf_of-leaf.ensures in
     let in_tree = leaf_below g.row.P b is c.args.k c.requires.target c.leaf_of-leaf.result leaf in
-    (search rules, (in_tree, (target_in_grid g.row.P b is c.args.k c.requires.target c.index-target.result.now target_is, c.requires.room)))
+    let grid = target_in_grid g.row.P b is c.args.k c.requires.target c.index-target.result.now target_is in
+    (search rules, (in_tree, (grid, c.requires.room)))
 
 pub w_radius-requires : goal.w_radius-requires
 w_radius-requires g c =
     let b = c.args.basis.now in
     let is : IsBasis g.row.P b = subst (IsBasis g.row.P) c.basis.view_is c.basis.invariant in
-    let found : ℕ = c.index.result.now in
-    let found_is : found ≡ get_or b.targets c.args.k 0 =
-    c.index.ensures ∙ get_or_default c.basis.inside.targets.items c.args.k found 0 (subst (λ (b : BasisModel). c.args.k < length b.targets) (sym c.basis.view_is) c.requires.target) ∙ ap (λ (b : BasisModel). get_or b.targets c.args.k 0) c.basis.view_is in
-    let below : found < length b.points = omega (arith, found_is, (position g.row.P b is c.args.k c.requires.target).inside) in
-    let leaf : c.leaf_of-leaf.result ≡ target_leaf b c.args.k = c.leaf_of-leaf.ensures ∙ ap (λ (b : BasisModel). leaf_of b.tree found) c.basis.view_is ∙ ap (leaf_of b.tree) found_is in
+    let leaf = leaf_read c.basis.view_is g.row.P is c.args.k c.requires.target c.index.result.now c.index.ensures c.leaf_of-leaf.result c.leaf_of-leaf.ensures in
     let in_tree = leaf_below g.row.P b is c.args.k c.requires.target c.leaf_of-leaf.result leaf in
     (search rules, in_tree)
 
@@ -156,14 +113,10 @@ pub add-requires-2 : goal.add-requires-2
 add-requires-2 g c =
     let b = c.args.basis.now in
     let is : IsBasis g.row.P b = subst (IsBasis g.row.P) c.basis.view_is c.basis.invariant in
-    let found : ℕ = c.index.result.now in
-    let found_is : found ≡ get_or b.targets c.args.k 0 =
-    c.index.ensures ∙ get_or_default c.basis.inside.targets.items c.args.k found 0 (subst (λ (b : BasisModel). c.args.k < length b.targets) (sym c.basis.view_is) c.requires.target) ∙ ap (λ (b : BasisModel). get_or b.targets c.args.k 0) c.basis.view_is in
-    let below : found < length b.points = omega (arith, found_is, (position g.row.P b is c.args.k c.requires.target).inside) in
-    let leaf : c.leaf_of-leaf.result ≡ target_leaf b c.args.k = c.leaf_of-leaf.ensures ∙ ap (λ (b : BasisModel). leaf_of b.tree found) c.basis.view_is ∙ ap (leaf_of b.tree) found_is in
+    let leaf = leaf_read c.basis.view_is g.row.P is c.args.k c.requires.target c.index.result.now c.index.ensures c.leaf_of-leaf.result c.leaf_of-leaf.ensures in
     let in_tree = leaf_below g.row.P b is c.args.k c.requires.target c.leaf_of-leaf.result leaf in
     let kept : PlaceModel = place_at c.args.local.now (target_leaf b c.args.k) in
-    let kept_is : c.index-local-leaf.result ≡ kept = c.index-local-leaf.is ∙ get_or_default c.args.local.now c.leaf_of-leaf.result c.index-local-leaf.result no_place (omega (arith, leaf, c.requires.leaf.in_range)) ∙ ap (place_at c.args.local.now) leaf in
+    let kept_is : c.index-local-leaf.result ≡ kept = place_read c.args.local.now c.leaf_of-leaf.result c.index-local-leaf.result (omega (arith, leaf, c.requires.leaf.in_range)) c.index-local-leaf.is ∙ ap (place_at c.args.local.now) leaf in
     let row_is : c.row.result.cells.now ≡ kept.row = c.row.ensures ∙ ap (λ (p : PlaceModel). p.row) kept_is in
     let small = subst (λ (cells : List CBox). RowWithin g.row.P (2 ^ 82) (row_of cells)) (sym row_is) (local_small g.row.P b is c.args.k c.requires.target kept c.requires.leaf.place_is) in
     let inner = subst (BoxEndsWithin (2 ^ 96 + 2 ^ 99)) (sym c.add.ensures.ends) (add_box_within (2 ^ 96) (2 ^ 99) (box_ends c.w_values-far.result) (box_ends c.u_pairs-near.result) c.w_values-far.ensures.size c.u_pairs-near.ensures.size) in
@@ -176,14 +129,10 @@ pub widen-requires-clause-fits : goal.widen-requires-clause-fits
 widen-requires-clause-fits g c =
     let b = c.args.basis.now in
     let is : IsBasis g.row.P b = subst (IsBasis g.row.P) c.basis.view_is c.basis.invariant in
-    let found : ℕ = c.index.result.now in
-    let found_is : found ≡ get_or b.targets c.args.k 0 =
-    c.index.ensures ∙ get_or_default c.basis.inside.targets.items c.args.k found 0 (subst (λ (b : BasisModel). c.args.k < length b.targets) (sym c.basis.view_is) c.requires.target) ∙ ap (λ (b : BasisModel). get_or b.targets c.args.k 0) c.basis.view_is in
-    let below : found < length b.points = omega (arith, found_is, (position g.row.P b is c.args.k c.requires.target).inside) in
-    let leaf : c.leaf_of-leaf.result ≡ target_leaf b c.args.k = c.leaf_of-leaf.ensures ∙ ap (λ (b : BasisModel). leaf_of b.tree found) c.basis.view_is ∙ ap (leaf_of b.tree) found_is in
+    let leaf = leaf_read c.basis.view_is g.row.P is c.args.k c.requires.target c.index.result.now c.index.ensures c.leaf_of-leaf.result c.leaf_of-leaf.ensures in
     let in_tree = leaf_below g.row.P b is c.args.k c.requires.target c.leaf_of-leaf.result leaf in
     let kept : PlaceModel = place_at c.args.local.now (target_leaf b c.args.k) in
-    let kept_is : c.index-local-leaf.result ≡ kept = c.index-local-leaf.is ∙ get_or_default c.args.local.now c.leaf_of-leaf.result c.index-local-leaf.result no_place (omega (arith, leaf, c.requires.leaf.in_range)) ∙ ap (place_at c.args.local.now) leaf in
+    let kept_is : c.index-local-leaf.result ≡ kept = place_read c.args.local.now c.leaf_of-leaf.result c.index-local-leaf.result (omega (arith, leaf, c.requires.leaf.in_range)) c.index-local-leaf.is ∙ ap (place_at c.args.local.now) leaf in
     let row_is : c.row.result.cells.now ≡ kept.row = c.row.ensures ∙ ap (λ (p : PlaceModel). p.row) kept_is in
     let small = subst (λ (cells : List CBox). RowWithin g.row.P (2 ^ 82) (row_of cells)) (sym row_is) (local_small g.row.P b is c.args.k c.requires.target kept c.requires.leaf.place_is) in
     let inner = subst (BoxEndsWithin (2 ^ 96 + 2 ^ 99)) (sym c.add.ensures.ends) (add_box_within (2 ^ 96) (2 ^ 99) (box_ends c.w_values-far.result) (box_ends c.u_pairs-near.result) c.w_values-far.ensures.size c.u_pairs-near.ensures.size) in
@@ -199,25 +148,19 @@ widen-requires-clause-fits g c =
     subst (λ r. BoxEndsWithin (2 ^ 126) (widen_box (box_ends c.add-2.result) r)) (sym lost)
     (box_wider _ _ _ (omega arith) (widen_box_within (2 ^ 88 + (2 ^ 96 + 2 ^ 99)) (2 ^ 91) (box_ends c.add-2.result) _ whole little))
 
-pub returns-clause-value : goal.returns-clause-value
-returns-clause-value g c =
+pub returns : goal.returns
+returns g c =
     let b = c.args.basis.now in
     let is : IsBasis g.row.P b = subst (IsBasis g.row.P) c.basis.view_is c.basis.invariant in
-    let found : ℕ = c.index.result.now in
-    let found_is : found ≡ get_or b.targets c.args.k 0 =
-    c.index.ensures ∙ get_or_default c.basis.inside.targets.items c.args.k found 0 (subst (λ (b : BasisModel). c.args.k < length b.targets) (sym c.basis.view_is) c.requires.target) ∙ ap (λ (b : BasisModel). get_or b.targets c.args.k 0) c.basis.view_is in
-    let below : found < length b.points = omega (arith, found_is, (position g.row.P b is c.args.k c.requires.target).inside) in
-    let target_is : c.index-target.result.now ≡ target_of b c.args.k =
-    c.index-target.ensures ∙ get_or_default c.basis.inside.points.items found c.index-target.result.now no_point (subst (λ (b : BasisModel). found < length b.points) (sym c.basis.view_is) below) ∙ ap (λ (b : BasisModel). point_at b.points found) c.basis.view_is ∙ ap (point_at b.points) found_is in
-    let leaf : c.leaf_of-leaf.result ≡ target_leaf b c.args.k = c.leaf_of-leaf.ensures ∙ ap (λ (b : BasisModel). leaf_of b.tree found) c.basis.view_is ∙ ap (leaf_of b.tree) found_is in
+    let target_is = target_read c.basis.view_is g.row.P is c.args.k c.requires.target c.index.result.now c.index.ensures c.index-target.result.now c.index-target.ensures in
+    let leaf = leaf_read c.basis.view_is g.row.P is c.args.k c.requires.target c.index.result.now c.index.ensures c.leaf_of-leaf.result c.leaf_of-leaf.ensures in
     let in_tree = leaf_below g.row.P b is c.args.k c.requires.target c.leaf_of-leaf.result leaf in
-    let read : square c.index-cells-leaf.result ≡ square_of b.tree c.leaf_of-leaf.result =
-    read_at c.basis.inside.tree c.cells.result.now c.leaf_of-leaf.result c.index-cells-leaf.result c.cells.ensures.all (subst (λ (b : BasisModel). c.leaf_of-leaf.result < size b.tree) (sym c.basis.view_is) in_tree) c.index-cells-leaf.is
-    ∙ ap (λ (b : BasisModel). square_of b.tree c.leaf_of-leaf.result) c.basis.view_is in
+    let read = cell_read c.basis.view_is c.leaf_of-leaf.result in_tree c.cells.result.now c.index-cells-leaf.result c.cells.ensures.all c.index-cells-leaf.is in
     let kept : PlaceModel = place_at c.args.local.now (target_leaf b c.args.k) in
-    let kept_is : c.index-local-leaf.result ≡ kept = c.index-local-leaf.is ∙ get_or_default c.args.local.now c.leaf_of-leaf.result c.index-local-leaf.result no_place (omega (arith, leaf, c.requires.leaf.in_range)) ∙ ap (place_at c.args.local.now) leaf in
+    let kept_is : c.index-local-leaf.result ≡ kept = place_read c.args.local.now c.leaf_of-leaf.result c.index-local-leaf.result (omega (arith, leaf, c.requires.leaf.in_range)) c.index-local-leaf.is ∙ ap (place_at c.args.local.now) leaf in
     let row_is : c.row.result.cells.now ≡ kept.row = c.row.ensures ∙ ap (λ (p : PlaceModel). p.row) kept_is in
-    let f = grid_fits c.index-target.result.now.x c.index-target.result.now.y (target_in_grid g.row.P b is c.args.k c.requires.target c.index-target.result.now target_is) in
+    let grid = target_in_grid g.row.P b is c.args.k c.requires.target c.index-target.result.now target_is in
+    let f = grid_fits c.index-target.result.now.x c.index-target.result.now.y grid in
     let x = f.0 in
     let y = f.1 in
     let m : ℕ = c.index-local-leaf.result.radius in
@@ -231,33 +174,13 @@ returns-clause-value g c =
     ∙ ap₂ (λ (q : Square) (t : Point). local_value g.row.P (row_of kept.row) (side q) (offset q (place t))) (read ∙ ap (square_of b.tree) leaf) target_is in
     let far = c.w_values-far.ensures.ends ∙ ap₂ (λ (t : Point) n. total_box (value_of_cell g.row.P b (place t)) (list_at b.lists.w n)) target_is leaf in
     let near = c.u_pairs-near.ensures.ends ∙ ap₂ (λ (t : Point) n. total_box (pairs_of_cell b (place t)) (list_at b.lists.u n)) target_is leaf in
-    box_is g.row.P b is c.args.k c.requires.target kept c.requires.leaf.place_is c.widen.result
+    let is_box : IsTargetBox g.row.P b c.args.k c.widen.result = box_is g.row.P b is c.args.k c.requires.target kept c.requires.leaf.place_is c.widen.result
     (c.widen.ensures.ends
     ∙ ap₂ widen_box (c.add-2.ensures.ends ∙ ap₂ add_box value (c.add.ensures.ends ∙ ap₂ add_box far near))
-    (lost ∙ ap₂ (λ (p : PlaceModel) n. pos (p.radius + sum_by (loss_of_cell g.row.P b) (list_at b.lists.w n))) kept_is leaf))
-
-pub returns-clause-contains : goal.returns-clause-contains
-returns-clause-contains g c =
-    let b = c.args.basis.now in
-    let is : IsBasis g.row.P b = subst (IsBasis g.row.P) c.basis.view_is c.basis.invariant in
-    box_contains g.row.P b is c.args.k c.requires.target c.widen.result (returns-clause-value g c)
-
-pub returns-clause-size : goal.returns-clause-size
-returns-clause-size g c =
-    let b = c.args.basis.now in
-    let is : IsBasis g.row.P b = subst (IsBasis g.row.P) c.basis.view_is c.basis.invariant in
-    box_small g.row.P b is c.args.k c.requires.target c.widen.result (returns-clause-value g c)
-
-pub returns-clause-work : goal.returns-clause-work
-returns-clause-work g c =
-    let b = c.args.basis.now in
-    let is : IsBasis g.row.P b = subst (IsBasis g.row.P) c.basis.view_is c.basis.invariant in
-    let found : ℕ = c.index.result.now in
-    let found_is : found ≡ get_or b.targets c.args.k 0 =
-    c.index.ensures ∙ get_or_default c.basis.inside.targets.items c.args.k found 0 (subst (λ (b : BasisModel). c.args.k < length b.targets) (sym c.basis.view_is) c.requires.target) ∙ ap (λ (b : BasisModel). get_or b.targets c.args.k 0) c.basis.view_is in
-    let below : found < length b.points = omega (arith, found_is, (position g.row.P b is c.args.k c.requires.target).inside) in
-    let target_is : c.index-target.result.now ≡ target_of b c.args.k =
-    c.index-target.ensures ∙ get_or_default c.basis.inside.points.items found c.index-target.result.now no_point (subst (λ (b : BasisModel). found < length b.points) (sym c.basis.view_is) below) ∙ ap (λ (b : BasisModel). point_at b.points found) c.basis.view_is ∙ ap (point_at b.points) found_is in
-    let leaf : c.leaf_of-leaf.result ≡ target_leaf b c.args.k = c.leaf_of-leaf.ensures ∙ ap (λ (b : BasisModel). leaf_of b.tree found) c.basis.view_is ∙ ap (leaf_of b.tree) found_is in
-    let in_tree = leaf_below g.row.P b is c.args.k c.requires.target c.leaf_of-leaf.result leaf in
-    c.u_pairs-near.ensures.work ∙ ap₂ (λ (t : Point) n. paired (sum_by (count_of_cell b (place t)) (list_at b.lists.u n)) c.args.work.now) target_is leaf
+    (lost ∙ ap₂ (λ (p : PlaceModel) n. pos (p.radius + sum_by (loss_of_cell g.row.P b) (list_at b.lists.w n))) kept_is leaf)) in
+    record {
+      value = is_box;
+      contains = box_contains g.row.P b is c.args.k c.requires.target c.widen.result is_box;
+      size = box_small g.row.P b is c.args.k c.requires.target c.widen.result is_box;
+      work = c.u_pairs-near.ensures.work ∙ ap₂ (λ (t : Point) n. paired (sum_by (count_of_cell b (place t)) (list_at b.lists.u n)) c.args.work.now) target_is leaf;
+    }
