@@ -26,7 +26,7 @@ use Rattle.quadtree.specs.TreeModel.{leaf_of}
 use Rattle.tree_field.specs.Field.{target_box, targets}
 use Rattle.tree_field.proofs.Whole.{field_contains}
 use Rattle.target_values.proofs.FieldBox.{some_lists, limited}
-use Rattle.target_values.proofs.NearBounds.{few_pairs}
+use Rattle.target_values.proofs.PairBounds.{few_pairs}
 use Rattle.target_values.proofs.Numbers.{inside}
 use Rattle.target_values.proofs.Pairs.{count_at, pairs_are}
 

@@ -12,7 +12,7 @@ use Rattle.points.specs.declared.Point.{Point}
 use Rattle.quadtree.specs.TreeModel.{node_of}
 use Rattle.soundness.specs.Computed.{total_box}
 use Rattle.tree_field.proofs.Program.{nodes_of_tree}
-use Rattle.target_values.proofs.NearSums.{sources, ends-step, count-step, one_at_most, paired_again}
+use Rattle.target_values.proofs.PairSums.{sources, ends-step, count-step, one_at_most, paired_again}
 use Rattle.target_values.proofs.Numbers.{inside, few_members, member_below}
 use Rattle.target_values.proofs.Read.{point_read}
 use Rattle.target_values.proofs.u_entries.cell_pairs.Goals as goal

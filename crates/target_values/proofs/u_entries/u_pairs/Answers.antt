@@ -11,7 +11,7 @@ use Rattle.field_basis.specs.Counts.{paired}
 use Rattle.letters.specs.declared.Letter.TheVariants.{U}
 use Rattle.points.specs.Points.{place}
 use Rattle.quadtree.specs.TreeModel.{size}
-use Rattle.target_values.proofs.NearSums.{total-step, paired_again}
+use Rattle.target_values.proofs.PairSums.{total-step, paired_again}
 use Rattle.target_values.proofs.Numbers.{number_below, few_items}
 use Rattle.target_values.specs.Values.{pairs_of_cell, count_of_cell}
 use Rattle.target_values.proofs.u_entries.u_pairs.Goals as goal

@@ -3,7 +3,7 @@ use Rattle.exact_math.specs.Ends.{add_box}
 use Rattle.complex_box.specs.Box.{box_ends}
 use Rattle.complex_box.proofs.Sizes.{add_box_within, box_wider}
 use Rattle.points.specs.Points.{place}
-use Rattle.target_values.proofs.NearSums.{ends_at, pairs_at, sum_of_one, pair_counted, weight-most}
+use Rattle.target_values.proofs.PairSums.{ends_at, pairs_at, sum_of_one, pair_counted, weight-most}
 use Rattle.target_values.proofs.u_entries.with_pair.Goals as goal
 
 pub add-requires : goal.add-requires

@@ -12,7 +12,7 @@ use Rattle.places.specs.Place.{place_at}
 use Rattle.points.specs.Points.{place}
 use Rattle.quadtree.specs.TreeModel.{size}
 use Rattle.target_values.proofs.FarCells.{far_from}
-use Rattle.target_values.proofs.NearSums.{total-step}
+use Rattle.target_values.proofs.PairSums.{total-step}
 use Rattle.target_values.proofs.Numbers.{number_below, few_items}
 use Rattle.target_values.specs.Values.{value_of_cell}
 use Rattle.target_values.proofs.w_entries.w_values.Goals as goal
