@@ -1,5 +1,5 @@
 -- How many rows are shifted up in all: one for each cell below the root that has a source.
-use Rattle.std.proofs.Common.{ℕ, ◌≡◌, ◌≢◌, ◌+◌, ◌-◌, ◌<◌, ◌≤◌, suc, inl, inr, List, [], ◌∷◌, length, filter, Bool, true, false, cond, refl, sym, ap, ap₂, ◌∙◌, subst, arith, length-append}
+use Rattle.std.proofs.Common.{ℕ, ◌≡◌, ◌≢◌, ◌+◌, ◌<◌, ◌≤◌, inl, inr, List, [], ◌∷◌, length, filter, Bool, true, false, cond, refl, sym, ap, ap₂, ◌∙◌, subst, arith, length-append}
 use Rattle.std.specs.Prelude.{AllPairs, Contains, nat_lt, sum_by, count_by}
 use Rattle.std.specs.List.{flat_map, range_with_len}
 use Rattle.std.proofs.lemmas.Bool.{and_parts, and_from, lt-ltb, ltb-true}
@@ -9,6 +9,8 @@ use Rattle.std.proofs.lemmas.List.Kept.{AllPairs-filter}
 use Rattle.std.proofs.lemmas.List.Sums.{sum_by-cons, length-filter}
 use Rattle.cell_name.specs.Cell.{square}
 use Rattle.cell_name.specs.Square.{Square, parent}
+use Rattle.complex_box.specs.Counts.{Counts}
+use Rattle.field_basis.specs.Counts.{shifts_into, translated}
 use Rattle.points.specs.declared.Point.{Point}
 use Rattle.cell_name.specs.Quarters.{quarters}
 use Rattle.quadtree.specs.Tree.{AreInGrid, IsTreeCell, IsSplit, IsLeaf}
@@ -20,8 +22,15 @@ use Rattle.tree_field.specs.Field.{has_source}
 use Rattle.quadtree.proofs.Ascending.{ascending_differ}
 use Rattle.quadtree.proofs.Lists.{AllPairs-range, Contains-range, range_below}
 use Rattle.tree_field.proofs.Numbers.{number, number_below, cell_of_number, number_of_cell}
-use Rattle.upward_rows.specs.Upward.{shifts_into, is_shifted}
+use Rattle.upward_rows.specs.Shifted.{is_shifted}
 use Rattle.upward_rows.proofs.Trees.{inner_is, quarter_listed}
+
+abbrev counts : ℕ → ℕ → Counts
+counts translations pairs = record { translations = translations; pairs = pairs }
+
+-- the translations alone have grown
+pub raised_by : (count : ℕ) (now old : Counts) → now.translations ≡ old.translations + count → now.pairs ≡ old.pairs → now ≡ translated count old
+raised_by count now old t p = ap₂ counts t p
 
 -- the quarters whose rows are shifted into that of the cell n
 abbrev shifted_quarters : List Point → TreeModel → ℕ → List Square
@@ -37,11 +46,6 @@ shifts_are points tree (x ∷ xs) =
     sum_by-cons (shifts_into points tree) x xs
     ∙ ap₂ (λ m n. m + n) (as_many (node_of tree x).is_leaf (has_source points) (quarters (square_of tree x))) (shifts_are points tree xs)
     ∙ sym (length-append (shifted_quarters points tree x) (flat_map (shifted_quarters points tree) xs))
-
-pub shifts_more : (points : List Point) (tree : TreeModel) (n s : ℕ) → n < s → sum_by (shifts_into points tree) (range_with_len n (s - n)) ≡ shifts_into points tree n + sum_by (shifts_into points tree) (range_with_len (n + 1) (s - (n + 1)))
-shifts_more points tree n s lt =
-    ap (λ k. sum_by (shifts_into points tree) (range_with_len n k)) (let e : s - n ≡ suc (s - (n + 1)) = omega arith in e)
-    ∙ sum_by-cons (shifts_into points tree) n (range_with_len (n + 1) (s - (n + 1)))
 
 kept_differ : (b : Bool) (p : Square → Bool) (xs : List Square) → AllPairs (λ a b. a ≢ b) xs → AllPairs (λ a b. a ≢ b) (cond b [] (filter p xs))
 kept_differ true p xs h = λ i j d lt inside. absurd (omega arith)

@@ -2,14 +2,14 @@
 use Rattle.std.proofs.Common.{ℕ, ◌≡◌, ◌+◌, ◌*◌, ◌%◌, ◌<◌, ◌≤◌, inl, inr, ◌⊎◌, List, [], ◌∷◌, ◌++◌, length, get_or, take, filter, Bool, true, false, cond, sym, ap, ap₂, ◌∙◌, subst, arith, append-nil}
 use Rattle.std.specs.Prelude.{Contains, ◌==◌}
 use Rattle.std.proofs.lemmas.Bool.{false≢true}
-use Rattle.std.proofs.lemmas.List.{take_more, length-map}
-use Rattle.std.proofs.lemmas.List.Elements.{filter-append, All-get_or}
-use Rattle.cell_name.specs.Cell.{square, half_number}
-use Rattle.cell_name.specs.Square.{Square, root, parent}
+use Rattle.std.proofs.lemmas.List.{take_more}
+use Rattle.std.proofs.lemmas.List.Elements.{filter-append}
+use Rattle.cell_name.specs.Cell.{half_number}
+use Rattle.cell_name.specs.Square.{Square, parent}
 use Rattle.cell_name.specs.declared.cell.Quadrant.{Quadrant}
 use Rattle.points.specs.declared.Point.{Point}
 use Rattle.cell_name.specs.Quarters.{quarter}
-use Rattle.quadtree.specs.Tree.{count_in, IsTreeCell, IsSplit}
+use Rattle.quadtree.specs.Tree.{count_in, IsSplit}
 use Rattle.quadtree.specs.TreeModel.{TreeModel, size, squares, square_of, node_of, IsTreeOf}
 use Rattle.quadtree.proofs.TreeChildren.{tree_cell_at}
 use Rattle.quadtree.proofs.Parents.{leaf_or_split, IsTreeCell-from_below}

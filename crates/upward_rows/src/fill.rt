@@ -2,19 +2,56 @@
 ghost use Rattle.std.specs.Prelude.{◌≡◌, ℕ, ◌<◌, ◌≤◌, ◌^◌, length};
 ghost use Rattle.exact_math.specs.Orders.{IsOrder};
 ghost use Rattle.field_basis.specs.Counts.{shifts_into, translated};
-ghost use Rattle.field_basis.specs.FieldPlaces.{AreMultipolePlaces, IsMultipolePlace};
+ghost use Rattle.field_basis.specs.FieldPlaces.{AreMultipolePlaces, AreSameRows, IsMultipolePlace};
 ghost use Rattle.field_basis.specs.Trees.{IsTreeOfPoints};
 ghost use Rattle.places.specs.Place.{IsSameButRow, OthersStay, place_at};
-ghost use Rattle.quadtree.specs.TreeModel.{size};
+ghost use Rattle.quadtree.specs.TreeModel.{IsTreeOf, size, square_of};
+ghost use Rattle.row_recursions.specs.Rows.{row_of};
+ghost use Rattle.tree_field.specs.Field.{multipole_row};
 ghost use Rattle.tree_field.specs.Program.{source_children};
 ghost use Rattle.upward_rows.specs.Behind.{AreBehind};
 
 use crate::sources::sum_sources;
-use complex_box::{Work, clear};
+use complex_box::{CBox, Work, clear};
 use multipole_shift::shift_up;
 use places::Place;
 use points::Point;
 use quadtree::Tree;
+
+/// Makes the multipole row of cell `n` in `row`, as `make_place` says, and under its conditions. `row` has `P` boxes.
+fn sum_row<const P: usize>(
+    tree: &Tree,
+    points: &[Point],
+    n: usize,
+    behind: &[Place<P>],
+    row: &mut [CBox],
+    work: &mut Work,
+)
+    requires order { IsOrder P }
+    requires tree { IsTreeOfPoints points.now tree.now }
+    requires cell { n < size tree.now }
+    requires behind { AreBehind P points.now tree.now behind.now (source_children tree.now n) }
+    requires len { length row.old ≡ P }
+    requires room { work.old.translations < 2 ^ 62 }
+    ensures row { (cap : ℕ) → IsTreeOf 16 tree.now points.now cap → AreSameRows P (row_of row.new) (multipole_row points.now cap (square_of tree.now n)) }
+    ensures work { work.new ≡ translated (shifts_into points.now tree.now n) work.old }
+{
+    let cells = tree.cells();
+    if tree.is_leaf(n) {
+        sum_sources::<P>(points, tree.members(n), cells[n], row);
+    } else {
+        clear(row);
+        let first = cells.len() - behind.len();
+        let children = tree.children(n);
+        for child in children {
+            let m = *child as usize;
+            if tree.has_source(m) {
+                let q = cells[m].quadrant();
+                shift_up::<P>(behind[m - first].row(), q, row, work);
+            }
+        }
+    }
+}
 
 /// Makes the multipole row of cell `n`: of a leaf the sum of the moments of its sources, of another cell the sum of the rows of its quarters
 /// that have a source, shifted up, which raises the translations by one each. A cell without a source gets zeros. `behind` are the places of
@@ -39,21 +76,7 @@ pub fn make_place<const P: usize>(
     ensures rest { IsSameButRow place.old place.new }
     ensures work { work.new ≡ translated (shifts_into points.now tree.now n) work.old }
 {
-    let row = place.row_mut();
-    let cells = tree.cells();
-    if tree.is_leaf(n) {
-        sum_sources::<P>(points, tree.members(n), cells[n], row);
-    } else {
-        clear(row);
-        let first = cells.len() - behind.len();
-        let children = tree.children(n);
-        for child in children {
-            let m = *child as usize;
-            if tree.has_source(m) {
-                shift_up::<P>(behind[m - first].row(), cells[m].quadrant(), row, work);
-            }
-        }
-    }
+    sum_row::<P>(tree, points, n, behind, place.row_mut(), work);
 }
 
 /// Makes the multipole row of cell `n` in its place among the places of all cells.

@@ -1,42 +1,38 @@
--- One row more.
-use Rattle.std.proofs.Common.{inl, inr, ◌≡◌, ◌+◌, ◌-◌, ◌*◌, ◌^◌, ◌<◌, ap, ◌∙◌, sym, subst, length, arith}
-use Rattle.std.specs.Prelude.{sum_by}
+-- One place more.
+use Rattle.std.proofs.Common.{inl, inr, ◌≡◌, ℕ, ◌-◌, ◌<◌, length, ap, ◌∙◌, sym, subst, arith}
+use Rattle.std.specs.Prelude.{sum_by, slice_set}
 use Rattle.std.specs.List.{range_with_len}
 use Rattle.std.proofs.lemmas.Bool.{cases_lt}
-use Rattle.exact_math.specs.Ends.{BoxEndsWithin}
+use Rattle.std.proofs.lemmas.List.{get_or_default, get_or-set_same, get_or-set_other}
 use Rattle.exact_math.proofs.Orders.{order_bounds}
-use Rattle.complex_box.specs.Box.{box_ends}
-use Rattle.quadtree.specs.TreeModel.{size, square_of}
-use Rattle.row_recursions.specs.Sizes.{RowWithin}
-use Rattle.tree_field.specs.Field.{multipole_row}
-use Rattle.tree_field.specs.Program.{source_children}
-use Rattle.quadtree.proofs.Lists.{All-from_members}
-use Rattle.tree_rows.specs.FlatRows.{row_at}
-use Rattle.upward_rows.specs.Upward.{shifts_into}
-use Rattle.upward_rows.proofs.Children.{source_child_is}
+use Rattle.complex_box.specs.Counts.{Counts}
+use Rattle.field_basis.specs.Counts.{shifts_into}
+use Rattle.field_basis.specs.FieldPlaces.{IsMultipolePlace}
+use Rattle.field_basis.proofs.PlaceSums.{sum_by_number}
+use Rattle.places.specs.Place.{PlaceModel, no_place, place_at}
 use Rattle.quadtree.proofs.Limits.{in_grid}
-use Rattle.upward_rows.proofs.Counts.{shifts_more, shifts_of_all}
-use Rattle.field_sizes.proofs.MultipoleSizes.{multipole_row-light}
-use Rattle.upward_rows.proofs.Slices.{row_fits}
-use Rattle.field_sizes.proofs.RowTotals.{wider}
-use Rattle.quadtree.proofs.TreeChildren.{tree_cell_at}
+use Rattle.quadtree.proofs.Lists.{All-from_members}
+use Rattle.quadtree.specs.TreeModel.{size}
+use Rattle.row_recursions.specs.Rows.{row_of}
+use Rattle.tree_field.specs.Program.{source_children}
+use Rattle.upward_rows.proofs.Children.{source_child_is}
+use Rattle.upward_rows.proofs.Counts.{shifts_of_all}
 use Rattle.upward_rows.proofs.pass.upward_pass.Goals as goal
 
-pub fill_row-requires-clause-small : goal.fill_row-requires-clause-small
-fill_row-requires-clause-small g c =
+pub fill_place-requires : goal.fill_place-requires
+fill_place-requires g c =
     let P = g.row.P in
+    let n = c.loop-n.n - 1 in
     let tree = c.args.tree.now in
     let points = c.args.points.now in
-    let capacity = c.requires.tree.cap in
-    let is = c.requires.tree.is_tree in
-    let n = c.loop-n.n - 1 in
+    let places = c.loop-n.places in
     let lt : n < size tree = omega (arith, c.loop-n-test.true, c.loop-n.auto.n, ap length c.cells-n.ensures.all) in
     let few = order_bounds P c.requires.order in
-    All-from_members (λ m. RowWithin P (2 ^ 74) (row_at P c.loop-n.rows m)) (source_children tree n) (λ m listed k h.
+    let as_many : length places ≡ size tree = omega (arith, c.loop-n.auto.places, c.requires.len) in
+    let quarters = All-from_members (λ m. (m < length places) × IsMultipolePlace P points tree m (place_at places m)) (source_children tree n) (λ m listed.
     let child = source_child_is points tree c.requires.tree n lt m listed in
-    let cell = tree_cell_at tree points capacity m is child.in_range in
-    subst (BoxEndsWithin (2 ^ 74)) (sym (c.loop-n.invariant.rows capacity m is (omega (arith, child.behind)) child.in_range k h))
-    (wider P (2 ^ 72) (2 ^ 74) (multipole_row points capacity (square_of tree m)) (omega arith) (multipole_row-light P points capacity (square_of tree m) (omega (arith, few)) (omega (arith, cell.of_grid, cell.level_in_grid)) c.requires.tree.light) k h))
+    (omega (arith, child.in_range, as_many), c.loop-n.invariant.rows m (omega (arith, child.behind)) child.in_range)) in
+    (omega (arith, few), (c.requires.order, (c.requires.tree, (lt, (as_many, (quarters, omega (arith, c.new-work.ensures.translations)))))))
 
 pub loop-n-preserved : goal.loop-n-preserved
 loop-n-preserved g c =
@@ -44,37 +40,45 @@ loop-n-preserved g c =
     let points = c.args.points.now in
     let tree = c.args.tree.now in
     let n = c.loop-n.n - 1 in
-    let next : n + 1 ≡ c.loop-n.n = omega (arith, c.loop-n-test.true) in
     let lt : n < size tree = omega (arith, c.loop-n-test.true, c.loop-n.auto.n, ap length c.cells-n.ensures.all) in
-    let before = ap (λ k. sum_by (shifts_into points tree) (range_with_len k (size tree - k))) next in
+    let filled = c.fill_place.new.places in
+    let inside : n < length filled = omega (arith, lt, c.fill_place.auto.places, c.loop-n.auto.places, c.requires.len) in
+    let taken : c.set_translations.new.self.translations ≡ shifts_into points tree n =
+    omega (arith, c.set_translations.ensures.translations, c.translations.ensures, ap (λ (w : Counts). w.translations) c.fill_place.ensures.work, c.new-work.ensures.translations) in
+    let row = c.set_translations.ensures.row ∙ ap (λ (p : PlaceModel). p.row) (get_or_default filled n c.index-places-n.result no_place inside) in
+    let kept : (m : ℕ) → n < m → place_at (slice_set filled n c.set_translations.new.self) m ≡ place_at c.loop-n.places m =
+    λ m after. get_or-set_other filled n m c.set_translations.new.self no_place (omega (arith, after)) ∙ c.fill_place.ensures.others.others m (omega (arith, after)) in
+    let own : place_at (slice_set filled n c.set_translations.new.self) n ≡ c.set_translations.new.self = get_or-set_same filled n c.set_translations.new.self no_place inside in
     record {
-      rows = λ cap m is le inside k h.
+      rows = λ m le last.
           elim (cases_lt n m) [
             | inl after ↦
-                ap box_ends (c.fill_row.ensures.others.behind (m * P + k) (let f = row_fits n m P after in omega (arith, f)))
-                ∙ c.loop-n.invariant.rows cap m is (omega (arith, after, next)) inside k h
-            | inr last ↦
-                let e : m ≡ n = omega (arith, le, last) in
-                ap (λ j. row_at P c.fill_row.new.rows j k) e
-                ∙ c.fill_row.ensures.row cap is
-                (record {
-                  each = λ j listed. let child = source_child_is points tree c.requires.tree n lt j listed in
-                      c.loop-n.invariant.rows cap j is (omega (arith, child.behind, next)) child.in_range;
-                })
-                k h
-                ∙ ap (λ j. multipole_row points cap (square_of tree j) k) (sym e)
+                subst (IsMultipolePlace P points tree m) (sym (kept m after))
+                (c.loop-n.invariant.rows m (omega (arith, after)) last)
+            | inr early ↦
+                let e : n ≡ m = omega (arith, le, early) in
+                subst (λ j. IsMultipolePlace P points tree j (place_at (slice_set filled n c.set_translations.new.self) j)) e
+                (subst (IsMultipolePlace P points tree n) (sym own)
+                (record { row_is = λ cap is k h. ap (λ l. row_of l k) row ∙ c.fill_place.ensures.row.row_is cap is k h }))
           ];
-      translations = omega (arith, c.fill_row.ensures.translations, c.loop-n.invariant.translations, shifts_more points tree n (size tree) lt, before);
-      few = omega (arith, c.fill_row.ensures.few, c.loop-n.invariant.few, lt, next);
-      pairs = c.fill_row.ensures.pairs ∙ c.loop-n.invariant.pairs;
+      translations = λ m le last.
+          elim (cases_lt n m) [
+            | inl after ↦
+                ap (λ (p : PlaceModel). p.translations) (kept m after)
+                ∙ c.loop-n.invariant.translations m (omega (arith, after)) last
+            | inr early ↦
+                let e : n ≡ m = omega (arith, le, early) in
+                subst (λ j. (place_at (slice_set filled n c.set_translations.new.self) j).translations ≡ shifts_into points tree j) e
+                (ap (λ (p : PlaceModel). p.translations) own ∙ taken)
+          ];
     }
 
 pub returns-clause-translations : goal.returns-clause-translations
 returns-clause-translations g c =
     let points = c.args.points.now in
     let tree = c.args.tree.now in
-    let first : c.loop-n.n ≡ 0 = omega (arith, c.loop-n-test.false) in
-    let all = ap (λ k. sum_by (shifts_into points tree) (range_with_len k (size tree - k))) first in
-    let whole = ap (λ j. sum_by (shifts_into points tree) (range_with_len 0 j)) (let e : size tree - 0 ≡ size tree = omega arith in e) in
-    let total = shifts_of_all tree points c.requires.tree.cap c.requires.tree.is_tree (in_grid points c.requires.tree.range) in
-    omega (arith, c.loop-n.invariant.translations, all, whole, total)
+    let places = c.loop-n.places in
+    let as_many : length places ≡ size tree = omega (arith, c.loop-n.auto.places, c.requires.len) in
+    sum_by_number (λ (p : PlaceModel). p.translations) (shifts_into points tree) places no_place (λ m lt. c.loop-n.invariant.translations m (omega (arith, c.loop-n-test.false)) (omega (arith, lt, as_many)))
+    ∙ ap (λ k. sum_by (shifts_into points tree) (range_with_len 0 k)) as_many
+    ∙ shifts_of_all tree points c.requires.tree.cap c.requires.tree.is_tree (in_grid points c.requires.tree.range)

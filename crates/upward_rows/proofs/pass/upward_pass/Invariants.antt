@@ -1,18 +1,14 @@
--- The rows so far, and what they took.
-use Rattle.std.proofs.Common.{◌≡◌, ℕ, ◌+◌, ◌-◌, ◌*◌, ◌≤◌, ◌<◌}
-use Rattle.std.specs.Prelude.{sum_by}
-use Rattle.std.specs.List.{range_with_len}
-use Rattle.quadtree.specs.TreeModel.{size, square_of, IsTreeOf}
-use Rattle.tree_field.specs.Field.{multipole_row}
-use Rattle.tree_rows.specs.FlatRows.{row_at, AreSameRows}
-use Rattle.upward_rows.specs.Upward.{shifts_into}
+-- The places so far.
+use Rattle.std.proofs.Common.{ℕ, ◌≡◌, ◌<◌, ◌≤◌}
+use Rattle.field_basis.specs.Counts.{shifts_into}
+use Rattle.field_basis.specs.FieldPlaces.{IsMultipolePlace}
+use Rattle.places.specs.Place.{place_at}
+use Rattle.quadtree.specs.TreeModel.{size}
 use Rattle.upward_rows.proofs.pass.upward_pass.Given as goal
 
 abbrev pub invariant-loop-n : goal.invariant-loop-n
 invariant-loop-n g l =
     record {
-      rows : (cap m : ℕ) → IsTreeOf 16 l.tree l.points cap → l.n ≤ m → m < size l.tree → AreSameRows g.row.P (row_at g.row.P l.rows m) (multipole_row l.points cap (square_of l.tree m));
-      translations : l.work.translations ≡ l.initial.work.translations + sum_by (shifts_into l.points l.tree) (range_with_len l.n (size l.tree - l.n));
-      few : l.work.translations ≤ l.initial.work.translations + 4 * (size l.tree - l.n);
-      pairs : l.work.pairs ≡ l.initial.work.pairs;
+      rows : (m : ℕ) → l.n ≤ m → m < size l.tree → IsMultipolePlace g.row.P l.points l.tree m (place_at l.places m);
+      translations : (m : ℕ) → l.n ≤ m → m < size l.tree → (place_at l.places m).translations ≡ shifts_into l.points l.tree m;
     }
