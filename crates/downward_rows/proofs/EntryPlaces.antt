@@ -7,7 +7,7 @@ use Rattle.std.proofs.lemmas.List.FromFn.{length-range_with_len}
 use Rattle.std.proofs.lemmas.List.Filters.{length-filter_both}
 use Rattle.std.proofs.lemmas.Map.Keys.{sorted_from_strictly_increasing}
 use Rattle.std.proofs.lemmas.Map.Views.{length-le_from_below}
-use Rattle.std.proofs.lemmas.Option.{get_or_from_slice_get}
+use Rattle.std.proofs.lemmas.Option.{slice_get-get_or}
 use Rattle.cell_name.proofs.HoldsTest.{Holds-from_test}
 use Rattle.quadtree.proofs.TreeChildren.{tree_cell_at}
 use Rattle.cell_lists.specs.Entries.{IsEntry, IsVPair, IsWPair}
@@ -17,7 +17,6 @@ use Rattle.cell_lists.specs.ListAt.{list_at}
 use Rattle.letters.specs.declared.Letter.{Letter}
 use Rattle.letters.specs.declared.Letter.TheVariants.{V, X}
 use Rattle.cell_name.proofs.Cells.{Touches-sym}
-use Rattle.points.specs.Limits.{InRange}
 use Rattle.points.specs.declared.Point.{Point}
 use Rattle.quadtree.proofs.Distinct.{Contains-filter}
 use Rattle.quadtree.proofs.Limits.{in_grid}
@@ -26,7 +25,8 @@ use Rattle.quadtree.specs.TreeModel.{TreeModel, size, square_of, node_of}
 use Rattle.row_recursions.proofs.Geometry.{pairs_of_cells, far_places}
 use Rattle.quadtree.proofs.Lists.{range_below}
 use Rattle.downward_rows.specs.Entries.{IsPairAt, IsFarPosition, IsFarCell, HasFarEntries}
-use Rattle.tree_rows.specs.Trees.{IsTreeWithLists}
+use Rattle.field_basis.specs.Targets.{no_point, point_at}
+use Rattle.field_basis.specs.Trees.{IsTreeWithLists}
 
 module _ (tree : TreeModel) (lists : EntryListsModel) (points : List Point) (has : IsTreeWithLists points tree lists) (n : ℕ) (lt : n < size tree) where
   the_list : (letter : Letter) → IsListOf tree points has.tree_is.cap letter n (list_at (lists_of lists letter) n)
@@ -52,10 +52,10 @@ module _ (tree : TreeModel) (lists : EntryListsModel) (points : List Point) (has
   far_position : (c k : ℕ) → c < size tree → IsWPair 16 points has.tree_is.cap (square_of tree c) (square_of tree n) → Contains (members_of points (square_of tree c)) k → IsFarPosition points (square_of tree n) k
   far_position c k h e m = record {
     inside = inside;
-    range = λ p is. subst InRange (get_or_from_slice_get points k p p is) (has.tree_is.range k p inside);
-    far = λ p is. far_places (square_of tree c) (square_of tree n) p.x p.y (grid_is c h ∙ sym (grid_is n lt)) (omega (arith, e.comes_apart.deeper)) (omega (arith, grid_is n lt, level_is n lt))
+    range = has.tree_is.range k no_point inside;
+    far = far_places (square_of tree c) (square_of tree n) (point_at points k).x (point_at points k).y (grid_is c h ∙ sym (grid_is n lt)) (omega (arith, e.comes_apart.deeper)) (omega (arith, grid_is n lt, level_is n lt))
         (λ t. e.comes_apart.apart (Touches-sym (square_of tree c) (square_of tree n) t))
-        (Holds-from_test (square_of tree c) p.x p.y (sym (ap (holds_point (square_of tree c)) is) ∙ held));
+        (Holds-from_test (square_of tree c) (point_at points k).x (point_at points k).y (sym (ap (holds_point (square_of tree c)) (slice_get-get_or points k no_point inside)) ∙ held));
   }
     where
       held : holds_position (square_of tree c) points k ≡ true

@@ -1,18 +1,14 @@
--- The row that is filled is the local row of the field.
-use Rattle.std.proofs.Common.{ℕ, ◌≡◌, ◌-◌, ◌*◌, ◌<◌, List, length, get_or, Bool, true, false, ◌&&◌, Some, refl, sym, ap, ap₂, ◌∙◌, subst, arith}
-use Rattle.std.specs.Prelude.{All, slice_get}
-use Rattle.std.specs.List.{range_with_len}
+-- What the entries of a cell add, by numbers, is what those of the field add.
+use Rattle.std.proofs.Common.{ℕ, ◌+◌, ◌-◌, ◌*◌, ◌<◌, ◌≡◌, List, [], ◌∷◌, map, filter, true, false, refl, sym, ap, ap₂, ◌∙◌, subst}
+use Rattle.std.specs.Prelude.{All, Contains, sum_by}
 use Rattle.std.proofs.lemmas.Bool.{false≢true}
-use Rattle.std.proofs.lemmas.List.Elements.{All-contains, Contains-get_or}
-use Rattle.std.proofs.lemmas.Option.{slice_get_within}
+use Rattle.std.proofs.lemmas.List.Elements.{All-contains}
 use Rattle.exact_math.specs.Ends.{BoxEnds, zero_box, add_box}
 use Rattle.exact_math.specs.Gaussian.{Gaussian}
-use Rattle.cell_name.specs.Square.{Square, side, holds_test, parent}
-use Rattle.cell_lists.specs.Lists.{AreLists}
+use Rattle.exact_math.specs.Within.{GaussianBeyond}
+use Rattle.cell_name.specs.Square.{Square, side, parent}
 use Rattle.cell_lists.specs.ListAt.{list_at}
-use Rattle.cell_lists.specs.EntryLists.{EntryListsModel}
 use Rattle.letters.specs.declared.Letter.TheVariants.{V, X}
-use Rattle.complex_box.specs.declared.CBox.{CBox}
 use Rattle.kernel_table.specs.Kernel.{kernel_entry}
 use Rattle.local_expansion.proofs.FarSources.{no_coefficients}
 use Rattle.points.specs.Points.{is_source, place, strength}
@@ -20,27 +16,26 @@ use Rattle.points.specs.declared.Strength.{Strength}
 use Rattle.points.specs.declared.Strength.TheVariants.{Pole, Dipole, Nothing}
 use Rattle.points.specs.Strength.{pole_part, dipole_part, acts}
 use Rattle.points.specs.declared.Point.{Point}
-use Rattle.quadtree.proofs.Distinct.{Contains-into_filter}
-use Rattle.quadtree.specs.Members.{holds_point, holds_position, members_of}
-use Rattle.quadtree.specs.Tree.{AreInGrid}
-use Rattle.quadtree.specs.TreeModel.{TreeModel, size, square_of}
+use Rattle.quadtree.proofs.Limits.{in_grid}
+use Rattle.quadtree.proofs.Lists.{image_of}
+use Rattle.quadtree.specs.TreeModel.{size, square_of, node_of}
 use Rattle.row_recursions.proofs.RowSizes.{power_positive}
 use Rattle.row_recursions.specs.Geometry.{sides_between}
 use Rattle.row_recursions.specs.Rows.{converted, far_source}
 use Rattle.soundness.specs.Computed.{total_row, total_box, far_coefficients_in}
-use Rattle.soundness.specs.Squares.{offset, quadrant}
-use Rattle.tree_field.proofs.LocalRows.{local_row-below}
-use Rattle.quadtree.proofs.Lists.{Contains-range}
-use Rattle.tree_field.proofs.Sums.{total_box-map, total_box-same}
-use Rattle.tree_field.specs.Field.{is_source_in, sources_in, multipole_row, converted_rows, far_rows, local_row}
-use Rattle.tree_field.specs.Lists.{TreeLists}
-use Rattle.exact_math.specs.Within.{GaussianBeyond}
-use Rattle.downward_rows.specs.Entries.{pair_row, far_of, far_row_at, far_row_of, row_from, IsFarCell, IsFarPosition, HasFarEntries}
-use Rattle.tree_rows.specs.FlatRows.{row_at, AreSameRows}
-use Rattle.tree_rows.specs.FieldRows.{IsFieldOf, AreMultipoleRowsOf}
-use Rattle.downward_rows.proofs.FarTotals.{positions_total}
-use Rattle.downward_rows.proofs.FieldLists.{entries_by_number}
-use Rattle.downward_rows.proofs.SameRows.{converted_same, shifted_down_same}
+use Rattle.soundness.specs.Squares.{IsFarFrom, offset, quadrant}
+use Rattle.tree_field.proofs.LocalRows.{local_row-below, local_radius-below}
+use Rattle.tree_field.proofs.Program.{nodes_of_tree}
+use Rattle.tree_field.proofs.Sums.{total_box-map, total_box-fewer, sum_by-map}
+use Rattle.tree_field.specs.Field.{sources_in, multipole_row, converted_rows, far_rows, local_row, local_radius, pair_radius_in, single_radius_in}
+use Rattle.tree_field.specs.Lists.{TreeLists, AreTreeLists}
+use Rattle.field_basis.specs.Basis.{BasisModel, IsBasis}
+use Rattle.field_basis.specs.FieldPlaces.{AreSameRows}
+use Rattle.field_basis.specs.Targets.{no_point, point_at}
+use Rattle.downward_rows.specs.Entries.{far_row_at, v_rows, x_entry, x_rows, row_below, IsFarCell, IsFarPosition}
+use Rattle.downward_rows.specs.Radii.{v_losses, x_losses}
+use Rattle.downward_rows.proofs.Lists.{entries_by_number}
+use Rattle.downward_rows.proofs.SameRows.{shifted_down_same}
 
 -- ---- the points of a far cell
 -- a target far from a cell adds nothing
@@ -49,53 +44,61 @@ nothing_of_target (Pole re im) b z e far l = absurd (false≢true (sym e))
 nothing_of_target (Dipole re im) b z e far l = absurd (false≢true (sym e))
 nothing_of_target Nothing b z e far l = sym (no_coefficients (side b) (b.grid - b.level) (offset b z) (offset b z) (power_positive (b.grid - b.level)) refl refl far l)
 
-and_second : (u v : Bool) → (u && v) ≡ true → v ≡ true
-and_second true v e = e
-and_second false v e = absurd (false≢true e)
+all_kept : {X : Type 0} (xs : List X) → filter (λ x. true) xs ≡ xs
+all_kept [] = refl
+all_kept (x ∷ xs) = ap (λ l. x ∷ l) (all_kept xs)
 
-first_false : (u v : Bool) → v ≡ true → (u && v) ≡ false → u ≡ false
-first_false true v t e = absurd (false≢true (sym e ∙ t))
-first_false false v t e = refl
-
--- what the points of a far cell add is what its sources add
-far_total : (points : List Point) (b c : Square) → All (IsFarPosition points b) (members_of points c) → (k : ℕ) → total_row (far_row_at points b) (members_of points c) k ≡ total_row (far_coefficients_in b) (sources_in points c) k
-far_total points b c far k =
-    positions_total (λ o. far_of b o k) (holds_point c) (λ p. far_coefficients_in b p k) (is_source_in c) (slice_get points) 0 points
-    (λ i x e. record {
-      kept = and_second (is_source x.kind) (holds_test c x.x x.y);
-      same = λ t. refl;
-      none = λ held out. nothing_of_target (strength x.kind) b (place x) (first_false (is_source x.kind) (holds_test c x.x x.y) held out) ((far_at i x e held).far x e) k;
-    })
-    (λ i lt. ap (slice_get points) (omega arith)) zero_box
+-- of some points far from a cell, those that are sources add what all do
+sources_add : (points : List Point) (b : Square) (members : List ℕ) → All (IsFarPosition points b) members → (l : ℕ)
+    → total_row (far_row_at points b) members l ≡ total_row (far_coefficients_in b) (filter (λ p. is_source p.kind) (map (point_at points) members)) l
+sources_add points b members far l =
+    let here : List Point = map (point_at points) members in
+    let f : Point → BoxEnds = λ p. far_coefficients_in b p l in
+    sym (total_box-map f (point_at points) members)
+    ∙ ap (total_box f) (sym (all_kept here))
+    ∙ total_box-fewer f (λ p. true) (λ p. is_source p.kind) here (λ p h t. refl)
+    (λ p h t out. nothing_of_target (strength p.kind) b (place p) out (far_at p h) l)
   where
-    far_at : (i : ℕ) (x : Point) → slice_get points i ≡ Some x → holds_test c x.x x.y ≡ true → IsFarPosition points b i
-    far_at i x e held = All-contains (IsFarPosition points b) (members_of points c) i far
-        (Contains-into_filter (λ j. holds_position c points j) (range_with_len 0 (length points)) i (Contains-range (length points) i (slice_get_within points i x e)) (ap (holds_point c) e ∙ held))
+    far_at : (p : Point) → Contains (map (point_at points) members) p → GaussianBeyond (3 * side b) (offset b (place p))
+    far_at p h =
+        let i = image_of (point_at points) members p h in
+        let Q : Point → Type 0 = λ q. IsFarFrom b (place q) in
+        subst Q i.gives (All-contains (IsFarPosition points b) members i.source far i.listed).far
 
--- ---- the row
-module _ (P : ℕ) (tree : TreeModel) (lists : EntryListsModel) (points : List Point) (cap : ℕ) (field : TreeLists) (up : List CBox) (n : ℕ) (inside : AreInGrid 16 points) (are : AreLists tree lists) (is : IsFieldOf points cap tree field) (lt : n < size tree) (entries : HasFarEntries tree lists points n) (multipoles : AreMultipoleRowsOf points cap P tree up (list_at lists.v n)) where
-  pairs_is : (k : ℕ) → total_row (pair_row P tree up n) (list_at lists.v n) k ≡ converted_rows points cap P field (square_of tree n) k
-  pairs_is k =
-      total_box-same (λ c. pair_row P tree up n c k) (λ c. converted P (kernel_entry (sides_between (square_of tree n) (square_of tree c))) (multipole_row points cap (square_of tree c)) k) (list_at lists.v n)
-      (λ i d h. converted_same P (kernel_entry (sides_between (square_of tree n) (square_of tree (get_or (list_at lists.v n) i d)))) (row_at P up (get_or (list_at lists.v n) i d)) (multipole_row points cap (square_of tree (get_or (list_at lists.v n) i d)))
-      (multipoles.each (get_or (list_at lists.v n) i d) (Contains-get_or (list_at lists.v n) i d h)) k)
-      ∙ sym (total_box-map (λ c. converted P (kernel_entry (sides_between (square_of tree n) c)) (multipole_row points cap c) k) (square_of tree) (list_at lists.v n))
-      ∙ ap (λ l. total_box (λ c. converted P (kernel_entry (sides_between (square_of tree n) c)) (multipole_row points cap c) k) l) (sym (entries_by_number tree lists points cap field inside are is V n lt))
-
-  far_cell_is : (c : ℕ) → IsFarCell tree points (square_of tree n) c → (k : ℕ) → far_row_of tree points (square_of tree n) c k ≡ total_row (far_coefficients_in (square_of tree n)) (sources_in points (square_of tree c)) k
+-- ---- by numbers
+module _ (P : ℕ) (b : BasisModel) (is : IsBasis P b) (n : ℕ) (lt : n < size b.tree) where
+  pub far_cell_is : (c : ℕ) → IsFarCell b.tree b.points (square_of b.tree n) c → (k : ℕ) → total_row (far_row_at b.points (square_of b.tree n)) (node_of b.tree c).members k ≡ x_entry b n c k
   far_cell_is c far k =
-      let e = (is.is_tree.nodes_are c far.in_range).members_are in
-      let P : List ℕ → Type 0 = λ l. All (IsFarPosition points (square_of tree n)) l in
-      ap (λ l. total_row (far_row_at points (square_of tree n)) l k) e ∙ far_total points (square_of tree n) (square_of tree c) (subst P e far.each) k
+      sources_add b.points (square_of b.tree n) (node_of b.tree c).members far.each k
+      ∙ ap (λ l. total_row (far_coefficients_in (square_of b.tree n)) l k) ((nodes_of_tree b.tree b.points b.cap (in_grid b.points is.tree_is.tree_is.range) is.is_tree c far.in_range).members no_point)
 
-  far_is : (k : ℕ) → total_row (far_row_of tree points (square_of tree n)) (list_at lists.x n) k ≡ far_rows points cap P field (square_of tree n) k
-  far_is k =
-      total_box-same (λ c. far_row_of tree points (square_of tree n) c k) (λ c. total_row (far_coefficients_in (square_of tree n)) (sources_in points (square_of tree c)) k) (list_at lists.x n)
-      (λ i d h. far_cell_is (get_or (list_at lists.x n) i d) (entries.far i d h) k)
-      ∙ sym (total_box-map (λ c. total_row (far_coefficients_in (square_of tree n)) (sources_in points c) k) (square_of tree) (list_at lists.x n))
-      ∙ ap (λ l. total_box (λ c. total_row (far_coefficients_in (square_of tree n)) (sources_in points c) k) l) (sym (entries_by_number tree lists points cap field inside are is X n lt))
+  module _ (lists : TreeLists) (are : AreTreeLists 16 b.points b.cap lists) where
+    v_rows_are : (k : ℕ) → v_rows P b n k ≡ converted_rows b.points b.cap P lists (square_of b.tree n) k
+    v_rows_are k =
+        sym (total_box-map (λ c. converted P (kernel_entry (sides_between (square_of b.tree n) c)) (multipole_row b.points b.cap c) k) (square_of b.tree) (list_at b.lists.v n))
+        ∙ ap (λ l. total_box (λ c. converted P (kernel_entry (sides_between (square_of b.tree n) c)) (multipole_row b.points b.cap c) k) l) (sym (entries_by_number P b is V n lt lists are))
 
-  pub row_is : (m : ℕ → BoxEnds) → 0 < (square_of tree n).level → AreSameRows P m (local_row points cap P field (parent (square_of tree n))) → (k : ℕ) → row_from P tree lists points up n m k ≡ local_row points cap P field (square_of tree n) k
-  row_is m lo same k =
-      ap₂ add_box (shifted_down_same P m (local_row points cap P field (parent (square_of tree n))) (quadrant (square_of tree n)) same k) (ap₂ add_box (pairs_is k) (far_is k))
-      ∙ sym (local_row-below points cap P field (square_of tree n) lo k)
+    x_rows_are : (k : ℕ) → x_rows b n k ≡ far_rows b.points b.cap P lists (square_of b.tree n) k
+    x_rows_are k =
+        sym (total_box-map (λ c. total_row (far_coefficients_in (square_of b.tree n)) (sources_in b.points c) k) (square_of b.tree) (list_at b.lists.x n))
+        ∙ ap (λ l. total_box (λ c. total_row (far_coefficients_in (square_of b.tree n)) (sources_in b.points c) k) l) (sym (entries_by_number P b is X n lt lists are))
+
+    pub row_is : (m : ℕ → BoxEnds) → 0 < (square_of b.tree n).level → AreSameRows P m (local_row b.points b.cap P lists (parent (square_of b.tree n))) → (k : ℕ) → row_below P b n m k ≡ local_row b.points b.cap P lists (square_of b.tree n) k
+    row_is m lo same k =
+        ap₂ add_box (shifted_down_same P m (local_row b.points b.cap P lists (parent (square_of b.tree n))) (quadrant (square_of b.tree n)) same k) (ap₂ add_box (v_rows_are k) (x_rows_are k))
+        ∙ sym (local_row-below b.points b.cap P lists (square_of b.tree n) lo k)
+
+    v_losses_are : v_losses P b n ≡ sum_by (pair_radius_in b.points P (side (square_of b.tree n))) (lists.entries V (square_of b.tree n))
+    v_losses_are =
+        sym (sum_by-map (pair_radius_in b.points P (side (square_of b.tree n))) (square_of b.tree) (list_at b.lists.v n))
+        ∙ ap (λ l. sum_by (pair_radius_in b.points P (side (square_of b.tree n))) l) (sym (entries_by_number P b is V n lt lists are))
+
+    x_losses_are : x_losses P b n ≡ sum_by (single_radius_in b.points P (side (square_of b.tree n))) (lists.entries X (square_of b.tree n))
+    x_losses_are =
+        sym (sum_by-map (single_radius_in b.points P (side (square_of b.tree n))) (square_of b.tree) (list_at b.lists.x n))
+        ∙ ap (λ l. sum_by (single_radius_in b.points P (side (square_of b.tree n))) l) (sym (entries_by_number P b is X n lt lists are))
+
+    pub radius_is : 0 < (square_of b.tree n).level → local_radius b.points b.cap P lists (parent (square_of b.tree n)) + (v_losses P b n + x_losses P b n) ≡ local_radius b.points b.cap P lists (square_of b.tree n)
+    radius_is lo =
+        ap (λ r. local_radius b.points b.cap P lists (parent (square_of b.tree n)) + r) (ap₂ (λ x y. x + y) v_losses_are x_losses_are)
+        ∙ sym (local_radius-below b.points b.cap P lists (square_of b.tree n) lo)

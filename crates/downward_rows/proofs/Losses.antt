@@ -1,48 +1,64 @@
 -- What entries can lose, one more at a time, and that it stays small.
 use Rattle.std.specs.Int.{div_ceil}
-use Rattle.std.proofs.Common.{ℕ, ◌+◌, ◌*◌, ◌^◌, ◌<◌, ◌≤◌, ◌≡◌, List, length, get_or, take, ap, ap₂, ◌∙◌, arith, ℤ, pos, ◌+ℤ◌, SFits, w64, to_z, of_z}
-use Rattle.std.specs.Prelude.{sum_by, unsigned_abs, ◌≤ℤ◌}
+use Rattle.std.proofs.Common.{ℕ, ◌+◌, ◌*◌, ◌^◌, ◌<◌, ◌≤◌, ◌≡◌, List, length, get_or, take, ap, ap₂, sym, subst, ◌∙◌, arith, ℤ, pos, ◌+ℤ◌, SFits, w64, to_z, of_z}
+use Rattle.std.specs.Prelude.{sum_by, unsigned_abs, ◌≤ℤ◌, slice_index_or}
 use Rattle.std.proofs.Math.Nat.{mul-le-mul_right}
 use Rattle.std.proofs.Math.Seq.{take-length}
 use Rattle.std.proofs.lemmas.Int.{ints, to_z-of_z}
+use Rattle.std.proofs.lemmas.List.{get_or_default}
 use Rattle.std.proofs.lemmas.List.Sums.{sum_by_more}
-use Rattle.tree_rows.specs.FlatRows.{IsWeight}
+use Rattle.cell_name.specs.Cell.{square}
+use Rattle.cell_name.specs.Square.{Square, side}
+use Rattle.cell_name.specs.declared.cell.Cell.{Cell}
+use Rattle.quadtree.specs.TreeModel.{size, square_of}
+use Rattle.tree_field.specs.Field.{weight_in}
 use Rattle.truncation.proofs.Tails.{div_ceil-le}
+use Rattle.field_basis.specs.Basis.{BasisModel, IsBasis}
+use Rattle.field_basis.specs.Weights.{IsWeight}
 use mir.Syntax.{w128}
 
-weight_small : (w : ℤ) → IsWeight w → unsigned_abs w ≤ 2 ^ 32
-weight_small w h = let l = h.least in let u = h.most in omega (arith, ints)
+bound : (x y t : ℕ) → x ≤ y → y ≤ 2 ^ 32 * t → t ≤ 2 ^ 41 → x ≤ 2 ^ 75
+bound x y t a b c = omega arith
 
-pub loss_small : (w side : ℤ) (tail : ℕ) → IsWeight w → tail ≤ 2 ^ 41 → pos 1 ≤ℤ side → div_ceil (unsigned_abs w * tail) (unsigned_abs side) ≤ 2 ^ 75
-loss_small w side tail h t s =
-    let a = weight_small w h in
-    let m : unsigned_abs w * tail ≤ 2 ^ 32 * tail = mul-le-mul_right tail a in
-    let c = div_ceil-le (unsigned_abs w * tail) (unsigned_abs side) (omega (arith, ints)) in
-    bound (div_ceil (unsigned_abs w * tail) (unsigned_abs side)) (unsigned_abs w * tail) tail c m t
-  where
-    bound : (x y t : ℕ) → x ≤ y → y ≤ 2 ^ 32 * t → t ≤ 2 ^ 41 → x ≤ 2 ^ 75
-    bound x y t a b c = omega arith
+-- the weight of a cell c, as it is read, and what an entry of it can lose at a side s with such a tail
+module _ (P : ℕ) (b : BasisModel) (is : IsBasis P b) (c : ℕ) (lt : c < size b.tree) where
+  abbrev here : ℕ
+  here = weight_in b.points P (square_of b.tree c)
 
-weight_fits : (w : ℤ) → IsWeight w → SFits w128 w
-weight_fits w h = let l = h.least in let u = h.most in omega (arith, ints)
+  inside : c < length b.weights
+  inside = omega (arith, lt, is.weight_each)
 
--- as it comes back from a call
-pub loss_read : (w side : ℤ) (tail : ℕ) → IsWeight w → SFits w64 side → div_ceil (unsigned_abs (to_z w128 (of_z w128 w)) * tail) (unsigned_abs (to_z w64 (of_z w64 side))) ≡ div_ceil (unsigned_abs w * tail) (unsigned_abs side)
-loss_read w side tail h f = ap₂ (λ x y. div_ceil (unsigned_abs x * tail) (unsigned_abs y)) (to_z-of_z w128 w (weight_fits w h)) (to_z-of_z w64 side f)
+  weight_read : (w : ℤ) → w ≡ get_or b.weights c w → w ≡ pos here
+  weight_read w e = e ∙ get_or_default b.weights c w (pos 0) inside ∙ is.weights_are.each c lt
 
-pub weight_read : (w : ℤ) (tail s : ℕ) → IsWeight w → div_ceil (unsigned_abs (to_z w128 (of_z w128 w)) * tail) s ≡ div_ceil (unsigned_abs w * tail) s
-weight_read w tail s h = ap (λ x. div_ceil (unsigned_abs x * tail) s) (to_z-of_z w128 w (weight_fits w h))
+  weight_small : here ≤ 2 ^ 32
+  weight_small =
+      let e = is.weights_are.each c lt in
+      let h : IsWeight (slice_index_or b.weights c (pos 0)) = is.weights_small c (pos 0) inside in
+      let u = h.most in
+      omega (arith, ints, e, u)
 
-pub side_read : (side : ℤ) → pos 1 ≤ℤ side → side ≤ℤ pos 65536 → to_z w64 (of_z w64 side) ≡ side
-side_read side low high = let f : SFits w64 side = omega (arith, ints) in to_z-of_z w64 side f
+  pub weight_least : (w : ℤ) → w ≡ get_or b.weights c w → pos 0 ≤ℤ to_z w128 (of_z w128 w)
+  weight_least w e =
+      let v = weight_read w e in
+      let u = weight_small in
+      let f : SFits w128 w = omega (arith, ints, v, u) in
+      let r = to_z-of_z w128 w f in
+      omega (arith, ints, v, r)
 
--- the sum of two numbers that come back from calls
-pub sum_read : (p z : ℤ) (r : ℕ) → pos 0 ≤ℤ p → p ≤ℤ pos (2 ^ 120) → z ≡ pos r → r < 2 ^ 100 → to_z w128 (of_z w128 (to_z w128 (of_z w128 p) +ℤ to_z w128 (of_z w128 z))) ≡ p +ℤ pos r
-sum_read p z r low high e small =
-    let f : SFits w128 p = omega (arith, ints) in
-    let g : SFits w128 z = omega (arith, ints) in
-    let h : SFits w128 (p +ℤ pos r) = omega (arith, ints) in
-    ap (λ x. to_z w128 (of_z w128 x)) (ap₂ (λ x y. x +ℤ y) (to_z-of_z w128 p f) (to_z-of_z w128 z g ∙ e)) ∙ to_z-of_z w128 (p +ℤ pos r) h
+  pub loss_read : (tail s : ℕ) (w z : ℤ) → w ≡ get_or b.weights c w → z ≡ pos s → pos 1 ≤ℤ z → z ≤ℤ pos 65536
+      → div_ceil (unsigned_abs (to_z w128 (of_z w128 w)) * tail) (unsigned_abs (to_z w64 (of_z w64 z))) ≡ div_ceil (here * tail) s
+  loss_read tail s w z e d low high =
+      let v = weight_read w e in
+      let u = weight_small in
+      let f : SFits w128 w = omega (arith, ints, v, u) in
+      let g : SFits w64 z = omega (arith, ints) in
+      ap₂ (λ x y. div_ceil (unsigned_abs x * tail) (unsigned_abs y)) (to_z-of_z w128 w f ∙ v) (to_z-of_z w64 z g ∙ d)
+
+  pub loss_small : (tail s : ℕ) → tail ≤ 2 ^ 41 → 1 ≤ s → div_ceil (here * tail) s ≤ 2 ^ 75
+  loss_small tail s t least =
+      let m : here * tail ≤ 2 ^ 32 * tail = mul-le-mul_right tail weight_small in
+      bound (div_ceil (here * tail) s) (here * tail) tail (div_ceil-le (here * tail) s least) m t
 
 pub room_for : (r x y : ℕ) → x ≡ y → y ≤ 2 ^ 75 → r ≤ 2 ^ 99 → r + x < 2 ^ 100
 room_for r x y e s h = omega arith
@@ -53,5 +69,9 @@ one_loss f xs i d old was new x lt a b e = let m = sum_by_more f xs i d lt in om
 pub one_larger : (old was new x y i : ℕ) → was ≤ old + 2 ^ 75 * i → new ≡ was + x → x ≡ y → y ≤ 2 ^ 75 → new ≤ old + 2 ^ 75 * (i + 1)
 one_larger old was new x y i a b e h = omega arith
 
-pub all_losses : (f : ℕ → ℕ) (xs : List ℕ) (n old new : ℕ) → n ≡ length xs → new ≡ old + sum_by f (take n xs) → new ≡ old + sum_by f xs
-all_losses f xs n old new e h = h ∙ ap (λ l. old + sum_by f l) (ap (λ m. take m xs) e ∙ take-length xs)
+pub all_losses : (f : ℕ → ℕ) (xs ys : List ℕ) (n old new : ℕ) → n ≡ length xs → xs ≡ ys → new ≡ old + sum_by f (take n xs) → new ≡ old + sum_by f ys
+all_losses f xs ys n old new e s h = h ∙ ap (λ l. old + sum_by f l) (ap (λ m. take m xs) e ∙ take-length xs ∙ s)
+
+-- the side of a cell, as it is read
+pub side_is : (z : ℤ) (cell : Cell) (c : Square) → z ≡ pos (side (square cell)) → square cell ≡ c → z ≡ pos (side c)
+side_is z cell c e s = e ∙ ap (λ q. pos (side q)) s

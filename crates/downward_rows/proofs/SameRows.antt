@@ -6,7 +6,7 @@ use Rattle.row_recursions.proofs.Equations.{sum_boxes-same}
 use Rattle.row_recursions.specs.Rows.{converted, down_round, shifted_down}
 use Rattle.row_recursions.specs.Sizes.{RowWithin}
 use Rattle.row_recursions.proofs.Equations.{sum_boxes-same}
-use Rattle.tree_rows.specs.FlatRows.{AreSameRows}
+use Rattle.field_basis.specs.FieldPlaces.{AreSameRows}
 
 pub converted_same : (P : ℕ) (kernel : ℕ → ℕ → BoxEnds) (m n : ℕ → BoxEnds) → AreSameRows P m n → (l : ℕ) → converted P kernel m l ≡ converted P kernel n l
 unfolding converted

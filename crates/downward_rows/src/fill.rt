@@ -1,10 +1,13 @@
 //! The place of one cell.
-ghost use Rattle.std.specs.Prelude.{◌≡◌, ◌^◌, ◌<◌, length};
+ghost use Rattle.std.specs.Prelude.{◌≡◌, ◌+◌, ◌^◌, ◌<◌, length};
 ghost use Rattle.cell_lists.specs.ListAt.{list_at};
 ghost use Rattle.field_basis.specs.Counts.{translated, translations_into};
-ghost use Rattle.field_basis.specs.FieldPlaces.{AreMultipolePlaces, HasLocalPlace, IsLocalPlace};
+ghost use Rattle.field_basis.specs.FieldPlaces.{AreMultipolePlaces, AreSameRows, HasLocalPlace, IsLocalPlace};
 ghost use Rattle.places.specs.Place.{OthersStay, place_at};
 ghost use Rattle.quadtree.specs.TreeModel.{size, node_of};
+ghost use Rattle.row_recursions.specs.Rows.{row_of};
+ghost use Rattle.row_recursions.specs.Sizes.{RowWithin};
+ghost use Rattle.downward_rows.specs.Entries.{row_below};
 
 use crate::radius::local_radius;
 use crate::v_entries::add_v_entries;
@@ -23,6 +26,15 @@ fn make_row<const P: usize>(
     into: &mut [CBox],
     work: &mut Work,
 )
+    requires cell { n < size basis.now.tree }
+    requires below { 0 < n }
+    requires rows { AreMultipolePlaces P basis.now.points basis.now.tree up.now (list_at basis.now.lists.v n) }
+    requires parent { RowWithin P (2 ^ 90) (row_of parent.cells.now) }
+    requires len { length into.old ≡ P }
+    requires room { work.old.translations < 2 ^ 62 }
+    ensures len { length into.new ≡ P }
+    ensures row { AreSameRows P (row_of into.new) (row_below P basis.now n (row_of parent.entry.cells.now)) }
+    ensures work { work.new ≡ translated (1 + length (list_at basis.now.lists.v n)) work.old }
 {
     clear(into);
     shift_down(parent, basis.tree.cells()[n].quadrant(), into, work);
@@ -82,6 +94,8 @@ pub fn fill_place<const P: usize>(
     ensures others { OthersStay n places.old places.new }
     ensures work { work.new ≡ translated (translations_into basis.now n) work.old }
 {
+    // what the basis says of its tree: a parent stands before its children
+    let _ = &basis.tree;
     let (above, rest) = places.split_at_mut(n);
     make_place(basis, up, n, above, &mut rest[0], work);
 }

@@ -2,17 +2,17 @@
 ghost use Rattle.std.specs.Prelude.{◌≡◌, ℕ, ◌+◌, ◌*◌, ◌^◌, ◌≤◌, ◌<◌, length, sum_by, All};
 ghost use Rattle.exact_math.specs.Orders.{IsOrder};
 ghost use Rattle.cell_name.specs.Cell.{square};
-ghost use Rattle.quadtree.specs.TreeModel.{size, square_of, node_of};
+ghost use Rattle.quadtree.specs.TreeModel.{size};
 ghost use Rattle.row_recursions.specs.Rows.{row_of, RowsAdd};
 ghost use Rattle.row_recursions.specs.Sizes.{RowWithin};
 ghost use Rattle.soundness.specs.Computed.{total_row};
-ghost use Rattle.downward_rows.specs.Entries.{IsFarPosition, IsFarCell, far_row_at, far_row_of, far_weight, far_weight_at};
+ghost use Rattle.downward_rows.specs.Entries.{IsFarPosition, far_row_at, x_rows};
 
 use cell_name::Cell;
 use complex_box::CBox;
+use field_basis::Basis;
 use local_expansion::add_far_source;
 use points::Point;
-use quadtree::Tree;
 
 /// Adds what the point at a position adds to the row of a cell that is far from it.
 fn add_position<const P: usize>(cell: Cell, points: &[Point], k: u32, into: &mut [CBox])
@@ -22,8 +22,7 @@ fn add_position<const P: usize>(cell: Cell, points: &[Point], k: u32, into: &mut
     requires sum { RowWithin P (2 ^ 110) (row_of into.old) }
     ensures len { length into.new ≡ P }
     ensures adds { RowsAdd P (row_of into.old) (far_row_at points.now (square cell) k) (row_of into.new) }
-    ensures size { (n : ℕ) → RowWithin P n (row_of into.old) → RowWithin P (n + 2 ^ 40 * far_weight_at points.now k) (row_of into.new) }
-    ensures light { far_weight_at points.now k ≤ 2 ^ 27 }
+    ensures size { (n : ℕ) → RowWithin P n (row_of into.old) → RowWithin P (n + 2 ^ 67) (row_of into.new) }
 {
     add_far_source::<P>(into, cell, &points[k as usize]);
 }
@@ -37,32 +36,23 @@ fn add_positions<const P: usize>(cell: Cell, points: &[Point], list: &[u32], int
     requires sum { RowWithin P (2 ^ 109) (row_of into.old) }
     ensures len { length into.new ≡ P }
     ensures adds { RowsAdd P (row_of into.old) (total_row (far_row_at points.now (square cell)) list.now) (row_of into.new) }
-    ensures size { (n : ℕ) → RowWithin P n (row_of into.old) → RowWithin P (n + 2 ^ 40 * sum_by (far_weight_at points.now) list.now) (row_of into.new) }
-    ensures light { sum_by (far_weight_at points.now) list.now ≤ 2 ^ 43 }
+    ensures size { (n : ℕ) → RowWithin P n (row_of into.old) → RowWithin P (n + 2 ^ 83) (row_of into.new) }
 {
     for k in list {
         add_position::<P>(cell, points, *k, into);
     }
 }
 
-/// Adds what the points of each cell of an X list add to the row of a cell.
-pub(crate) fn add_far_cells<const P: usize>(
-    tree: &Tree,
-    cell: Cell,
-    points: &[Point],
-    list: &[u32],
-    into: &mut [CBox],
-)
-    requires order { IsOrder P }
-    requires far { All (IsFarCell tree.now points.now (square cell)) list.now }
-    requires few { length list.now ≤ 2 ^ 16 }
+/// Adds what the sources of each cell of the X list of cell `n` add to its row.
+pub(crate) fn add_x_entries<const P: usize>(basis: &Basis<P>, n: usize, into: &mut [CBox])
+    requires cell { n < size basis.now.tree }
     requires len { length into.old ≡ P }
     requires sum { RowWithin P (2 ^ 91) (row_of into.old) }
     ensures len { length into.new ≡ P }
-    ensures adds { RowsAdd P (row_of into.old) (total_row (far_row_of tree.now points.now (square cell)) list.now) (row_of into.new) }
-    ensures size { (n : ℕ) → RowWithin P n (row_of into.old) → RowWithin P (n + 2 ^ 40 * sum_by (far_weight tree.now points.now) list.now) (row_of into.new) }
+    ensures adds { RowsAdd P (row_of into.old) (x_rows basis.now n) (row_of into.new) }
 {
-    for c in list {
-        add_positions::<P>(cell, points, tree.members(*c as usize), into);
+    let cell = basis.tree.cells()[n];
+    for c in basis.lists.x_list(n) {
+        add_positions::<P>(cell, &basis.points, basis.tree.members(*c as usize), into);
     }
 }

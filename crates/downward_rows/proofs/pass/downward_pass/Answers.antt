@@ -1,43 +1,45 @@
--- One row more.
-use Rattle.std.proofs.Common.{◌≡◌, ◌<◌, length, ap, ◌∙◌, arith, lit<}
+-- One place more.
+use Rattle.std.proofs.Common.{◌≡◌, ℕ, ◌+◌, ◌<◌, ◌≤◌, length, ap, ◌∙◌, sym, subst, refl, arith, lit<}
+use Rattle.exact_math.proofs.Orders.{order_bounds}
 use Rattle.cell_lists.proofs.CellNumbers.{parent_before}
+use Rattle.cell_lists.specs.ListAt.{list_at}
+use Rattle.letters.specs.declared.Letter.TheVariants.{V}
+use Rattle.places.specs.Place.{place_at}
 use Rattle.quadtree.specs.TreeModel.{size, node_of}
-use Rattle.downward_rows.proofs.FieldSizes.{some_field, multipole_small, local_small}
-use Rattle.downward_rows.proofs.LocalRows.{no_rows, one_row_more, translations_more, translations_all, multipoles_listed}
+use Rattle.field_basis.proofs.Trees.{some_tree}
+use Rattle.field_basis.specs.Basis.{IsBasis}
+use Rattle.field_basis.specs.Counts.{translations_into}
+use Rattle.field_basis.specs.FieldPlaces.{IsLocalPlace}
+use Rattle.downward_rows.proofs.Lists.{number_in}
+use Rattle.downward_rows.proofs.MadePlaces.{same_local}
+use Rattle.downward_rows.proofs.PlacesSoFar.{one_place_more}
+use Rattle.downward_rows.proofs.Translations.{translations_all}
+use Rattle.downward_rows.proofs.VEntries.{place_read}
 use Rattle.downward_rows.proofs.pass.downward_pass.Goals as goal
 
 pub loop-n-init : goal.loop-n-init
-loop-n-init g c = record {
-  local = λ cap field is. no_rows c.args.points.now cap g.row.P c.args.tree.now field c.args.rows.now;
-  translations = omega arith;
-  few = omega arith;
-  pairs = omega arith;
-}
+loop-n-init g c = record { local = λ m h. absurd (omega arith); translations = λ m h. absurd (omega arith) }
 
-pub fill_row-requires : goal.fill_row-requires
-fill_row-requires g c =
-    let tree_is = c.requires.tree.tree_is in
-    let some = some_field c.args.points.now c.args.tree.now tree_is in
-    let lt : c.loop-n.n < size c.args.tree.now = omega (arith, c.loop-n-test.true, ap length c.cells-count.ensures.all) in (
+pub fill_place-requires : goal.fill_place-requires
+fill_place-requires g c =
+    let b = c.args.basis.now in
+    let s : IsBasis g.row.P b = subst (IsBasis g.row.P) c.basis.view_is c.basis.invariant in
+    let n = c.loop-n.n in
+    let lt : n < size b.tree = omega (arith, c.loop-n-test.true, ap (λ l. length l) c.cells-n-end.ensures.all, ap (λ b. length b.tree.cells) c.basis.view_is) in
+    let len = c.loop-n.auto.places ∙ c.requires.len in
+    let few = order_bounds g.row.P s.order in (
       lit< tt,
       (
-        c.requires.order,
+        omega (arith, few),
         (
           lt,
           (
-            c.requires.tree,
+            len,
             (
-              c.requires.multipole_rows,
+              λ k d h. let m = number_in g.row.P b s V n lt (list_at b.lists.v n) refl k d h in (omega (arith, m, c.requires.rows.as_many), c.requires.rows.each _ m),
               (
-                λ m h. multipole_small c.args.points.now c.args.tree.now tree_is some.0 some.1 g.row.P c.requires.order m h c.args.up.now (c.requires.up.for_each tree_is.cap tree_is.is_tree),
-                (
-                  omega (arith, c.loop-n.auto.rows, c.requires.rows),
-                  (
-                    λ lo. let p = parent_before c.args.tree.now c.cells-count.ensures.tree c.loop-n.n lo lt in
-                        local_small c.args.points.now c.args.tree.now tree_is some.0 some.1 g.row.P c.requires.order (node_of c.args.tree.now c.loop-n.n).parent p.in_range c.loop-n.rows ((c.loop-n.invariant.local tree_is.cap some.0 some.1).each (node_of c.args.tree.now c.loop-n.n).parent p.before),
-                    omega (arith, lt, tree_is.is_tree.few, c.loop-n.invariant.few, c.requires.room),
-                  ),
-                ),
+                λ lo. let p = parent_before b.tree (some_tree b.points b.tree s.tree_is.tree_is) n lo lt in record { in_range = omega (arith, p.in_range, len); place_is = c.loop-n.invariant.local (node_of b.tree n).parent p.before },
+                omega (arith, c.new-work.ensures.translations),
               ),
             ),
           ),
@@ -47,28 +49,32 @@ fill_row-requires g c =
 
 pub loop-n-preserved : goal.loop-n-preserved
 loop-n-preserved g c =
-    let tree = c.args.tree.now in
+    let b = c.args.basis.now in
+    let s : IsBasis g.row.P b = subst (IsBasis g.row.P) c.basis.view_is c.basis.invariant in
     let n = c.loop-n.n in
-    let lt : n < size tree = omega (arith, c.loop-n-test.true, ap length c.cells-count.ensures.all) in
+    let lt : n < size b.tree = omega (arith, c.loop-n-test.true, ap (λ l. length l) c.cells-n-end.ensures.all, ap (λ b. length b.tree.cells) c.basis.view_is) in
+    let len = c.loop-n.auto.places ∙ c.requires.len in
+    let moved = c.fill_place.new.places in
+    let x = c.set_translations.new.self in
+    let stay = c.fill_place.ensures.others in
+    let inside : n < length c.loop-n.places = omega (arith, lt, len) in
+    let read = sym c.index-places-n.is ∙ place_read moved n c.index-places-n.result (omega (arith, inside, stay.as_many)) c.index-places-n.is in
+    let came = c.set_translations.ensures.translations ∙ c.translations.ensures ∙ ap (λ w. w.translations) c.fill_place.ensures.work in
     record {
-      local = λ cap field is. one_row_more c.args.points.now cap g.row.P tree field c.loop-n.rows c.fill_row.new.rows n c.fill_row.ensures.others (c.loop-n.invariant.local cap field is)
-          (c.fill_row.ensures.local cap field is (multipoles_listed c.args.points.now tree c.args.lists.now c.requires.tree cap g.row.P n c.args.up.now lt (c.requires.up.for_each cap is.is_tree))
-          (λ lo. (c.loop-n.invariant.local cap field is).each (node_of tree n).parent (parent_before tree c.cells-count.ensures.tree n lo lt).before));
-      translations = omega (arith, c.fill_row.ensures.translations, c.loop-n.invariant.translations, translations_more tree c.args.lists.now n lt);
-      few = omega (arith, c.fill_row.ensures.few, c.loop-n.invariant.few);
-      pairs = c.fill_row.ensures.pairs ∙ c.loop-n.invariant.pairs;
+      local = one_place_more (IsLocalPlace g.row.P b) c.loop-n.places moved n x inside stay c.loop-n.invariant.local
+          (same_local g.row.P b n (place_at moved n) x (c.set_translations.ensures.row ∙ ap (λ p. p.row) read) (c.set_translations.ensures.radius ∙ ap (λ p. p.radius) read) c.fill_place.ensures.local);
+      translations = one_place_more (λ m p. p.translations ≡ translations_into b m) c.loop-n.places moved n x inside stay c.loop-n.invariant.translations (omega (arith, came, c.new-work.ensures.translations));
     }
 
 pub returns-clause-local : goal.returns-clause-local
-returns-clause-local g c = λ cap field is. record {
-  each = λ n lt. (c.loop-n.invariant.local cap field is).each n (omega (arith, lt, c.loop-n-test.false, ap length c.cells-count.ensures.all));
-}
+returns-clause-local g c =
+    let b = c.args.basis.now in
+    let last : size b.tree ≤ c.loop-n.n = omega (arith, c.loop-n-test.false, ap (λ l. length l) c.cells-n-end.ensures.all, ap (λ b. length b.tree.cells) c.basis.view_is) in
+    record { as_many = c.loop-n.auto.places ∙ c.requires.len; each = λ n lt. c.loop-n.invariant.local n (omega (arith, lt, last)) }
 
 pub returns-clause-translations : goal.returns-clause-translations
 returns-clause-translations g c =
-    let tree = c.args.tree.now in
-    let last : c.loop-n.n ≡ size tree = omega (arith, c.loop-n.auto.n-end, c.loop-n-test.false, ap length c.cells-count.ensures.all) in
-    omega (arith, c.loop-n.invariant.translations, translations_all c.args.points.now tree c.args.lists.now c.requires.tree c.loop-n.n last)
-
-pub returns-clause-pairs : goal.returns-clause-pairs
-returns-clause-pairs g c = c.loop-n.invariant.pairs
+    let b = c.args.basis.now in
+    let s : IsBasis g.row.P b = subst (IsBasis g.row.P) c.basis.view_is c.basis.invariant in
+    let last : size b.tree ≤ c.loop-n.n = omega (arith, c.loop-n-test.false, ap (λ l. length l) c.cells-n-end.ensures.all, ap (λ b. length b.tree.cells) c.basis.view_is) in
+    translations_all g.row.P b s c.loop-n.places (c.loop-n.auto.places ∙ c.requires.len) (λ n lt. c.loop-n.invariant.translations n (omega (arith, lt, last)))

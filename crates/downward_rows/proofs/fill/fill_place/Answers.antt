@@ -1,0 +1,27 @@
+use Rattle.std.proofs.Common.{◌≡◌, ◌<◌, subst, arith, lit<}
+use Rattle.exact_math.proofs.Orders.{order_bounds}
+use Rattle.field_basis.specs.Basis.{IsBasis}
+use Rattle.downward_rows.proofs.MadePlaces.{parent_above}
+use Rattle.downward_rows.proofs.fill.fill_place.Goals as goal
+
+pub make_place-requires : goal.make_place-requires
+make_place-requires g c =
+    let b = c.args.basis.now in
+    let s : IsBasis g.row.P b = subst (IsBasis g.row.P) c.basis.view_is c.basis.invariant in
+    let few = order_bounds g.row.P s.order in
+    let h = c.split_at_mut-above.ensures in (
+      lit< tt,
+      (
+        omega (arith, few),
+        (
+          c.requires.cell,
+          (
+            c.requires.rows,
+            (
+              λ lo. parent_above g.row.P b s c.args.n c.requires.cell c.args.places.now c.split_at_mut-above.result.0.now c.split_at_mut-above.result.1.now h.value h.front_len lo (c.requires.parent lo),
+              c.requires.room,
+            ),
+          ),
+        ),
+      ),
+    )
