@@ -1,20 +1,14 @@
 -- Looking through the children of a cell for one that has a source and no mark.
-use Rattle.std.proofs.Common.{ℕ, ◌≡◌, ◌+◌, ◌<◌, ◌≤◌, List, [], ◌∷◌, ◌++◌, length, get_or, take, drop, Bool, true, false, cond, sym, ap, ◌∙◌, subst, filter, append-nil}
+use Rattle.std.proofs.Common.{ℕ, ◌≡◌, ◌+◌, ◌<◌, ◌≤◌, List, [], ◌∷◌, ◌++◌, length, get_or, take, drop, Bool, true, false, cond, sym, ap, ◌∙◌, subst}
 use Rattle.std.specs.Prelude.{Contains, slice_index_or}
-use Rattle.std.proofs.lemmas.List.{drop_more, take_more, take_all, take-append-drop}
+use Rattle.std.proofs.lemmas.List.{drop_more, take_all, take-append-drop}
 use Rattle.std.proofs.lemmas.List.Elements.{All-push, Contains-get_or, filter-append}
 use Rattle.quadtree.specs.TreeModel.{TreeModel, size, node_of, IsTree}
 use Rattle.quadtree.proofs.TreeChildren.{child_of}
 use Rattle.tree_field.specs.Program.{with_source, source_children}
 use Rattle.tree_field.proofs.SourceChildren.{source_children_are}
+use Rattle.upward_rows.proofs.Trees.{kept_more, kept_same}
 use Rattle.row_board.specs.Search.{AreMarked, IsFirstUnmarked}
-
-kept_more : (p : ℕ → Bool) (xs : List ℕ) (k : ℕ) → k < length xs → p (get_or xs k 0) ≡ true → filter p (take (k + 1) xs) ≡ filter p (take k xs) ++ get_or xs k 0 ∷ []
-kept_more p xs k lt t = ap (filter p) (take_more xs k 0 lt) ∙ filter-append p (take k xs) (get_or xs k 0 ∷ []) ∙ ap (λ b. filter p (take k xs) ++ cond b (get_or xs k 0 ∷ []) []) t
-
-kept_same : (p : ℕ → Bool) (xs : List ℕ) (k : ℕ) → k < length xs → p (get_or xs k 0) ≡ false → filter p (take (k + 1) xs) ≡ filter p (take k xs)
-kept_same p xs k lt f =
-    ap (filter p) (take_more xs k 0 lt) ∙ filter-append p (take k xs) (get_or xs k 0 ∷ []) ∙ ap (λ b. filter p (take k xs) ++ cond b (get_or xs k 0 ∷ []) []) f ∙ append-nil (filter p (take k xs))
 
 module _ (tree : TreeModel) (marks : List Bool) (n : ℕ) (children : List ℕ) (is : IsTree tree) (lt : n < size tree) (are : children ≡ (node_of tree n).children) where
   all_are : with_source tree children ≡ source_children tree n

@@ -1,5 +1,5 @@
 //! Filling a board.
-ghost use Rattle.std.specs.Prelude.{◌≡◌, ◌+◌, ◌^◌, ◌<◌, ◌≤◌, true, false, length, ◌∷◌, map, All, MatchOption, MatchResult, IfErr, IsOk, OnOk};
+ghost use Rattle.std.specs.Prelude.{◌≡◌, ◌^◌, ◌<◌, true, false, length, ◌∷◌, map, All, MatchOption, MatchResult, IfErr, IsOk, OnOk};
 ghost use Rattle.field_basis.specs.Counts.{paired, pairs_of_target, shifts_into, translated, translations_into};
 ghost use Rattle.quadtree.specs.TreeModel.{size};
 ghost use Rattle.row_board.specs.Board.{IsBoard, IsOfField, OthersStay, worked};
