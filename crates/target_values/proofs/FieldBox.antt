@@ -1,92 +1,138 @@
--- The value of a target from the rows of the field is the field's box.
-use Rattle.std.proofs.Common.{◌≡◌, ◌∙◌, ◌*◌, ◌^◌, ◌<◌, sym, ap, ap₂, ℕ, ℤ, pos, ◌+ℤ◌, unsigned_abs, List, length, map, get_or, lit<}
+-- The box of a target from the rows of the field is the field's.
+use Rattle.std.proofs.Common.{◌≡◌, ◌∙◌, ◌+◌, ◌^◌, ◌<◌, sym, ap, ap₂, subst, arith, ℕ, pos, length, map, get_or, lit<}
 use Rattle.std.specs.Prelude.{All, sum_by}
-use Rattle.std.proofs.lemmas.List.Elements.{Contains-get_or}
+use Rattle.std.proofs.lemmas.List.{get_or-map, length-map}
 use Rattle.std.proofs.lemmas.Option.{slice_get-get_or}
-use Rattle.exact_math.specs.Ends.{BoxEnds, BoxEndsContain, add_box, widen_box}
+use Rattle.exact_math.specs.Ends.{BoxEnds, BoxEndsContain, BoxEndsWithin, add_box, widen_box}
 use Rattle.exact_math.specs.Gaussian.{Gaussian}
-use Rattle.exact_math.specs.Orders.{IsOrder}
+use Rattle.exact_math.specs.Units.{unit}
 use Rattle.exact_math.proofs.Orders.{order_bounds}
-use Rattle.cell_name.specs.Square.{Square, side}
-use Rattle.cell_lists.specs.EntryLists.{lists_of, EntryListsModel}
-use Rattle.cell_lists.specs.Lists.{AreLists}
+use Rattle.cell_name.specs.Square.{Square, side, Holds}
+use Rattle.cell_lists.specs.EntryLists.{lists_of}
 use Rattle.cell_lists.specs.ListAt.{list_at}
+use Rattle.complex_box.specs.Box.{box_ends, BoxContains, BoxWithin}
+use Rattle.complex_box.specs.declared.CBox.{CBox}
+use Rattle.field_basis.proofs.Positions.{IsTargetPosition, position_at, leaf_at_position, has_target, targets_at}
+use Rattle.field_basis.specs.Basis.{BasisModel, IsBasis, target_of, target_place, target_leaf}
+use Rattle.field_basis.specs.FieldPlaces.{HasLocalRow, IsLocalPlace, IsMultipolePlace, IsTargetBox}
+use Rattle.field_basis.specs.Targets.{no_point, point_at}
+use Rattle.field_sizes.proofs.Bounds.{rows_within, boxes_within}
+use Rattle.field_sizes.specs.Sizes.{IsLimited, RowsWithin}
 use Rattle.letters.specs.declared.Letter.{Letter}
 use Rattle.letters.specs.declared.Letter.TheVariants.{U, W}
-use Rattle.complex_box.specs.declared.CBox.{CBox}
 use Rattle.near_field.specs.DirectSum.{direct_sum}
 use Rattle.near_field.specs.Pair.{pair_box}
+use Rattle.places.specs.Place.{PlaceModel}
+use Rattle.points.specs.Limits.{InGrid}
 use Rattle.points.specs.Points.{place}
 use Rattle.points.specs.declared.Point.{Point}
-use Rattle.quadtree.specs.Tree.{AreInGrid}
-use Rattle.quadtree.specs.TreeModel.{TreeModel, IsTreeOf, IsLeafOf, size, square_of, leaf_of}
-use Rattle.row_recursions.specs.Rows.{multipole_value}
+use Rattle.quadtree.proofs.TreeChildren.{tree_cell_at}
+use Rattle.quadtree.specs.TreeModel.{IsLeafOf, size, square_of}
+use Rattle.row_recursions.specs.Rows.{row_of, local_value, multipole_value}
+use Rattle.row_recursions.specs.Sizes.{RowWithin}
 use Rattle.soundness.specs.Computed.{total_box}
 use Rattle.soundness.specs.Squares.{offset}
 use Rattle.tree_field.specs.Field.{sources_in, multipole_row, local_row, single_radius_in, multipole_values_at, pairs_at, box_in, target_box, targets}
-use Rattle.tree_field.specs.Lists.{TreeLists}
-use Rattle.tree_field.proofs.Program.{lists_of_tree, nodes_of_tree, leaves_of_tree}
-use Rattle.tree_field.proofs.Sums.{total_box-map, total_box-same, sum_by-map, sum_by-same}
+use Rattle.tree_field.specs.Lists.{TreeLists, AreTreeLists}
+use Rattle.tree_field.proofs.EachList.{each_list_has_tree}
+use Rattle.tree_field.proofs.Program.{lists_of_tree, leaves_of_tree}
+use Rattle.tree_field.proofs.Sums.{total_box-map, sum_by-map}
 use Rattle.tree_field.proofs.Whole.{field_contains}
-use Rattle.tree_rows.specs.FieldRows.{IsFieldOf}
-use Rattle.tree_rows.specs.FlatRows.{row_at, stored_weight}
-use Rattle.truncation.specs.Tails.{single_radius}
-use Rattle.target_values.specs.Field.{AreRowsOfLeaf}
-use Rattle.target_values.specs.Points.{no_point, point_at}
-use Rattle.target_values.specs.Values.{sources_of, near_pairs, far_values, far_radius, value_at}
-use Rattle.target_values.proofs.SameValues.{local_value-same, multipole_value-same}
+use Rattle.target_values.proofs.Numbers.{inside}
+use Rattle.target_values.proofs.SameValues.{local_value-same}
+use Rattle.target_values.specs.Values.{value_of_cell, loss_of_cell, pairs_of_cell}
 
--- ---- the parts of the value at a place of a leaf
-module _ (points : List Point) (cap P : ℕ) (tree : TreeModel) (lists : EntryListsModel) (field : TreeLists) (inside : AreInGrid 16 points) (are : AreLists tree lists) (up local : List CBox) (weights : List ℤ) (radius : ℤ) (b : ℕ) (lt : b < size tree)
-    (rows : AreRowsOfLeaf points cap P tree lists field up local weights radius b) where
-  is_tree : IsTreeOf 16 tree points cap
-  is_tree = rows.field_is.is_tree
+module _ (P : ℕ) (b : BasisModel) (is : IsBasis P b) where
+  pub some_lists : (lists : TreeLists) × AreTreeLists 16 b.points b.cap lists
+  some_lists = each_list_has_tree 16 b.points b.cap (lit< tt) (inside P b is)
 
-  entries_same : (letter : Letter) → field.entries letter (square_of tree b) ≡ map (square_of tree) (list_at (lists_of lists letter) b)
-  entries_same letter = (lists_of_tree tree lists points cap field inside is_tree are rows.field_is.lists_are).entries letter b lt
+  -- ---- how large rows are
+  pub limited : (lists : TreeLists) → AreTreeLists 16 b.points b.cap lists → IsLimited b.points b.cap lists
+  limited lists are = record { in_grid = inside P b is; light = is.tree_is.tree_is.light; lists_are = are }
 
-  number_below : (letter : Letter) → All (λ n. n < size tree) (list_at (lists_of lists letter) b)
-  number_below letter = (are.each points cap inside is_tree letter b lt).numbers
+  within : (n : ℕ) → n < size b.tree → RowsWithin b.points b.cap P some_lists.0 (square_of b.tree n)
+  within n lt = rows_within b.points b.cap P some_lists.0 is.order (limited some_lists.0 some_lists.1) (square_of b.tree n) (tree_cell_at b.tree b.points b.cap n is.is_tree lt)
 
-  near_same : (z : Gaussian) → near_pairs tree lists points b z ≡ pairs_at points cap P field (square_of tree b) z
-  near_same z =
-      let f : Square → BoxEnds = λ c. total_box (pair_box z) (sources_in points c) in
-      total_box-same (λ n. total_box (pair_box z) (sources_of tree lists points n)) (λ n. f (square_of tree n)) (list_at lists.u b)
-      (λ i d l. ap (total_box (pair_box z)) ((nodes_of_tree tree points cap inside is_tree (get_or (list_at lists.u b) i d) (number_below U i d l)).members no_point))
-      ∙ sym (ap (total_box f) (entries_same U) ∙ total_box-map f (square_of tree) (list_at lists.u b))
+  pub multipole_small : (n : ℕ) → n < size b.tree → (place : PlaceModel) → IsMultipolePlace P b.points b.tree n place → RowWithin P (2 ^ 74) (row_of place.row)
+  multipole_small n lt place here k l = subst (BoxEndsWithin (2 ^ 74)) (sym (here.row_is b.cap is.is_tree k l)) ((within n lt).multipole k l)
 
-  far_same : (z : Gaussian) → far_values P tree lists up b z ≡ multipole_values_at points cap P field (square_of tree b) z
-  far_same z =
-      let f : Square → BoxEnds = λ c. multipole_value P (multipole_row points cap c) (side c) (offset c z) in
-      total_box-same (λ n. multipole_value P (row_at P up n) (side (square_of tree n)) (offset (square_of tree n) z)) (λ n. f (square_of tree n)) (list_at lists.w b)
-      (λ i d l. let n : ℕ = get_or (list_at lists.w b) i d in multipole_value-same P (row_at P up n) (multipole_row points cap (square_of tree n)) (side (square_of tree n)) (offset (square_of tree n) z) (rows.up_are.each n (Contains-get_or (list_at lists.w b) i d l)))
-      ∙ sym (ap (total_box f) (entries_same W) ∙ total_box-map f (square_of tree) (list_at lists.w b))
+  -- ---- the entries of a cell, by the numbers of their cells
+  module _ (lists : TreeLists) (are : AreTreeLists 16 b.points b.cap lists) (n : ℕ) (lt : n < size b.tree) where
+    entries_same : (letter : Letter) → lists.entries letter (square_of b.tree n) ≡ map (square_of b.tree) (list_at (lists_of b.lists letter) n)
+    entries_same letter = (lists_of_tree b.tree b.lists b.points b.cap lists (inside P b is) is.is_tree is.tree_is.lists_are are).entries letter n lt
 
-  lost_same : far_radius P tree lists weights b ≡ sum_by (λ c. single_radius_in points P (side c) c) (field.entries W (square_of tree b))
-  lost_same =
-      let f : Square → ℕ = λ c. single_radius_in points P (side c) c in
-      sum_by-same (λ n. single_radius P (stored_weight weights n) (side (square_of tree n))) (λ n. f (square_of tree n)) (list_at lists.w b)
-      (λ i d l. let n : ℕ = get_or (list_at lists.w b) i d in ap (λ w. single_radius P (unsigned_abs w) (side (square_of tree n))) (rows.weights_are.each n (number_below W i d l)))
-      ∙ sym (ap (sum_by f) (entries_same W) ∙ sum_by-map f (square_of tree) (list_at lists.w b))
+    pairs_same : (z : Gaussian) → total_box (pairs_of_cell b z) (list_at b.lists.u n) ≡ pairs_at b.points b.cap P lists (square_of b.tree n) z
+    pairs_same z =
+        let f : Square → BoxEnds = λ c. total_box (pair_box z) (sources_in b.points c) in
+        sym (ap (total_box f) (entries_same U) ∙ total_box-map f (square_of b.tree) (list_at b.lists.u n))
 
-  pub value_is : (z : Gaussian) → value_at P tree lists points up local weights radius b z ≡ box_in points cap P field (square_of tree b) z
-  value_is z =
-      ap₂ widen_box
-      (ap₂ add_box (local_value-same P (row_at P local b) (local_row points cap P field (square_of tree b)) (side (square_of tree b)) (offset (square_of tree b) z) rows.local_is) (ap₂ add_box (far_same z) (near_same z)))
-      (ap₂ (λ r n. r +ℤ pos n) rows.radius_is lost_same)
+    values_same : (z : Gaussian) → total_box (value_of_cell P b z) (list_at b.lists.w n) ≡ multipole_values_at b.points b.cap P lists (square_of b.tree n) z
+    values_same z =
+        let f : Square → BoxEnds = λ c. multipole_value P (multipole_row b.points b.cap c) (side c) (offset c z) in
+        sym (ap (total_box f) (entries_same W) ∙ total_box-map f (square_of b.tree) (list_at b.lists.w n))
 
-pub leaf_at_position : (tree : TreeModel) (points : List Point) (cap : ℕ) → IsTreeOf 16 tree points cap → (k : ℕ) (d : Point) → k < length points → IsLeafOf 16 tree points cap (leaf_of tree k) (get_or points k d)
-leaf_at_position tree points cap h k d lt = h.leaves_are k (get_or points k d) (slice_get-get_or points k d lt)
+    losses_same : sum_by (loss_of_cell P b) (list_at b.lists.w n) ≡ sum_by (λ c. single_radius_in b.points P (side c) c) (lists.entries W (square_of b.tree n))
+    losses_same =
+        let f : Square → ℕ = λ c. single_radius_in b.points P (side c) c in
+        sym (ap (sum_by f) (entries_same W) ∙ sum_by-map f (square_of b.tree) (list_at b.lists.w n))
 
-pub box_is : (points : List Point) (cap P : ℕ) (tree : TreeModel) (lists : EntryListsModel) (field : TreeLists) → AreInGrid 16 points → AreLists tree lists → (up local : List CBox) (weights : List ℤ) (radius : ℤ) (k : ℕ) → k < length points
-    → AreRowsOfLeaf points cap P tree lists field up local weights radius (leaf_of tree k)
-    → value_at P tree lists points up local weights radius (leaf_of tree k) (place (point_at points k)) ≡ target_box points cap P field 16 (place (point_at points k))
-box_is points cap P tree lists field inside are up local weights radius k lt rows =
-    let p : Point = point_at points k in
-    let l = leaf_at_position tree points cap rows.field_is.is_tree k no_point lt in
-    value_is points cap P tree lists field inside are up local weights radius (leaf_of tree k) l.in_range rows (place p)
-    ∙ ap (λ c. box_in points cap P field c (place p)) (sym (leaves_of_tree tree points cap inside rows.field_is.is_tree k p (slice_get-get_or points k no_point lt)))
+  -- ---- a target
+  -- a fact of all targets is one of the target of a number
+  at_target : (Q : Point → Type 0) → All Q (targets b.points) → (k : ℕ) → k < length b.targets → Q (target_of b k)
+  at_target Q all k lt =
+      let here : targets b.points ≡ map (point_at b.points) b.targets = sym (ap (map (point_at b.points)) is.targets_are ∙ targets_at b.points) in
+      subst Q (get_or-map (point_at b.points) b.targets k 0 no_point lt) (subst (All Q) here all k no_point (omega (arith, length-map b.targets (point_at b.points))))
 
-pub boxes_contain : (points : List Point) (cap P : ℕ) (tree : TreeModel) (field : TreeLists) → AreInGrid 16 points → IsOrder P → IsFieldOf points cap tree field
-    → All (λ t. BoxEndsContain (pos (2 ^ 40)) (target_box points cap P field 16 (place t)) (direct_sum (place t) points)) (targets points)
-boxes_contain points cap P tree field inside order h = field_contains 16 points cap P field (lit< tt) (order_bounds P order).0 inside h.lists_are
+  module _ (k : ℕ) (lt : k < length b.targets) where
+    pub position : IsTargetPosition b.points (get_or b.targets k 0)
+    position = position_at b.points b.targets is.targets_are k lt
+
+    pub leaf_is : IsLeafOf 16 b.tree b.points b.cap (target_leaf b k) (target_of b k)
+    leaf_is = leaf_at_position b.tree b.points b.cap is.is_tree (get_or b.targets k 0) no_point position.inside
+
+    -- its leaf and itself, as they are read
+    module _ (n : ℕ) (leaf : n ≡ target_leaf b k) where
+      pub leaf_below : n < size b.tree
+      leaf_below = omega (arith, leaf, leaf_is.in_range)
+
+      pub leaf_holds : (t : Point) → t ≡ target_of b k → Holds (square_of b.tree n) t.x t.y
+      leaf_holds t e = subst (λ (p : Point). Holds (square_of b.tree n) p.x p.y) (sym e) (subst (λ n. Holds (square_of b.tree n) (target_of b k).x (target_of b k).y) (sym leaf) leaf_is.held)
+
+    pub target_in_grid : (t : Point) → t ≡ target_of b k → InGrid t.x t.y
+    target_in_grid t e = subst (λ (p : Point). InGrid p.x p.y) (sym e) (is.tree_is.tree_is.range (get_or b.targets k 0) no_point position.inside).grid
+
+    module _ (place : PlaceModel) (here : IsLocalPlace P b (target_leaf b k) place) where
+      row_here : (lists : TreeLists) → AreTreeLists 16 b.points b.cap lists → HasLocalRow P b lists (target_leaf b k) place
+      row_here lists are = here.with_target (has_target b.points b.cap b.tree is.is_tree (get_or b.targets k 0) position) lists are
+
+      pub local_small : RowWithin P (2 ^ 82) (row_of place.row)
+      local_small i l = subst (BoxEndsWithin (2 ^ 82)) (sym ((row_here some_lists.0 some_lists.1).row_is i l)) ((within (target_leaf b k) leaf_is.in_range).local i l)
+
+      -- the box that the parts make
+      abbrev pub parts_make : BoxEnds
+      parts_make =
+          let s : Square = square_of b.tree (target_leaf b k) in
+          let z : Gaussian = target_place b k in
+          widen_box (add_box (local_value P (row_of place.row) (side s) (offset s z)) (add_box (total_box (value_of_cell P b z) (list_at b.lists.w (target_leaf b k))) (total_box (pairs_of_cell b z) (list_at b.lists.u (target_leaf b k)))))
+          (pos (place.radius + sum_by (loss_of_cell P b) (list_at b.lists.w (target_leaf b k))))
+
+      pub box_is : (value : CBox) → box_ends value ≡ parts_make → IsTargetBox P b k value
+      box_is value e lists are =
+          let s : Square = square_of b.tree (target_leaf b k) in
+          let z : Gaussian = target_place b k in
+          let row = row_here lists are in
+          e ∙ ap₂ widen_box
+          (ap₂ add_box (local_value-same P (row_of place.row) (local_row b.points b.cap P lists s) (side s) (offset s z) row.row_is) (ap₂ add_box (values_same lists are (target_leaf b k) leaf_is.in_range z) (pairs_same lists are (target_leaf b k) leaf_is.in_range z)))
+          (ap₂ (λ r n. pos (r + n)) row.radius_is (losses_same lists are (target_leaf b k) leaf_is.in_range))
+          ∙ ap (λ c. box_in b.points b.cap P lists c z) (sym (leaves_of_tree b.tree b.points b.cap (inside P b is) is.is_tree (get_or b.targets k 0) (target_of b k) (slice_get-get_or b.points (get_or b.targets k 0) no_point position.inside)))
+
+    pub box_contains : (value : CBox) → IsTargetBox P b k value → BoxContains unit value (direct_sum (target_place b k) b.points)
+    box_contains value h =
+        subst (λ e. BoxEndsContain unit e (direct_sum (target_place b k) b.points)) (sym (h some_lists.0 some_lists.1))
+        (at_target (λ t. BoxEndsContain unit (target_box b.points b.cap P some_lists.0 16 (place t)) (direct_sum (place t) b.points))
+        (field_contains 16 b.points b.cap P some_lists.0 (lit< tt) (order_bounds P is.order).0 (inside P b is) some_lists.1) k lt)
+
+    pub box_small : (value : CBox) → IsTargetBox P b k value → BoxWithin (2 ^ 84) value
+    box_small value h =
+        subst (BoxEndsWithin (2 ^ 84)) (sym (h some_lists.0 some_lists.1))
+        (at_target (λ t. BoxEndsWithin (2 ^ 84) (target_box b.points b.cap P some_lists.0 16 (place t))) (boxes_within b.points b.cap P some_lists.0 is.order (limited some_lists.0 some_lists.1)) k lt)

@@ -7,6 +7,5 @@ pub mod NearSums
 pub mod Numbers
 pub mod Pairs
 pub mod PassBoxes
-pub mod Positions
 pub mod SameValues
 pub mod Sums

@@ -1,11 +1,15 @@
 -- How much an entry can lose at most.
-use Rattle.std.proofs.Common.{ℕ, ◌≡◌, ◌+◌, ◌-◌, ◌*◌, ◌^◌, ◌<◌, ◌≤◌, ℤ, pos, ◌+ℤ◌, ◌≤ℤ◌, unsigned_abs, to_z, of_z, arith}
+use Rattle.std.proofs.Common.{ℕ, ◌≡◌, ◌+◌, ◌*◌, ◌^◌, ◌<◌, ◌≤◌, ℤ, pos, ◌+ℤ◌, ◌≤ℤ◌, unsigned_abs, to_z, of_z, get_or, sym, ap, ap₂, ◌∙◌, subst, arith}
 use Rattle.std.specs.Int.{w128, div_ceil}
 use Rattle.std.proofs.lemmas.Int.{ints}
 use Rattle.std.proofs.Math.Nat.{mul-le-mul_right}
 use Rattle.truncation.specs.Tails.{single_radius}
 use Rattle.truncation.proofs.Tails.{single_tail_le, div_ceil-le}
-use Rattle.tree_rows.specs.FlatRows.{IsWeight}
+use Rattle.cell_name.specs.Square.{Square, side}
+use Rattle.field_basis.specs.Basis.{BasisModel, IsBasis}
+use Rattle.field_basis.specs.Weights.{IsWeight}
+use Rattle.quadtree.specs.TreeModel.{size, square_of}
+use Rattle.target_values.specs.Values.{loss_of_cell}
 
 loss_small : (w t s : ℕ) → w ≤ 2 ^ 32 → t ≤ 2 ^ 40 → 1 ≤ s → div_ceil (w * t) s ≤ 2 ^ 73
 loss_small w t s hw ht hs =
@@ -20,8 +24,16 @@ loss_at weight order side w least most =
     loss_small _ _ _ a (single_tail_le order) s
 
 -- the sum of two radii, as it is computed
-pub lost_is : (radius r : ℤ) (n : ℕ) → pos 0 ≤ℤ radius → radius ≤ℤ pos (2 ^ 90) → r ≡ pos n → n < 2 ^ 90 → to_z w128 (of_z w128 (to_z w128 (of_z w128 radius) +ℤ to_z w128 (of_z w128 r))) ≡ radius +ℤ pos n
-lost_is radius r n least most e small =
-    let a : to_z w128 (of_z w128 radius) ≡ radius = omega (arith, ints, least, most) in
-    let b : to_z w128 (of_z w128 r) ≡ pos n = omega (arith, ints, e, small) in
-    omega (arith, ints, a, b, least, most, small)
+pub lost_is : (radius r : ℤ) (m n : ℕ) → radius ≡ pos m → r ≡ pos n → m ≤ 2 ^ 90 → n ≤ 2 ^ 90 → to_z w128 (of_z w128 (to_z w128 (of_z w128 radius) +ℤ to_z w128 (of_z w128 r))) ≡ pos (m + n)
+lost_is radius r m n d e small few =
+    let a : to_z w128 (of_z w128 radius) ≡ pos m = omega (arith, ints, d, small) in
+    let b : to_z w128 (of_z w128 r) ≡ pos n = omega (arith, ints, e, few) in
+    omega (arith, ints, a, b, small, few)
+
+-- what the entry of a cell can lose, from its weight and its side as they are read
+module _ (P : ℕ) (b : BasisModel) (is : IsBasis P b) (n : ℕ) (lt : n < size b.tree) (w : ℤ) (here : w ≡ get_or b.weights n (pos 0)) where
+  pub weight_small : IsWeight w
+  weight_small = subst IsWeight (sym here) (is.weights_small n (pos 0) (omega (arith, is.weight_each, lt)))
+
+  pub loss_is : (s : ℤ) (q : Square) → s ≡ pos (side q) → q ≡ square_of b.tree n → single_radius P (unsigned_abs w) (unsigned_abs s) ≡ loss_of_cell P b n
+  loss_is s q e same = ap₂ (λ w s. single_radius P (unsigned_abs w) (unsigned_abs s)) (here ∙ is.weights_are.each n lt) (e ∙ ap (λ (q : Square). pos (side q)) same)

@@ -1,5 +1,5 @@
 -- Sums of boxes and counts over sources, one position after another.
-use Rattle.std.proofs.Common.{◌≡◌, ◌∙◌, ◌+◌, ◌*◌, ◌^◌, ◌<◌, ◌≤◌, sym, ap, refl, arith, Bool, true, false, cond, not, if◌then◌else◌, ℕ, List, [], ◌∷◌, ◌++◌, length, take, get_or, fold, map, to_z-of_z, to_z, of_z, SFits, w64, ℤ, pos}
+use Rattle.std.proofs.Common.{◌≡◌, ◌∙◌, ◌+◌, ◌*◌, ◌^◌, ◌<◌, ◌≤◌, sym, ap, ap₂, refl, arith, Bool, true, false, cond, not, if◌then◌else◌, ℕ, List, [], ◌∷◌, ◌++◌, length, take, get_or, fold, map, filter, to_z-of_z, to_z, of_z, SFits, w64, ℤ}
 use Rattle.std.proofs.lemmas.Int.{ints}
 use Rattle.std.proofs.lemmas.List.{map_more}
 use Rattle.std.proofs.lemmas.List.Elements.{filter-append}
@@ -12,7 +12,12 @@ use Rattle.points.specs.Limits.{InGrid, InRange, weight64}
 use Rattle.points.specs.declared.Point.{Point}
 use Rattle.row_recursions.proofs.Points.{weight_bounded}
 use Rattle.soundness.specs.Computed.{total_box}
-use Rattle.target_values.specs.Points.{point_at, sources, sources_at, count_apart}
+use Rattle.complex_box.specs.Counts.{Counts}
+use Rattle.field_basis.specs.Counts.{paired, sources_at, count_apart}
+use Rattle.field_basis.specs.Targets.{point_at}
+
+abbrev pub sources : List Point → List Point
+sources some = filter (λ p. is_source p.kind) some
 
 abbrev with_box : Gaussian → BoxEnds → Point → BoxEnds
 with_box t sum p = add_box sum (pair_box t p)
@@ -33,8 +38,13 @@ pairs_at x y p n grid h =
 pub sum_of_one : (t : Gaussian) (p : Point) (s : BoxEnds) → is_source p.kind ≡ true → add_box s (pair_box t p) ≡ fold (with_box t) s (sources (p ∷ []))
 sum_of_one t p s source = ap (λ b. fold (with_box t) s (cond b (p ∷ []) [])) (sym source)
 
-pub pairs_of_one : (t : Gaussian) (p : Point) (m n : ℕ) → is_source p.kind ≡ true → m ≡ n + (if is_at t p then 0 else 1) → m ≡ n + count_apart t (sources (p ∷ []))
-pairs_of_one t p m n source h = h ∙ ap (λ k. n + k) (one (is_at t p) ∙ ap (λ b. count_apart t (cond b (p ∷ []) [])) (sym source))
+-- ---- counts that are raised
+pub paired_again : (a b : ℕ) (w : Counts) → paired b (paired a w) ≡ paired (a + b) w
+paired_again a b w = ap (λ n. record w { pairs = n }) (omega arith)
+
+pub pair_counted : (t : Gaussian) (p : Point) (old new : Counts) → is_source p.kind ≡ true → new.pairs ≡ old.pairs + (if is_at t p then 0 else 1) → new.translations ≡ old.translations → new ≡ paired (count_apart t (sources (p ∷ []))) old
+pair_counted t p old new source h same =
+    ap₂ (λ m n. record { translations = m; pairs = n }) same (h ∙ ap (λ k. old.pairs + k) (one (is_at t p) ∙ ap (λ b. count_apart t (cond b (p ∷ []) [])) (sym source)))
   where
     one : (b : Bool) → (if b then 0 else 1) ≡ 0 + cond {A = ℕ} (not b) 1 0
     one true = refl
@@ -57,11 +67,8 @@ module _ (t : Gaussian) (points : List Point) (ms : List ℕ) (i : ℕ) (p : Poi
       b ∙ ap (λ s. fold (with_box t) s (sources (p ∷ []))) a
       ∙ sym (ap (total_box (pair_box t)) (sources_at-more points ms i p lt is) ∙ fold-append (with_box t) zero_box (sources_at points (take i ms)) (sources (p ∷ [])))
 
-  pub pairs-step : (k : ℕ) {m n : ℕ} → m ≡ k + count_apart t (sources_at points (take i ms)) → n ≡ m + count_apart t (sources (p ∷ [])) → n ≡ k + count_apart t (sources_at points (take (i + 1) ms))
-  pairs-step k a b =
-      let e : count_apart t (sources_at points (take (i + 1) ms)) ≡ count_apart t (sources_at points (take i ms)) + count_apart t (sources (p ∷ [])) =
-      ap (count_apart t) (sources_at-more points ms i p lt is) ∙ sum_by-append (λ q. cond (not (is_at t q)) 1 0) (sources_at points (take i ms)) (sources (p ∷ [])) in
-      omega arith
+  pub count-step : count_apart t (sources_at points (take i ms)) + count_apart t (sources (p ∷ [])) ≡ count_apart t (sources_at points (take (i + 1) ms))
+  count-step = sym (ap (count_apart t) (sources_at-more points ms i p lt is) ∙ sum_by-append (λ q. cond (not (is_at t q)) 1 0) (sources_at points (take i ms)) (sources (p ∷ [])))
 
 pub one_at_most : (t : Gaussian) (p : Point) → count_apart t (sources (p ∷ [])) ≤ 1
 one_at_most t p = by (is_source p.kind)

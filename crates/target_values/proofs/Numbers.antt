@@ -1,35 +1,26 @@
--- Lists of numbers of cells, and what stands at a number in a slice.
-use Rattle.std.proofs.Common.{◌≡◌, ◌∙◌, ◌+◌, ◌-◌, ◌*◌, ◌<◌, ◌≤◌, zero, suc, sym, ap, subst, arith, ℕ, List, [], ◌∷◌, length, drop, get_or}
-use Rattle.std.specs.Prelude.{All, slice_range}
+-- Lists of numbers of cells, and the members of a cell.
+use Rattle.std.proofs.Common.{◌≡◌, ◌∙◌, ◌+◌, ◌<◌, ◌≤◌, zero, suc, sym, ap, subst, arith, ℕ, List, [], ◌∷◌, length, get_or}
+use Rattle.std.specs.Prelude.{All}
 use Rattle.std.specs.List.{range_with_len}
 use Rattle.std.specs.List.Sorted.{IsStrictlyIncreasing}
-use Rattle.std.proofs.lemmas.List.{get_or-take, get_or-drop}
 use Rattle.std.proofs.lemmas.List.Elements.{Contains-get_or}
 use Rattle.std.proofs.lemmas.List.FromFn.{length-range_with_len}
 use Rattle.std.proofs.lemmas.List.Sums.{length-filter, count_by-le-length}
-use Rattle.std.proofs.Math.Nat.{mul-le-mul_right}
-use Rattle.exact_math.specs.Ends.{BoxEndsWithin}
 use Rattle.cell_lists.specs.Entries.{IsEntry}
-use Rattle.cell_lists.specs.EntryLists.{lists_of, EntryListsModel}
-use Rattle.cell_lists.specs.Lists.{IsListOf, AreLists}
+use Rattle.cell_lists.specs.EntryLists.{lists_of}
+use Rattle.cell_lists.specs.Lists.{IsListOf}
 use Rattle.cell_lists.specs.ListAt.{list_at}
+use Rattle.field_basis.proofs.CellWeights.{position_inside}
+use Rattle.field_basis.specs.Basis.{BasisModel, IsBasis}
 use Rattle.letters.specs.declared.Letter.{Letter}
-use Rattle.complex_box.specs.Box.{box_ends, BoxWithin}
-use Rattle.complex_box.specs.Rows.{zero_cbox}
-use Rattle.complex_box.specs.declared.CBox.{CBox}
 use Rattle.points.specs.Limits.{most_points}
-use Rattle.points.specs.declared.Point.{Point}
-use Rattle.quadtree.specs.Members.{members_of, holds_position}
+use Rattle.quadtree.specs.Members.{holds_position}
 use Rattle.quadtree.specs.Tree.{AreInGrid}
-use Rattle.quadtree.specs.TreeModel.{TreeModel, IsTreeOf, size, square_of, node_of}
-use Rattle.quadtree.proofs.Distinct.{Contains-filter}
-use Rattle.row_recursions.specs.Rows.{row_of}
-use Rattle.row_recursions.specs.Sizes.{RowWithin}
-use Rattle.quadtree.proofs.Lists.{All-from_members, range_below}
-use Rattle.tree_rows.specs.FlatRows.{row_at, AreSameRows}
+use Rattle.quadtree.specs.TreeModel.{size, square_of, node_of}
+use Rattle.quadtree.proofs.Limits.{in_grid}
 
 -- ascending numbers below n are no more than n
-pub few_below : (n : ℕ) (xs : List ℕ) → All (λ x. x < n) xs → IsStrictlyIncreasing xs → length xs ≤ n
+few_below : (n : ℕ) (xs : List ℕ) → All (λ x. x < n) xs → IsStrictlyIncreasing xs → length xs ≤ n
 few_below n [] below up = omega arith
 few_below n (x ∷ xs) below up =
     let last = at_least (length xs) (omega arith) in
@@ -45,46 +36,35 @@ few_below n (x ∷ xs) below up =
         let f = up k (omega arith) in
         omega (arith, next, f, h)
 
--- ---- a list of entries, as it is read
-module _ (tree : TreeModel) (lists : EntryListsModel) (points : List Point) (cap : ℕ) (inside : AreInGrid 16 points) (h : IsTreeOf 16 tree points cap) (are : AreLists tree lists) (letter : Letter) (b : ℕ) (lt : b < size tree)
-    (items : List ℕ) (is : items ≡ list_at (lists_of lists letter) b) where
-  pub list_of : IsListOf tree points cap letter b items
-  list_of = subst (IsListOf tree points cap letter b) (sym is) (are.each points cap inside h letter b lt)
+module _ (P : ℕ) (b : BasisModel) (is : IsBasis P b) where
+  pub inside : AreInGrid 16 b.points
+  inside = in_grid b.points is.tree_is.tree_is.range
 
-  pub number_below : (i : ℕ) → i < length items → get_or items i 0 < size tree
-  number_below i l = list_of.numbers i 0 l
+  -- ---- a list of entries, as it is read
+  module _ (letter : Letter) (n : ℕ) (lt : n < size b.tree) (items : List ℕ) (are : items ≡ list_at (lists_of b.lists letter) n) where
+    list_of : IsListOf b.tree b.points b.cap letter n items
+    list_of = subst (IsListOf b.tree b.points b.cap letter n) (sym are) (is.tree_is.lists_are.each b.points b.cap inside is.is_tree letter n lt)
 
-  pub few_items : length items ≤ 65536
-  few_items = let f = few_below (size tree) items list_of.numbers list_of.ascending in omega (arith, f, h.few)
+    pub number_below : (i : ℕ) → i < length items → get_or items i 0 < size b.tree
+    number_below i l = list_of.numbers i 0 l
 
-  pub entry_at : (i : ℕ) → i < length items → IsEntry 16 points cap letter (square_of tree b) (square_of tree (get_or items i 0))
-  entry_at i l = (list_of.exact (get_or items i 0) (number_below i l)).0 (Contains-get_or items i 0 l)
+    pub few_items : length items ≤ most_points
+    few_items = let f = few_below (size b.tree) items list_of.numbers list_of.ascending in omega (arith, f, is.is_tree.few)
 
--- ---- the members of a cell
-module _ (tree : TreeModel) (points : List Point) (cap : ℕ) (h : IsTreeOf 16 tree points cap) (n : ℕ) (lt : n < size tree) (members : List ℕ) (is : members ≡ (node_of tree n).members) where
-  are_members : members ≡ members_of points (square_of tree n)
-  are_members = is ∙ (h.nodes_are n lt).members_are
+    pub entry_at : (i : ℕ) → i < length items → IsEntry 16 b.points b.cap letter (square_of b.tree n) (square_of b.tree (get_or items i 0))
+    entry_at i l = (list_of.exact (get_or items i 0) (number_below i l)).0 (Contains-get_or items i 0 l)
 
-  pub members_below : All (λ k. k < length points) members
-  members_below = subst (All (λ k. k < length points)) (sym are_members)
-      (All-from_members (λ k. k < length points) (members_of points (square_of tree n)) (λ k m. range_below (length points) k (Contains-filter (holds_position (square_of tree n) points) (range_with_len 0 (length points)) k m).0))
+  -- ---- the members of a cell
+  pub few_members : (n : ℕ) → n < size b.tree → (members : List ℕ) → members ≡ (node_of b.tree n).members → length members ≤ most_points
+  few_members n lt members are =
+      let p : ℕ → _ = holds_position (square_of b.tree n) b.points in
+      let e = ap length (are ∙ (is.is_tree.nodes_are n lt).members_are) in
+      let f = length-filter p (range_with_len 0 (length b.points)) in
+      let g = count_by-le-length p (range_with_len 0 (length b.points)) in
+      let l = length-range_with_len 0 (length b.points) in
+      omega (arith, e, f, g, l, is.tree_is.tree_is.few)
 
-  pub few_members : length points ≤ most_points → length members ≤ 65536
-  few_members le =
-      let p : ℕ → _ = holds_position (square_of tree n) points in
-      let e = ap length are_members in
-      let f = length-filter p (range_with_len 0 (length points)) in
-      let g = count_by-le-length p (range_with_len 0 (length points)) in
-      let l = length-range_with_len 0 (length points) in
-      omega (arith, e, f, g, l, le)
-
--- ---- a row in a slice
-pub row_in_slice : (P n : ℕ) (rows : List CBox) → AreSameRows P (row_of (slice_range rows (n * P) ((n + 1) * P))) (row_at P rows n)
-row_in_slice P n rows k lt = ap box_ends (get_or-take ((n + 1) * P - n * P) (drop (n * P) rows) k zero_cbox (omega arith) ∙ get_or-drop (n * P) rows k zero_cbox)
-
-pub row_within : (P m n : ℕ) (rows : List CBox) → All (BoxWithin m) rows → (n + 1) * P ≤ length rows → RowWithin P m (row_of (slice_range rows (n * P) ((n + 1) * P)))
-row_within P m n rows h le k lt = subst (BoxEndsWithin m) (sym (row_in_slice P n rows k lt)) (h (n * P + k) zero_cbox (omega arith))
-
--- a number's row lies in the slice of all rows
-pub row_inside : (P n count len : ℕ) → n < count → len ≡ count * P → (n + 1) * P ≤ len
-row_inside P n count len lt e = let h : (n + 1) * P ≤ count * P = mul-le-mul_right P (omega arith) in omega (arith, h, e)
+  pub member_below : (n : ℕ) → n < size b.tree → (members : List ℕ) → members ≡ (node_of b.tree n).members → (i : ℕ) → i < length members → get_or members i 0 < length b.points
+  member_below n lt members are i l =
+      let here = position_inside b.points b.tree is.tree_is.tree_is n lt i (omega (arith, ap length are, l)) in
+      subst (λ (xs : List ℕ). get_or xs i 0 < length b.points) (sym are) here

@@ -1,34 +1,42 @@
--- The boxes of all targets from the rows of all cells.
-use Rattle.std.proofs.Common.{ℕ, ◌≡◌, ◌∙◌, ◌+◌, ◌^◌, ◌<◌, ℤ, pos, List, [], ◌∷◌, ◌++◌, length, map, get_or, set, take, sym, ap, subst, arith}
-use Rattle.std.specs.Prelude.{All}
-use Rattle.std.specs.List.{AllZip}
-use Rattle.std.proofs.lemmas.List.{get_or-map, length-map, map_more, take_more_set, map-append}
+-- What holds of all places of targets, since it holds of each.
+use Rattle.std.proofs.Common.{ℕ, suc, inl, inr, ◌≡◌, ◌∙◌, ◌+◌, ◌*◌, ◌^◌, ◌<◌, ◌≤◌, List, [], ◌∷◌, length, map, get_or, slice_index_or, slice_set, get_or-set_same, get_or-set_other, sym, ap, ap₂, refl, subst, arith, lit<}
+use Rattle.std.specs.Prelude.{All, sum_by}
+use Rattle.std.specs.List.{AllZip, range_with_len}
+use Rattle.std.proofs.lemmas.Bool.{cases_lt}
+use Rattle.std.proofs.lemmas.List.{get_or-map, get_or_default, length-map}
 use Rattle.std.proofs.lemmas.List.Elements.{All-map, All-tail}
+use Rattle.std.proofs.lemmas.List.Sums.{sum_by-le}
 use Rattle.std.proofs.lemmas.Simd.{map-map}
 use Rattle.exact_math.specs.Ends.{BoxEnds, BoxEndsContain, BoxEndsWithin}
-use Rattle.exact_math.specs.Orders.{IsOrder}
-use Rattle.cell_lists.specs.Lists.{AreLists}
-use Rattle.cell_lists.specs.EntryLists.{EntryListsModel}
+use Rattle.exact_math.specs.Units.{unit}
+use Rattle.exact_math.proofs.Orders.{order_bounds}
 use Rattle.complex_box.specs.Box.{box_ends, BoxWithin}
-use Rattle.complex_box.specs.declared.CBox.{CBox}
+use Rattle.field_basis.proofs.PlaceSums.{sum_by_number}
+use Rattle.field_basis.proofs.Positions.{targets_at}
+use Rattle.field_basis.specs.Basis.{BasisModel, IsBasis}
+use Rattle.field_basis.specs.Counts.{pairs_of_target}
+use Rattle.field_basis.specs.FieldPlaces.{IsTargetBox, AreTargetBoxes, BoxesContain, AreAllPairs}
+use Rattle.field_basis.specs.Targets.{point_at}
 use Rattle.field_sizes.proofs.Bounds.{boxes_within}
 use Rattle.near_field.specs.DirectSum.{direct_sum}
+use Rattle.places.specs.Target.{TargetModel, no_target, target_at, values_of, all_pairs}
 use Rattle.points.specs.Points.{place}
 use Rattle.points.specs.declared.Point.{Point}
-use Rattle.quadtree.specs.TreeModel.{TreeModel, leaf_of}
-use Rattle.tree_field.specs.Field.{target_box, target_boxes, targets}
-use Rattle.tree_field.specs.Lists.{TreeLists}
-use Rattle.tree_rows.specs.FieldRows.{AreFieldRows, AreWeights}
-use Rattle.tree_rows.specs.Trees.{IsTreeOfPoints}
-use Rattle.target_values.specs.Points.{point_at}
-use Rattle.target_values.specs.Targets.{target_positions}
-use Rattle.target_values.specs.Values.{value_at}
-use Rattle.target_values.proofs.FieldBox.{box_is, boxes_contain}
-use Rattle.quadtree.proofs.Limits.{in_grid}
-use Rattle.target_values.proofs.Sums.{map-same}
-use Rattle.target_values.proofs.Positions.{targets_at, positions_are, rows_of_leaf}
+use Rattle.quadtree.specs.TreeModel.{leaf_of}
+use Rattle.tree_field.specs.Field.{target_box, targets}
+use Rattle.tree_field.proofs.Whole.{field_contains}
+use Rattle.target_values.proofs.FieldBox.{some_lists, limited}
+use Rattle.target_values.proofs.NearBounds.{few_pairs}
+use Rattle.target_values.proofs.Numbers.{inside}
+use Rattle.target_values.proofs.Pairs.{count_at, pairs_are}
 
 -- ---- lists whose images are the same
+map_by_number : {A B C : Type 0} (f : A → C) (g : B → C) (xs : List A) (ys : List B) (d : A) (e : B) → length xs ≡ length ys → ((k : ℕ) → k < length xs → f (get_or xs k d) ≡ g (get_or ys k e)) → map f xs ≡ map g ys
+map_by_number f g [] [] d e long same = refl
+map_by_number f g [] (y ∷ ys) d e long same = absurd (omega (arith, long))
+map_by_number f g (x ∷ xs) [] d e long same = absurd (omega (arith, long))
+map_by_number f g (x ∷ xs) (y ∷ ys) d e long same = ap₂ (λ z zs. z ∷ zs) (same 0 (omega arith)) (map_by_number f g xs ys d e (omega (arith, long)) (λ k lt. same (suc k) (omega (arith, lt))))
+
 zip-from_images : {A B C : Type 0} (R : A → C → Type 0) (f : A → C) (g : B → C) (ts : List A) (vs : List B) → map g vs ≡ map f ts → All (λ t. R t (f t)) ts → AllZip (λ t v. R t (g v)) ts vs
 zip-from_images R f g [] [] e h = tt
 zip-from_images R f g [] (v ∷ vs) e h = absurd (cc)
@@ -42,41 +50,50 @@ all-from_images : {A B C : Type 0} (P : C → Type 0) (f : A → C) (g : B → C
 all-from_images P f g ts vs e h k d lt =
     subst P (get_or-map g vs k d (g d) lt) (subst (All P) (sym e) (All-map P f ts h) k (g d) (omega (arith, length-map vs g)))
 
--- ---- one more box
-module _ {A : Type 0} (f : A → BoxEnds) (xs : List A) (values : List CBox) (i : ℕ) (d : A) (v : CBox) where
-  pub boxes_more : i < length xs → i < length values → map box_ends (take i values) ≡ map f (take i xs) → box_ends v ≡ f (get_or xs i d) → map box_ends (take (i + 1) (set values i v)) ≡ map f (take (i + 1) xs)
-  boxes_more lx lv old new =
-      ap (map box_ends) (take_more_set values i v lv)
-      ∙ map-append box_ends (take i values) (v ∷ [])
-      ∙ ap (λ bs. bs ++ box_ends v ∷ []) old
-      ∙ ap (λ b. map f (take i xs) ++ b ∷ []) new
-      ∙ sym (map_more f xs i d lx)
+-- ---- one element more
+-- what holds of the first k elements, and of what is written behind them, holds of the first k + 1
+pub one_more : {X : Type 0} (Q : ℕ → X → Type 0) (xs : List X) (k : ℕ) (x d : X) → k < length xs → ((m : ℕ) → m < k → Q m (slice_index_or xs m d)) → Q k x → (m : ℕ) → m < k + 1 → Q m (slice_index_or (slice_set xs k x) m d)
+one_more {X} Q xs k x d lt before now m h =
+    elim (cases_lt m k) [
+      | inl less ↦ subst (Q m) (sym (get_or-set_other xs k m x d (λ e. absurd (omega arith)))) (before m less)
+      | inr ge ↦ let R : ℕ → Type 0 = λ n. Q n (slice_index_or (slice_set xs k x) n d) in subst R (omega arith) (subst (Q k) (sym (get_or-set_same xs k x d lt)) now)
+    ]
 
--- ---- all boxes
-module _ (points : List Point) (P : ℕ) (tree : TreeModel) (lists : EntryListsModel) (up local : List CBox) (weights radii : List ℤ) where
-  -- the value of the target at a position
-  abbrev pub value_of : ℕ → BoxEnds
-  value_of k = value_at P tree lists points up local weights (get_or radii (leaf_of tree k) (pos 0)) (leaf_of tree k) (place (point_at points k))
+-- ---- the place of a target
+pub record IsTargetPlaceOf (P : ℕ) (b : BasisModel) (k : ℕ) (place : TargetModel) : Type 0 where
+  pub value : IsTargetBox P b k place.value
+  pub pairs : place.pairs ≡ pairs_of_target b k
 
-  module _ (cap : ℕ) (field : TreeLists) (is : IsTreeOfPoints points tree) (are : AreLists tree lists) (weigh : AreWeights points P tree weights) (rows : AreFieldRows points cap P tree field up local radii) where
-    pub boxes_are : map value_of (target_positions points) ≡ target_boxes points cap P field 16
-    boxes_are =
-        let positions : List ℕ = target_positions points in
-        let box : Point → BoxEnds = λ p. target_box points cap P field 16 (place p) in
-        let inside = in_grid points is.range in
-        map-same value_of (λ k. box (point_at points k)) positions (λ i d l.
-        let k : ℕ = get_or positions i d in
-        let here = positions_are points i d l in
-        box_is points cap P tree lists field inside are up local weights (get_or radii (leaf_of tree k) (pos 0)) k here.inside (rows_of_leaf points cap P tree lists field inside are up local weights radii rows weigh k here))
-        ∙ sym (map-map box (point_at points) positions)
-        ∙ ap (map box) (targets_at points)
+module _ (P : ℕ) (b : BasisModel) (is : IsBasis P b) (places : List TargetModel) (long : length places ≡ length b.targets) (each : (k : ℕ) → k < length places → IsTargetPlaceOf P b k (target_at places k)) where
+  pub boxes_are : AreTargetBoxes P b (values_of places)
+  boxes_are lists are =
+      let box : Point → BoxEnds = λ p. target_box b.points b.cap P lists 16 (place p) in
+      map-map box_ends (λ (p : TargetModel). p.value) places
+      ∙ map_by_number (λ (p : TargetModel). box_ends p.value) (λ k. box (point_at b.points k)) places b.targets no_target 0 long (λ k lt. (each k lt).value lists are)
+      ∙ sym (map-map box (point_at b.points) b.targets)
+      ∙ ap (map box) (ap (map (point_at b.points)) is.targets_are ∙ targets_at b.points)
 
-    pub each_contains : IsOrder P → (values : List CBox) → map box_ends values ≡ target_boxes points cap P field 16 → AllZip (λ t v. BoxEndsContain (pos (2 ^ 40)) (box_ends v) (direct_sum (place t) points)) (targets points) values
-    each_contains order values e =
-        zip-from_images (λ t b. BoxEndsContain (pos (2 ^ 40)) b (direct_sum (place t) points)) (λ t. target_box points cap P field 16 (place t)) box_ends (targets points) values e
-        (boxes_contain points cap P tree field (in_grid points is.range) order rows.field_is)
+  pub all_contain : BoxesContain b.points (values_of places)
+  all_contain =
+      zip-from_images (λ t e. BoxEndsContain unit e (direct_sum (place t) b.points)) (λ t. target_box b.points b.cap P (some_lists P b is).0 16 (place t)) box_ends (targets b.points) (values_of places) (boxes_are (some_lists P b is).0 (some_lists P b is).1)
+      (field_contains 16 b.points b.cap P (some_lists P b is).0 (lit< tt) (order_bounds P is.order).0 (inside P b is) (some_lists P b is).1)
 
-    pub each_small : IsOrder P → (values : List CBox) → map box_ends values ≡ target_boxes points cap P field 16 → All (BoxWithin (2 ^ 84)) values
-    each_small order values e =
-        all-from_images (BoxEndsWithin (2 ^ 84)) (λ t. target_box points cap P field 16 (place t)) box_ends (targets points) values e
-        (boxes_within points cap P field order (record { in_grid = in_grid points is.range; light = is.light; lists_are = rows.field_is.lists_are }))
+  pub all_small : All (BoxWithin (2 ^ 84)) (values_of places)
+  all_small =
+      all-from_images (BoxEndsWithin (2 ^ 84)) (λ t. target_box b.points b.cap P (some_lists P b is).0 16 (place t)) box_ends (targets b.points) (values_of places) (boxes_are (some_lists P b is).0 (some_lists P b is).1)
+      (boxes_within b.points b.cap P (some_lists P b is).0 is.order (limited P b is (some_lists P b is).0 (some_lists P b is).1))
+
+  pub all_pairs_are : AreAllPairs b (all_pairs places)
+  all_pairs_are lists are =
+      let f : ℕ → ℕ = λ k. count_at b (leaf_of b.tree k) k in
+      sum_by_number (λ (p : TargetModel). p.pairs) (pairs_of_target b) places no_target (λ k lt. (each k lt).pairs)
+      ∙ ap (λ n. sum_by (pairs_of_target b) (range_with_len 0 n)) long
+      ∙ sym (sum_by_number f (pairs_of_target b) b.targets 0 (λ k lt. refl))
+      ∙ ap (sum_by f) is.targets_are
+      ∙ pairs_are P b is lists are
+
+  pub all_pairs_few : all_pairs places ≤ length b.targets * length b.points
+  all_pairs_few =
+      let most = sum_by-le (λ (p : TargetModel). p.pairs) (length b.points) places (λ k d lt.
+      subst (λ (p : TargetModel). p.pairs ≤ length b.points) (sym (get_or_default places k d no_target lt)) (omega (arith, (each k lt).pairs, few_pairs P b is k (omega (arith, long, lt))))) in
+      omega (arith, most, ap (λ n. n * length b.points) long)

@@ -1,5 +1,2 @@
--- What contracts cite: points and targets at positions, the value of a target from rows in slices, and the rows of the field.
-pub mod Field
-pub mod Points
-pub mod Targets
+-- What the private clauses cite: what the cells of a leaf's lists bring to a place.
 pub mod Values

@@ -1,44 +1,28 @@
--- The value of a target from rows in flat slices, by the numbers of the tree's cells.
-use Rattle.std.specs.Prelude.{ℕ, ◌*◌, ℤ, pos, ◌+ℤ◌, List, sum_by}
-use Rattle.exact_math.specs.Ends.{BoxEnds, add_box, widen_box}
+-- What the cells of a leaf's lists bring to a place, by their numbers.
+use Rattle.std.specs.Prelude.{ℕ}
+use Rattle.exact_math.specs.Ends.{BoxEnds}
 use Rattle.exact_math.specs.Gaussian.{Gaussian}
 use Rattle.cell_name.specs.Square.{side}
-use Rattle.cell_lists.specs.ListAt.{list_at}
-use Rattle.cell_lists.specs.EntryLists.{EntryListsModel}
-use Rattle.complex_box.specs.declared.CBox.{CBox}
+use Rattle.field_basis.specs.Basis.{BasisModel}
+use Rattle.field_basis.specs.Counts.{count_apart, sources_at}
 use Rattle.near_field.specs.Pair.{pair_box}
-use Rattle.points.specs.declared.Point.{Point}
-use Rattle.quadtree.specs.TreeModel.{TreeModel, square_of, node_of}
-use Rattle.row_recursions.specs.Rows.{local_value, multipole_value}
+use Rattle.quadtree.specs.TreeModel.{square_of, node_of}
+use Rattle.row_recursions.specs.Rows.{multipole_value}
 use Rattle.soundness.specs.Computed.{total_box}
 use Rattle.soundness.specs.Squares.{offset}
-use Rattle.tree_rows.specs.FlatRows.{row_at, stored_weight}
-use Rattle.truncation.specs.Tails.{single_radius}
-use Rattle.target_values.specs.Points.{sources_at, count_apart}
+use Rattle.tree_field.specs.Field.{sources_in, multipole_row, single_radius_in}
 
-module _ (tree : TreeModel) (lists : EntryListsModel) where
-  module _ (points : List Point) where
-    abbrev pub sources_of : ℕ → List Point
-    sources_of n = sources_at points (node_of tree n).members
+module _ (P : ℕ) (b : BasisModel) where
+  -- the value of the multipole row of a W cell, and what its entry can lose
+  abbrev pub value_of_cell : Gaussian → ℕ → BoxEnds
+  value_of_cell z c = multipole_value P (multipole_row b.points b.cap (square_of b.tree c)) (side (square_of b.tree c)) (offset (square_of b.tree c) z)
 
-    -- the pairs with the sources of the U entries
-    abbrev pub near_pairs : ℕ → Gaussian → BoxEnds
-    near_pairs b z = total_box (λ c. total_box (pair_box z) (sources_of c)) (list_at lists.u b)
+  abbrev pub loss_of_cell : ℕ → ℕ
+  loss_of_cell c = single_radius_in b.points P (side (square_of b.tree c)) (square_of b.tree c)
 
-    abbrev pub near_count : ℕ → Gaussian → ℕ
-    near_count b z = sum_by (λ c. count_apart z (sources_of c)) (list_at lists.u b)
+-- the pairs with the sources of a U cell, and how many they are
+abbrev pub pairs_of_cell : BasisModel → Gaussian → ℕ → BoxEnds
+pairs_of_cell b z c = total_box (pair_box z) (sources_in b.points (square_of b.tree c))
 
-module _ (P : ℕ) (tree : TreeModel) (lists : EntryListsModel) where
-  -- the values of the rows of the W entries
-  abbrev pub far_values : List CBox → ℕ → Gaussian → BoxEnds
-  far_values up b z = total_box (λ c. multipole_value P (row_at P up c) (side (square_of tree c)) (offset (square_of tree c) z)) (list_at lists.w b)
-
-  -- what the W entries can lose
-  abbrev pub far_radius : List ℤ → ℕ → ℕ
-  far_radius weights b = sum_by (λ c. single_radius P (stored_weight weights c) (side (square_of tree c))) (list_at lists.w b)
-
-  abbrev pub value_at : List Point → List CBox → List CBox → List ℤ → ℤ → ℕ → Gaussian → BoxEnds
-  value_at points up local weights radius b z =
-      widen_box
-      (add_box (local_value P (row_at P local b) (side (square_of tree b)) (offset (square_of tree b) z)) (add_box (far_values up b z) (near_pairs tree lists points b z)))
-      (radius +ℤ pos (far_radius weights b))
+abbrev pub count_of_cell : BasisModel → Gaussian → ℕ → ℕ
+count_of_cell b z c = count_apart z (sources_at b.points (node_of b.tree c).members)

@@ -1,56 +1,263 @@
-use Rattle.std.proofs.Common.{◌∙◌, ◌+◌, ◌^◌, ap₂, subst, sym, arith, pos, List, get_or, to_z-of_z}
+-- The box from its parts.
+use Rattle.std.proofs.Common.{rules, ◌≡◌, ◌∙◌, ◌+◌, ◌*◌, ◌^◌, ◌<◌, ◌≤◌, ℕ, pos, ap, ap₂, sym, subst, arith, List, length, get_or, to_z-of_z}
+use Rattle.std.specs.Prelude.{sum_by}
+use Rattle.std.proofs.lemmas.Int.{ints}
 use Rattle.std.proofs.lemmas.List.{get_or_default}
-use Rattle.std.proofs.lemmas.List.Elements.{All-contains}
-use Rattle.exact_math.specs.Ends.{BoxEndsContain}
-use Rattle.cell_name.specs.Square.{Holds}
-use Rattle.near_field.specs.DirectSum.{direct_sum}
-use Rattle.points.proofs.Slices.{first_point}
+use Rattle.exact_math.proofs.Orders.{order_bounds}
+use Rattle.exact_math.specs.Ends.{BoxEndsWithin, add_box, widen_box}
+use Rattle.exact_math.specs.Within.{Within}
+use Rattle.cell_lists.proofs.TreeNumbers.{read_at}
+use Rattle.cell_lists.specs.ListAt.{list_at}
+use Rattle.cell_name.specs.Cell.{square}
+use Rattle.cell_name.specs.Square.{Square, side, Holds}
+use Rattle.complex_box.proofs.Sizes.{add_box_within, box_wider, widen_box_within}
+use Rattle.complex_box.specs.Box.{box_ends}
+use Rattle.complex_box.specs.declared.CBox.{CBox}
+use Rattle.field_basis.specs.Basis.{BasisModel, IsBasis, target_of, target_leaf}
+use Rattle.field_basis.specs.Counts.{paired}
+use Rattle.field_basis.specs.FieldPlaces.{AreMultipolePlaces}
+use Rattle.field_basis.specs.Targets.{no_point, point_at}
+use Rattle.field_sizes.proofs.RowTotals.{wider}
+use Rattle.places.specs.Place.{PlaceModel, no_place, place_at}
 use Rattle.points.specs.Points.{place}
 use Rattle.points.specs.declared.Point.{Point}
-use Rattle.quadtree.specs.TreeModel.{square_of}
-use Rattle.tree_field.specs.Field.{target_box, targets}
-use Rattle.target_values.specs.Points.{no_point, point_at}
-use Rattle.target_values.specs.Values.{value_at, near_count}
-use Rattle.target_values.proofs.FieldBox.{leaf_at_position, box_is, boxes_contain}
-use Rattle.quadtree.proofs.Limits.{in_grid}
+use Rattle.quadtree.specs.TreeModel.{size, square_of, leaf_of}
+use Rattle.row_recursions.proofs.Points.{grid_fits}
+use Rattle.row_recursions.specs.Cells.{side_of, offset_from}
+use Rattle.row_recursions.specs.Rows.{row_of, local_value}
+use Rattle.row_recursions.specs.Sizes.{RowWithin}
+use Rattle.soundness.specs.Computed.{total_box}
+use Rattle.soundness.specs.Squares.{offset}
+use Rattle.target_values.proofs.FieldBox.{position, leaf_below, leaf_holds, target_in_grid, local_small, box_is, box_contains, box_small}
+use Rattle.target_values.proofs.Losses.{lost_is}
+use Rattle.target_values.specs.Values.{value_of_cell, pairs_of_cell, count_of_cell, loss_of_cell}
 use Rattle.target_values.proofs.value.target_value.Goals as goal
 
-pub value_in-requires-clause-number : goal.value_in-requires-clause-number
-value_in-requires-clause-number g c =
-    let t = c.requires.tree in
-    let l = leaf_at_position c.args.tree.now c.args.points.now t.cap t.is_tree c.args.k first_point c.requires.number in
-    omega (arith, c.leaf_of-b.ensures, l.in_range)
+pub index-target-requires : goal.index-target-requires
+index-target-requires g c =
+    let b = c.args.basis.now in
+    let is : IsBasis g.row.P b = subst (IsBasis g.row.P) c.basis.view_is c.basis.invariant in
+    let found : ℕ = c.index.result.now in
+    let found_is : found ≡ get_or b.targets c.args.k 0 =
+    c.index.ensures ∙ get_or_default c.basis.inside.targets.items c.args.k found 0 (subst (λ (b : BasisModel). c.args.k < length b.targets) (sym c.basis.view_is) c.requires.target) ∙ ap (λ (b : BasisModel). get_or b.targets c.args.k 0) c.basis.view_is in
+    let below : found < length b.points = omega (arith, found_is, (position g.row.P b is c.args.k c.requires.target).inside) in
+    let long : length c.basis.inside.points.items ≡ length b.points = ap (λ (b : BasisModel). length b.points) c.basis.view_is in
+    omega (arith, below, long, c.basis.inside.points.ok.0)
 
-pub value_in-requires-clause-held : goal.value_in-requires-clause-held
-value_in-requires-clause-held g c =
-    let t = c.requires.tree in
-    let l = leaf_at_position c.args.tree.now c.args.points.now t.cap t.is_tree c.args.k first_point c.requires.number in
-    let p : Point = get_or c.args.points.now c.args.k first_point in
-    subst (λ b. Holds (square_of c.args.tree.now b) p.x p.y) (sym c.leaf_of-b.ensures) l.held
+pub leaf_of-leaf-requires : goal.leaf_of-leaf-requires
+leaf_of-leaf-requires g c =
+    let b = c.args.basis.now in
+    let is : IsBasis g.row.P b = subst (IsBasis g.row.P) c.basis.view_is c.basis.invariant in
+    let found : ℕ = c.index.result.now in
+    let found_is : found ≡ get_or b.targets c.args.k 0 =
+    c.index.ensures ∙ get_or_default c.basis.inside.targets.items c.args.k found 0 (subst (λ (b : BasisModel). c.args.k < length b.targets) (sym c.basis.view_is) c.requires.target) ∙ ap (λ (b : BasisModel). get_or b.targets c.args.k 0) c.basis.view_is in
+    let below : found < length b.points = omega (arith, found_is, (position g.row.P b is c.args.k c.requires.target).inside) in
+    subst (λ (b : BasisModel). found < length b.tree.leaves) (sym c.basis.view_is) (omega (arith, below, is.is_tree.as_many_leaves))
 
-pub returns-clause-ends : goal.returns-clause-ends
-returns-clause-ends g c =
-    let f = c.ranges.radius in
-    let e = simp to_z-of_z at c.value_in.ensures.ends in
-    e
-    ∙ ap₂ (λ b p. value_at g.row.P c.args.tree.now c.args.lists.now c.args.points.now c.args.up.now c.args.local.now c.args.weights.now c.args.radius b (place p)) c.leaf_of-b.ensures
-    (get_or_default c.args.points.now c.args.k first_point no_point c.requires.number)
+pub bounds-cells-leaf : goal.bounds-cells-leaf
+bounds-cells-leaf g c =
+    let b = c.args.basis.now in
+    let is : IsBasis g.row.P b = subst (IsBasis g.row.P) c.basis.view_is c.basis.invariant in
+    let found : ℕ = c.index.result.now in
+    let found_is : found ≡ get_or b.targets c.args.k 0 =
+    c.index.ensures ∙ get_or_default c.basis.inside.targets.items c.args.k found 0 (subst (λ (b : BasisModel). c.args.k < length b.targets) (sym c.basis.view_is) c.requires.target) ∙ ap (λ (b : BasisModel). get_or b.targets c.args.k 0) c.basis.view_is in
+    let below : found < length b.points = omega (arith, found_is, (position g.row.P b is c.args.k c.requires.target).inside) in
+    let leaf : c.leaf_of-leaf.result ≡ target_leaf b c.args.k = c.leaf_of-leaf.ensures ∙ ap (λ (b : BasisModel). leaf_of b.tree found) c.basis.view_is ∙ ap (leaf_of b.tree) found_is in
+    let in_tree = leaf_below g.row.P b is c.args.k c.requires.target c.leaf_of-leaf.result leaf in
+    let long : length c.cells.result.now ≡ size b.tree = ap length c.cells.ensures.all ∙ ap (λ (b : BasisModel). size b.tree) c.basis.view_is in
+    omega (arith, in_tree, long)
 
-pub returns-clause-field : goal.returns-clause-field
-returns-clause-field g c cap field rows =
-    returns-clause-ends g c
-    ∙ box_is c.args.points.now cap g.row.P c.args.tree.now c.args.lists.now field (in_grid c.args.points.now c.requires.tree.range) c.requires.lists c.args.up.now c.args.local.now c.args.weights.now c.args.radius c.args.k c.requires.number rows
+pub at_local-value-requires : goal.at_local-value-requires
+at_local-value-requires g c =
+    let b = c.args.basis.now in
+    let is : IsBasis g.row.P b = subst (IsBasis g.row.P) c.basis.view_is c.basis.invariant in
+    let found : ℕ = c.index.result.now in
+    let found_is : found ≡ get_or b.targets c.args.k 0 =
+    c.index.ensures ∙ get_or_default c.basis.inside.targets.items c.args.k found 0 (subst (λ (b : BasisModel). c.args.k < length b.targets) (sym c.basis.view_is) c.requires.target) ∙ ap (λ (b : BasisModel). get_or b.targets c.args.k 0) c.basis.view_is in
+    let below : found < length b.points = omega (arith, found_is, (position g.row.P b is c.args.k c.requires.target).inside) in
+    let target_is : c.index-target.result.now ≡ target_of b c.args.k =
+    c.index-target.ensures ∙ get_or_default c.basis.inside.points.items found c.index-target.result.now no_point (subst (λ (b : BasisModel). found < length b.points) (sym c.basis.view_is) below) ∙ ap (λ (b : BasisModel). point_at b.points found) c.basis.view_is ∙ ap (point_at b.points) found_is in
+    let leaf : c.leaf_of-leaf.result ≡ target_leaf b c.args.k = c.leaf_of-leaf.ensures ∙ ap (λ (b : BasisModel). leaf_of b.tree found) c.basis.view_is ∙ ap (leaf_of b.tree) found_is in
+    let in_tree = leaf_below g.row.P b is c.args.k c.requires.target c.leaf_of-leaf.result leaf in
+    let read : square c.index-cells-leaf.result ≡ square_of b.tree c.leaf_of-leaf.result =
+    read_at c.basis.inside.tree c.cells.result.now c.leaf_of-leaf.result c.index-cells-leaf.result c.cells.ensures.all (subst (λ (b : BasisModel). c.leaf_of-leaf.result < size b.tree) (sym c.basis.view_is) in_tree) c.index-cells-leaf.is
+    ∙ ap (λ (b : BasisModel). square_of b.tree c.leaf_of-leaf.result) c.basis.view_is in
+    let kept : PlaceModel = place_at c.args.local.now (target_leaf b c.args.k) in
+    let kept_is : c.index-local-leaf.result ≡ kept = c.index-local-leaf.is ∙ get_or_default c.args.local.now c.leaf_of-leaf.result c.index-local-leaf.result no_place (omega (arith, leaf, c.requires.leaf.in_range)) ∙ ap (place_at c.args.local.now) leaf in
+    let row_is : c.row.result.cells.now ≡ kept.row = c.row.ensures ∙ ap (λ (p : PlaceModel). p.row) kept_is in
+    let small = subst (λ (cells : List CBox). RowWithin g.row.P (2 ^ 82) (row_of cells)) (sym row_is) (local_small g.row.P b is c.args.k c.requires.target kept c.requires.leaf.place_is) in
+    let f = grid_fits c.index-target.result.now.x c.index-target.result.now.y (target_in_grid g.row.P b is c.args.k c.requires.target c.index-target.result.now target_is) in
+    let x = f.0 in
+    let y = f.1 in
+    let held = subst (λ s. Holds s c.index-target.result.now.x c.index-target.result.now.y) (sym read) (leaf_holds g.row.P b is c.args.k c.requires.target c.leaf_of-leaf.result leaf c.index-target.result.now target_is) in
+    simp to_z-of_z (search rules, (is.order, (held, wider g.row.P (2 ^ 82) (2 ^ 90) _ (omega arith) small)))
+
+pub w_values-far-requires : goal.w_values-far-requires
+w_values-far-requires g c =
+    let b = c.args.basis.now in
+    let is : IsBasis g.row.P b = subst (IsBasis g.row.P) c.basis.view_is c.basis.invariant in
+    let found : ℕ = c.index.result.now in
+    let found_is : found ≡ get_or b.targets c.args.k 0 =
+    c.index.ensures ∙ get_or_default c.basis.inside.targets.items c.args.k found 0 (subst (λ (b : BasisModel). c.args.k < length b.targets) (sym c.basis.view_is) c.requires.target) ∙ ap (λ (b : BasisModel). get_or b.targets c.args.k 0) c.basis.view_is in
+    let below : found < length b.points = omega (arith, found_is, (position g.row.P b is c.args.k c.requires.target).inside) in
+    let target_is : c.index-target.result.now ≡ target_of b c.args.k =
+    c.index-target.ensures ∙ get_or_default c.basis.inside.points.items found c.index-target.result.now no_point (subst (λ (b : BasisModel). found < length b.points) (sym c.basis.view_is) below) ∙ ap (λ (b : BasisModel). point_at b.points found) c.basis.view_is ∙ ap (point_at b.points) found_is in
+    let leaf : c.leaf_of-leaf.result ≡ target_leaf b c.args.k = c.leaf_of-leaf.ensures ∙ ap (λ (b : BasisModel). leaf_of b.tree found) c.basis.view_is ∙ ap (leaf_of b.tree) found_is in
+    let in_tree = leaf_below g.row.P b is c.args.k c.requires.target c.leaf_of-leaf.result leaf in
+    let rows = subst (λ n. AreMultipolePlaces g.row.P b.points b.tree c.args.up.now (list_at b.lists.w n)) (sym leaf) c.requires.rows in
+    let orders = order_bounds g.row.P is.order in (
+      search rules,
+      (
+        omega (arith, orders),
+        (
+          in_tree,
+          (
+            rows,
+            (
+              target_in_grid g.row.P b is c.args.k c.requires.target c.index-target.result.now target_is,
+              leaf_holds g.row.P b is c.args.k c.requires.target c.leaf_of-leaf.result leaf c.index-target.result.now target_is,
+            ),
+          ),
+        ),
+      ),
+    )
+
+pub u_pairs-near-requires : goal.u_pairs-near-requires
+u_pairs-near-requires g c =
+    let b = c.args.basis.now in
+    let is : IsBasis g.row.P b = subst (IsBasis g.row.P) c.basis.view_is c.basis.invariant in
+    let found : ℕ = c.index.result.now in
+    let found_is : found ≡ get_or b.targets c.args.k 0 =
+    c.index.ensures ∙ get_or_default c.basis.inside.targets.items c.args.k found 0 (subst (λ (b : BasisModel). c.args.k < length b.targets) (sym c.basis.view_is) c.requires.target) ∙ ap (λ (b : BasisModel). get_or b.targets c.args.k 0) c.basis.view_is in
+    let below : found < length b.points = omega (arith, found_is, (position g.row.P b is c.args.k c.requires.target).inside) in
+    let target_is : c.index-target.result.now ≡ target_of b c.args.k =
+    c.index-target.ensures ∙ get_or_default c.basis.inside.points.items found c.index-target.result.now no_point (subst (λ (b : BasisModel). found < length b.points) (sym c.basis.view_is) below) ∙ ap (λ (b : BasisModel). point_at b.points found) c.basis.view_is ∙ ap (point_at b.points) found_is in
+    let leaf : c.leaf_of-leaf.result ≡ target_leaf b c.args.k = c.leaf_of-leaf.ensures ∙ ap (λ (b : BasisModel). leaf_of b.tree found) c.basis.view_is ∙ ap (leaf_of b.tree) found_is in
+    let in_tree = leaf_below g.row.P b is c.args.k c.requires.target c.leaf_of-leaf.result leaf in
+    (search rules, (in_tree, (target_in_grid g.row.P b is c.args.k c.requires.target c.index-target.result.now target_is, c.requires.room)))
+
+pub w_radius-requires : goal.w_radius-requires
+w_radius-requires g c =
+    let b = c.args.basis.now in
+    let is : IsBasis g.row.P b = subst (IsBasis g.row.P) c.basis.view_is c.basis.invariant in
+    let found : ℕ = c.index.result.now in
+    let found_is : found ≡ get_or b.targets c.args.k 0 =
+    c.index.ensures ∙ get_or_default c.basis.inside.targets.items c.args.k found 0 (subst (λ (b : BasisModel). c.args.k < length b.targets) (sym c.basis.view_is) c.requires.target) ∙ ap (λ (b : BasisModel). get_or b.targets c.args.k 0) c.basis.view_is in
+    let below : found < length b.points = omega (arith, found_is, (position g.row.P b is c.args.k c.requires.target).inside) in
+    let leaf : c.leaf_of-leaf.result ≡ target_leaf b c.args.k = c.leaf_of-leaf.ensures ∙ ap (λ (b : BasisModel). leaf_of b.tree found) c.basis.view_is ∙ ap (leaf_of b.tree) found_is in
+    let in_tree = leaf_below g.row.P b is c.args.k c.requires.target c.leaf_of-leaf.result leaf in
+    (search rules, in_tree)
+
+pub add-requires : goal.add-requires
+add-requires g c =
+    box_wider _ _ _ (omega arith) (add_box_within (2 ^ 96) (2 ^ 99) (box_ends c.w_values-far.result) (box_ends c.u_pairs-near.result) c.w_values-far.ensures.size c.u_pairs-near.ensures.size)
+
+pub add-requires-2 : goal.add-requires-2
+add-requires-2 g c =
+    let b = c.args.basis.now in
+    let is : IsBasis g.row.P b = subst (IsBasis g.row.P) c.basis.view_is c.basis.invariant in
+    let found : ℕ = c.index.result.now in
+    let found_is : found ≡ get_or b.targets c.args.k 0 =
+    c.index.ensures ∙ get_or_default c.basis.inside.targets.items c.args.k found 0 (subst (λ (b : BasisModel). c.args.k < length b.targets) (sym c.basis.view_is) c.requires.target) ∙ ap (λ (b : BasisModel). get_or b.targets c.args.k 0) c.basis.view_is in
+    let below : found < length b.points = omega (arith, found_is, (position g.row.P b is c.args.k c.requires.target).inside) in
+    let leaf : c.leaf_of-leaf.result ≡ target_leaf b c.args.k = c.leaf_of-leaf.ensures ∙ ap (λ (b : BasisModel). leaf_of b.tree found) c.basis.view_is ∙ ap (leaf_of b.tree) found_is in
+    let in_tree = leaf_below g.row.P b is c.args.k c.requires.target c.leaf_of-leaf.result leaf in
+    let kept : PlaceModel = place_at c.args.local.now (target_leaf b c.args.k) in
+    let kept_is : c.index-local-leaf.result ≡ kept = c.index-local-leaf.is ∙ get_or_default c.args.local.now c.leaf_of-leaf.result c.index-local-leaf.result no_place (omega (arith, leaf, c.requires.leaf.in_range)) ∙ ap (place_at c.args.local.now) leaf in
+    let row_is : c.row.result.cells.now ≡ kept.row = c.row.ensures ∙ ap (λ (p : PlaceModel). p.row) kept_is in
+    let small = subst (λ (cells : List CBox). RowWithin g.row.P (2 ^ 82) (row_of cells)) (sym row_is) (local_small g.row.P b is c.args.k c.requires.target kept c.requires.leaf.place_is) in
+    let inner = subst (BoxEndsWithin (2 ^ 96 + 2 ^ 99)) (sym c.add.ensures.ends) (add_box_within (2 ^ 96) (2 ^ 99) (box_ends c.w_values-far.result) (box_ends c.u_pairs-near.result) c.w_values-far.ensures.size c.u_pairs-near.ensures.size) in
+    let orders = order_bounds g.row.P is.order in
+    let first = box_wider (g.row.P * 2 ^ 82) (2 ^ 88) _ (omega (arith, orders)) (c.at_local-value.ensures.size (2 ^ 82) small) in
+    let sum = add_box_within (2 ^ 88) (2 ^ 96 + 2 ^ 99) (box_ends c.at_local-value.result) (box_ends c.add.result) first inner in
+    box_wider _ _ _ (omega arith) sum
+
+pub widen-requires-clause-fits : goal.widen-requires-clause-fits
+widen-requires-clause-fits g c =
+    let b = c.args.basis.now in
+    let is : IsBasis g.row.P b = subst (IsBasis g.row.P) c.basis.view_is c.basis.invariant in
+    let found : ℕ = c.index.result.now in
+    let found_is : found ≡ get_or b.targets c.args.k 0 =
+    c.index.ensures ∙ get_or_default c.basis.inside.targets.items c.args.k found 0 (subst (λ (b : BasisModel). c.args.k < length b.targets) (sym c.basis.view_is) c.requires.target) ∙ ap (λ (b : BasisModel). get_or b.targets c.args.k 0) c.basis.view_is in
+    let below : found < length b.points = omega (arith, found_is, (position g.row.P b is c.args.k c.requires.target).inside) in
+    let leaf : c.leaf_of-leaf.result ≡ target_leaf b c.args.k = c.leaf_of-leaf.ensures ∙ ap (λ (b : BasisModel). leaf_of b.tree found) c.basis.view_is ∙ ap (leaf_of b.tree) found_is in
+    let in_tree = leaf_below g.row.P b is c.args.k c.requires.target c.leaf_of-leaf.result leaf in
+    let kept : PlaceModel = place_at c.args.local.now (target_leaf b c.args.k) in
+    let kept_is : c.index-local-leaf.result ≡ kept = c.index-local-leaf.is ∙ get_or_default c.args.local.now c.leaf_of-leaf.result c.index-local-leaf.result no_place (omega (arith, leaf, c.requires.leaf.in_range)) ∙ ap (place_at c.args.local.now) leaf in
+    let row_is : c.row.result.cells.now ≡ kept.row = c.row.ensures ∙ ap (λ (p : PlaceModel). p.row) kept_is in
+    let small = subst (λ (cells : List CBox). RowWithin g.row.P (2 ^ 82) (row_of cells)) (sym row_is) (local_small g.row.P b is c.args.k c.requires.target kept c.requires.leaf.place_is) in
+    let inner = subst (BoxEndsWithin (2 ^ 96 + 2 ^ 99)) (sym c.add.ensures.ends) (add_box_within (2 ^ 96) (2 ^ 99) (box_ends c.w_values-far.result) (box_ends c.u_pairs-near.result) c.w_values-far.ensures.size c.u_pairs-near.ensures.size) in
+    let orders = order_bounds g.row.P is.order in
+    let first = box_wider (g.row.P * 2 ^ 82) (2 ^ 88) _ (omega (arith, orders)) (c.at_local-value.ensures.size (2 ^ 82) small) in
+    let sum = add_box_within (2 ^ 88) (2 ^ 96 + 2 ^ 99) (box_ends c.at_local-value.result) (box_ends c.add.result) first inner in
+    let m : ℕ = c.index-local-leaf.result.radius in
+    let n : ℕ = sum_by (loss_of_cell g.row.P b) (list_at b.lists.w c.leaf_of-leaf.result) in
+    let few : n ≤ 2 ^ 90 = omega (arith, ints, c.w_radius.ensures.sum, c.w_radius.ensures.size) in
+    let lost = lost_is c.radius.result c.w_radius.result m n c.radius.ensures.radius c.w_radius.ensures.sum c.radius.ensures.bound few in
+    let whole = subst (BoxEndsWithin (2 ^ 88 + (2 ^ 96 + 2 ^ 99))) (sym c.add-2.ensures.ends) sum in
+    let little : Within (2 ^ 91) (pos (m + n)) = record { above = omega (arith, ints, c.radius.ensures.bound, few); below = omega (arith, ints, c.radius.ensures.bound, few) } in
+    subst (λ r. BoxEndsWithin (2 ^ 126) (widen_box (box_ends c.add-2.result) r)) (sym lost)
+    (box_wider _ _ _ (omega arith) (widen_box_within (2 ^ 88 + (2 ^ 96 + 2 ^ 99)) (2 ^ 91) (box_ends c.add-2.result) _ whole little))
+
+pub returns-clause-value : goal.returns-clause-value
+returns-clause-value g c =
+    let b = c.args.basis.now in
+    let is : IsBasis g.row.P b = subst (IsBasis g.row.P) c.basis.view_is c.basis.invariant in
+    let found : ℕ = c.index.result.now in
+    let found_is : found ≡ get_or b.targets c.args.k 0 =
+    c.index.ensures ∙ get_or_default c.basis.inside.targets.items c.args.k found 0 (subst (λ (b : BasisModel). c.args.k < length b.targets) (sym c.basis.view_is) c.requires.target) ∙ ap (λ (b : BasisModel). get_or b.targets c.args.k 0) c.basis.view_is in
+    let below : found < length b.points = omega (arith, found_is, (position g.row.P b is c.args.k c.requires.target).inside) in
+    let target_is : c.index-target.result.now ≡ target_of b c.args.k =
+    c.index-target.ensures ∙ get_or_default c.basis.inside.points.items found c.index-target.result.now no_point (subst (λ (b : BasisModel). found < length b.points) (sym c.basis.view_is) below) ∙ ap (λ (b : BasisModel). point_at b.points found) c.basis.view_is ∙ ap (point_at b.points) found_is in
+    let leaf : c.leaf_of-leaf.result ≡ target_leaf b c.args.k = c.leaf_of-leaf.ensures ∙ ap (λ (b : BasisModel). leaf_of b.tree found) c.basis.view_is ∙ ap (leaf_of b.tree) found_is in
+    let in_tree = leaf_below g.row.P b is c.args.k c.requires.target c.leaf_of-leaf.result leaf in
+    let read : square c.index-cells-leaf.result ≡ square_of b.tree c.leaf_of-leaf.result =
+    read_at c.basis.inside.tree c.cells.result.now c.leaf_of-leaf.result c.index-cells-leaf.result c.cells.ensures.all (subst (λ (b : BasisModel). c.leaf_of-leaf.result < size b.tree) (sym c.basis.view_is) in_tree) c.index-cells-leaf.is
+    ∙ ap (λ (b : BasisModel). square_of b.tree c.leaf_of-leaf.result) c.basis.view_is in
+    let kept : PlaceModel = place_at c.args.local.now (target_leaf b c.args.k) in
+    let kept_is : c.index-local-leaf.result ≡ kept = c.index-local-leaf.is ∙ get_or_default c.args.local.now c.leaf_of-leaf.result c.index-local-leaf.result no_place (omega (arith, leaf, c.requires.leaf.in_range)) ∙ ap (place_at c.args.local.now) leaf in
+    let row_is : c.row.result.cells.now ≡ kept.row = c.row.ensures ∙ ap (λ (p : PlaceModel). p.row) kept_is in
+    let f = grid_fits c.index-target.result.now.x c.index-target.result.now.y (target_in_grid g.row.P b is c.args.k c.requires.target c.index-target.result.now target_is) in
+    let x = f.0 in
+    let y = f.1 in
+    let m : ℕ = c.index-local-leaf.result.radius in
+    let n : ℕ = sum_by (loss_of_cell g.row.P b) (list_at b.lists.w c.leaf_of-leaf.result) in
+    let few : n ≤ 2 ^ 90 = omega (arith, ints, c.w_radius.ensures.sum, c.w_radius.ensures.size) in
+    let lost = lost_is c.radius.result c.w_radius.result m n c.radius.ensures.radius c.w_radius.ensures.sum c.radius.ensures.bound few in
+    let e = simp to_z-of_z at c.at_local-value.ensures.ends in
+    let s : ℕ = side_of c.index-cells-leaf.result in
+    let z = offset_from c.index-cells-leaf.result (place c.index-target.result.now) in
+    let value = e ∙ ap (λ (cells : List CBox). local_value g.row.P (row_of cells) s z) row_is
+    ∙ ap₂ (λ (q : Square) (t : Point). local_value g.row.P (row_of kept.row) (side q) (offset q (place t))) (read ∙ ap (square_of b.tree) leaf) target_is in
+    let far = c.w_values-far.ensures.ends ∙ ap₂ (λ (t : Point) n. total_box (value_of_cell g.row.P b (place t)) (list_at b.lists.w n)) target_is leaf in
+    let near = c.u_pairs-near.ensures.ends ∙ ap₂ (λ (t : Point) n. total_box (pairs_of_cell b (place t)) (list_at b.lists.u n)) target_is leaf in
+    box_is g.row.P b is c.args.k c.requires.target kept c.requires.leaf.place_is c.widen.result
+    (c.widen.ensures.ends
+    ∙ ap₂ widen_box (c.add-2.ensures.ends ∙ ap₂ add_box value (c.add.ensures.ends ∙ ap₂ add_box far near))
+    (lost ∙ ap₂ (λ (p : PlaceModel) n. pos (p.radius + sum_by (loss_of_cell g.row.P b) (list_at b.lists.w n))) kept_is leaf))
 
 pub returns-clause-contains : goal.returns-clause-contains
-returns-clause-contains g c cap field rows listed =
-    let points : List Point = c.args.points.now in
-    let p : Point = point_at points c.args.k in
-    subst (λ b. BoxEndsContain (pos (2 ^ 40)) b (direct_sum (place p) points)) (sym (returns-clause-field g c cap field rows))
-    (All-contains (λ t. BoxEndsContain (pos (2 ^ 40)) (target_box points cap g.row.P field 16 (place t)) (direct_sum (place t) points)) (targets points) p
-    (boxes_contain points cap g.row.P c.args.tree.now field (in_grid points c.requires.tree.range) c.requires.order rows.field_is) listed)
+returns-clause-contains g c =
+    let b = c.args.basis.now in
+    let is : IsBasis g.row.P b = subst (IsBasis g.row.P) c.basis.view_is c.basis.invariant in
+    box_contains g.row.P b is c.args.k c.requires.target c.widen.result (returns-clause-value g c)
 
-pub returns-clause-pairs : goal.returns-clause-pairs
-returns-clause-pairs g c =
-    c.value_in.ensures.pairs
-    ∙ ap₂ (λ b p. c.args.work.now.pairs + near_count c.args.tree.now c.args.lists.now c.args.points.now b (place p)) c.leaf_of-b.ensures
-    (get_or_default c.args.points.now c.args.k first_point no_point c.requires.number)
+pub returns-clause-size : goal.returns-clause-size
+returns-clause-size g c =
+    let b = c.args.basis.now in
+    let is : IsBasis g.row.P b = subst (IsBasis g.row.P) c.basis.view_is c.basis.invariant in
+    box_small g.row.P b is c.args.k c.requires.target c.widen.result (returns-clause-value g c)
+
+pub returns-clause-work : goal.returns-clause-work
+returns-clause-work g c =
+    let b = c.args.basis.now in
+    let is : IsBasis g.row.P b = subst (IsBasis g.row.P) c.basis.view_is c.basis.invariant in
+    let found : ℕ = c.index.result.now in
+    let found_is : found ≡ get_or b.targets c.args.k 0 =
+    c.index.ensures ∙ get_or_default c.basis.inside.targets.items c.args.k found 0 (subst (λ (b : BasisModel). c.args.k < length b.targets) (sym c.basis.view_is) c.requires.target) ∙ ap (λ (b : BasisModel). get_or b.targets c.args.k 0) c.basis.view_is in
+    let below : found < length b.points = omega (arith, found_is, (position g.row.P b is c.args.k c.requires.target).inside) in
+    let target_is : c.index-target.result.now ≡ target_of b c.args.k =
+    c.index-target.ensures ∙ get_or_default c.basis.inside.points.items found c.index-target.result.now no_point (subst (λ (b : BasisModel). found < length b.points) (sym c.basis.view_is) below) ∙ ap (λ (b : BasisModel). point_at b.points found) c.basis.view_is ∙ ap (point_at b.points) found_is in
+    let leaf : c.leaf_of-leaf.result ≡ target_leaf b c.args.k = c.leaf_of-leaf.ensures ∙ ap (λ (b : BasisModel). leaf_of b.tree found) c.basis.view_is ∙ ap (leaf_of b.tree) found_is in
+    let in_tree = leaf_below g.row.P b is c.args.k c.requires.target c.leaf_of-leaf.result leaf in
+    c.u_pairs-near.ensures.work ∙ ap₂ (λ (t : Point) n. paired (sum_by (count_of_cell b (place t)) (list_at b.lists.u n)) c.args.work.now) target_is leaf

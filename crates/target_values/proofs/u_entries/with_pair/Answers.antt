@@ -3,8 +3,8 @@ use Rattle.exact_math.specs.Ends.{add_box}
 use Rattle.complex_box.specs.Box.{box_ends}
 use Rattle.complex_box.proofs.Sizes.{add_box_within, box_wider}
 use Rattle.points.specs.Points.{place}
-use Rattle.target_values.proofs.NearSums.{ends_at, pairs_at, sum_of_one, pairs_of_one, weight-most}
-use Rattle.target_values.proofs.near.with_pair.Goals as goal
+use Rattle.target_values.proofs.NearSums.{ends_at, pairs_at, sum_of_one, pair_counted, weight-most}
+use Rattle.target_values.proofs.u_entries.with_pair.Goals as goal
 
 pub add-requires : goal.add-requires
 add-requires c = box_wider _ _ _ (let w = weight-most c.args.p.now c.requires.range in omega arith) (add_box_within _ _ (box_ends c.args.sum) (box_ends c.pair.result) c.requires.size c.pair.ensures.size)
@@ -18,5 +18,5 @@ pub returns-clause-size : goal.returns-clause-size
 returns-clause-size c n h =
     rw c.add.ensures.ends (box_wider _ _ _ (let w = weight-most c.args.p.now c.requires.range in omega arith) (add_box_within n _ (box_ends c.args.sum) (box_ends c.pair.result) h c.pair.ensures.size))
 
-pub returns-clause-pairs : goal.returns-clause-pairs
-returns-clause-pairs c = pairs_of_one (place c.args.target.now) c.args.p.now _ _ (sym c.if-not-is_source.ensures) (pairs_at _ _ c.args.p.now _ c.requires.grid c.pair.ensures.pairs)
+pub returns-clause-work : goal.returns-clause-work
+returns-clause-work c = pair_counted (place c.args.target.now) c.args.p.now c.args.work.now _ (sym c.if-not-is_source.ensures) (pairs_at _ _ c.args.p.now _ c.requires.grid c.pair.ensures.pairs) c.pair.ensures.translations

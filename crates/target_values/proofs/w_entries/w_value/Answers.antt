@@ -1,0 +1,71 @@
+use Rattle.std.proofs.Common.{rules, ◌≡◌, ◌∙◌, ◌*◌, ◌^◌, ◌<◌, ℕ, ap, sym, subst, arith, List, to_z-of_z}
+use Rattle.std.proofs.lemmas.List.{get_or_default}
+use Rattle.exact_math.proofs.Orders.{order_bounds}
+use Rattle.exact_math.specs.Ends.{BoxEnds}
+use Rattle.exact_math.specs.Within.{GaussianBeyond}
+use Rattle.cell_lists.proofs.TreeNumbers.{read_at}
+use Rattle.cell_name.specs.Cell.{square}
+use Rattle.cell_name.specs.Square.{Square, side}
+use Rattle.complex_box.proofs.Sizes.{box_wider}
+use Rattle.complex_box.specs.declared.CBox.{CBox}
+use Rattle.field_basis.specs.Basis.{BasisModel, IsBasis}
+use Rattle.field_sizes.proofs.RowTotals.{wider}
+use Rattle.places.specs.Place.{PlaceModel, no_place, place_at}
+use Rattle.points.specs.Points.{place}
+use Rattle.quadtree.specs.TreeModel.{size, square_of}
+use Rattle.row_recursions.proofs.Points.{grid_fits}
+use Rattle.row_recursions.specs.Cells.{side_of, offset_from}
+use Rattle.row_recursions.specs.Rows.{row_of, multipole_value}
+use Rattle.row_recursions.specs.Sizes.{RowWithin}
+use Rattle.soundness.specs.Squares.{offset}
+use Rattle.tree_field.specs.Field.{multipole_row}
+use Rattle.target_values.proofs.FieldBox.{multipole_small}
+use Rattle.target_values.proofs.SameValues.{multipole_value-same}
+use Rattle.target_values.proofs.w_entries.w_value.Goals as goal
+
+pub at_multipole-requires : goal.at_multipole-requires
+at_multipole-requires g c =
+    let b = c.args.basis.now in
+    let is : IsBasis g.row.P b = subst (IsBasis g.row.P) c.basis.view_is c.basis.invariant in
+    let f = grid_fits c.args.target.now.x c.args.target.now.y c.requires.grid in
+    let x = f.0 in
+    let y = f.1 in
+    let lt : c.args.c < size c.basis.inside.tree = subst (λ (b : BasisModel). c.args.c < size b.tree) (sym c.basis.view_is) c.requires.number in
+    let read : square c.index-cells-c.result ≡ square_of b.tree c.args.c =
+    read_at c.basis.inside.tree c.cells.result.now c.args.c c.index-cells-c.result c.cells.ensures.all lt c.index-cells-c.is ∙ ap (λ (b : BasisModel). square_of b.tree c.args.c) c.basis.view_is in
+    let far = subst (λ s. GaussianBeyond (3 * side s) (offset s (place c.args.target.now))) (sym read) c.requires.far in
+    let here : c.row.result.cells.now ≡ (place_at c.args.up.now c.args.c).row =
+    c.row.ensures ∙ ap (λ (p : PlaceModel). p.row) (c.index-up-c.is ∙ get_or_default c.args.up.now c.args.c c.index-up-c.result no_place c.requires.few) in
+    let small = subst (λ (cells : List CBox). RowWithin g.row.P (2 ^ 80) (row_of cells)) (sym here)
+    (wider g.row.P (2 ^ 74) (2 ^ 80) _ (omega arith) (multipole_small g.row.P b is c.args.c c.requires.number (place_at c.args.up.now c.args.c) c.requires.row)) in
+    simp to_z-of_z (search rules, (is.order, (c.requires.grid, (far, small))))
+
+pub returns-clause-ends : goal.returns-clause-ends
+returns-clause-ends g c =
+    let b = c.args.basis.now in
+    let is : IsBasis g.row.P b = subst (IsBasis g.row.P) c.basis.view_is c.basis.invariant in
+    let f = grid_fits c.args.target.now.x c.args.target.now.y c.requires.grid in
+    let x = f.0 in
+    let y = f.1 in
+    let lt : c.args.c < size c.basis.inside.tree = subst (λ (b : BasisModel). c.args.c < size b.tree) (sym c.basis.view_is) c.requires.number in
+    let read : square c.index-cells-c.result ≡ square_of b.tree c.args.c =
+    read_at c.basis.inside.tree c.cells.result.now c.args.c c.index-cells-c.result c.cells.ensures.all lt c.index-cells-c.is ∙ ap (λ (b : BasisModel). square_of b.tree c.args.c) c.basis.view_is in
+    let here : c.row.result.cells.now ≡ (place_at c.args.up.now c.args.c).row =
+    c.row.ensures ∙ ap (λ (p : PlaceModel). p.row) (c.index-up-c.is ∙ get_or_default c.args.up.now c.args.c c.index-up-c.result no_place c.requires.few) in
+    let e = simp to_z-of_z at c.at_multipole.ensures.ends in
+    let m : ℕ → BoxEnds = multipole_row b.points b.cap (square_of b.tree c.args.c) in
+    let s : ℕ = side_of c.index-cells-c.result in
+    let z = offset_from c.index-cells-c.result (place c.args.target.now) in
+    e ∙ ap (λ (cells : List CBox). multipole_value g.row.P (row_of cells) s z) here
+    ∙ multipole_value-same g.row.P (row_of (place_at c.args.up.now c.args.c).row) m s z (c.requires.row.row_is b.cap is.is_tree)
+    ∙ ap (λ (q : Square). multipole_value g.row.P m (side q) (offset q (place c.args.target.now))) read
+
+pub returns-clause-size : goal.returns-clause-size
+returns-clause-size g c =
+    let b = c.args.basis.now in
+    let is : IsBasis g.row.P b = subst (IsBasis g.row.P) c.basis.view_is c.basis.invariant in
+    let here : c.row.result.cells.now ≡ (place_at c.args.up.now c.args.c).row =
+    c.row.ensures ∙ ap (λ (p : PlaceModel). p.row) (c.index-up-c.is ∙ get_or_default c.args.up.now c.args.c c.index-up-c.result no_place c.requires.few) in
+    let small = subst (λ (cells : List CBox). RowWithin g.row.P (2 ^ 74) (row_of cells)) (sym here) (multipole_small g.row.P b is c.args.c c.requires.number (place_at c.args.up.now c.args.c) c.requires.row) in
+    let orders = order_bounds g.row.P is.order in
+    box_wider (g.row.P * 2 ^ 74) (2 ^ 80) _ (omega (arith, orders)) (c.at_multipole.ensures.size (2 ^ 74) small)
