@@ -24,7 +24,7 @@ use Rattle.quadtree.specs.Members.{holds_position, holds_point, members_of}
 use Rattle.quadtree.specs.TreeModel.{TreeModel, size, square_of, node_of}
 use Rattle.row_recursions.proofs.Geometry.{pairs_of_cells, far_places}
 use Rattle.quadtree.proofs.Lists.{range_below}
-use Rattle.downward_rows.specs.Entries.{IsPairAt, IsFarPosition, IsFarCell, HasFarEntries}
+use Rattle.downward_rows.specs.Entries.{IsVEntryAt, IsFarPosition, IsFarCell, HasFarEntries}
 use Rattle.field_basis.specs.Targets.{no_point, point_at}
 use Rattle.field_basis.specs.Trees.{IsTreeWithLists}
 
@@ -43,8 +43,8 @@ module _ (tree : TreeModel) (lists : EntryListsModel) (points : List Point) (has
       let is = the_list letter in
       (is.exact (get_or (list_at (lists_of lists letter) n) k d) (is.numbers k d h)).0 (Contains-get_or (list_at (lists_of lists letter) n) k d h)
 
-  pair_at : (c : ℕ) → c < size tree → IsVPair 16 points has.tree_is.cap (square_of tree n) (square_of tree c) → IsPairAt tree n c
-  pair_at c h e = record {
+  v_entry_at : (c : ℕ) → c < size tree → IsVPair 16 points has.tree_is.cap (square_of tree n) (square_of tree c) → IsVEntryAt tree n c
+  v_entry_at c h e = record {
     in_range = h;
     distance = (pairs_of_cells (square_of tree n) (square_of tree c) (grid_is n lt ∙ sym (grid_is c h)) e.come_apart.same_level e.come_apart.apart e.come_apart.parents_touch).kernel;
   }
@@ -80,10 +80,8 @@ module _ (tree : TreeModel) (lists : EntryListsModel) (points : List Point) (has
 
   pub far_entries : HasFarEntries tree lists points n
   far_entries = record {
-    has_pairs = omega (arith, lt, has.lists_are.as_many V);
-    pairs = λ k d h. pair_at (get_or (list_at lists.v n) k d) ((the_list V).numbers k d h) (entry_at V k d h).pair;
+    v_entries = λ k d h. v_entry_at (get_or (list_at lists.v n) k d) ((the_list V).numbers k d h) (entry_at V k d h).pair;
     short = has.short n [] (omega (arith, lt, has.lists_are.as_many V));
-    has_far = omega (arith, lt, has.lists_are.as_many X);
     far = λ k d h. far_cell (get_or (list_at lists.x n) k d) ((the_list X).numbers k d h) (entry_at X k d h).pair;
     few = let le = length-le_from_below (size tree) (list_at lists.x n) (sorted_from_strictly_increasing (list_at lists.x n) (the_list X).ascending) (the_list X).numbers in omega (arith, le, has.tree_is.is_tree.few);
   }

@@ -1,5 +1,5 @@
 -- The lists of a basis by numbers.
-use Rattle.std.proofs.Common.{ℕ, ◌<◌, ◌≤◌, ◌≡◌, List, length, get_or, sym, subst, ap, ◌∙◌, arith, map}
+use Rattle.std.proofs.Common.{ℕ, ◌<◌, ◌≤◌, ◌≡◌, List, length, get_or, sym, subst, ap, arith, map}
 use Rattle.std.specs.Prelude.{All}
 use Rattle.std.proofs.lemmas.Map.Keys.{sorted_from_strictly_increasing}
 use Rattle.std.proofs.lemmas.Map.Views.{length-le_from_below}

@@ -1,6 +1,6 @@
 -- What entries can lose, one more at a time, and that it stays small.
 use Rattle.std.specs.Int.{div_ceil}
-use Rattle.std.proofs.Common.{ℕ, ◌+◌, ◌*◌, ◌^◌, ◌<◌, ◌≤◌, ◌≡◌, List, length, get_or, take, ap, ap₂, sym, subst, ◌∙◌, arith, ℤ, pos, ◌+ℤ◌, SFits, w64, to_z, of_z}
+use Rattle.std.proofs.Common.{ℕ, ◌+◌, ◌*◌, ◌^◌, ◌<◌, ◌≤◌, ◌≡◌, List, length, get_or, take, ap, ap₂, ◌∙◌, arith, ℤ, pos, SFits, w64, to_z, of_z}
 use Rattle.std.specs.Prelude.{sum_by, unsigned_abs, ◌≤ℤ◌, slice_index_or}
 use Rattle.std.proofs.Math.Nat.{mul-le-mul_right}
 use Rattle.std.proofs.Math.Seq.{take-length}

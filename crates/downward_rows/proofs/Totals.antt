@@ -3,7 +3,6 @@ use Rattle.std.proofs.Common.{ℕ, ◌+◌, ◌<◌, ◌≡◌, List, length, ge
 use Rattle.std.proofs.lemmas.Int.{ints}
 use Rattle.std.proofs.lemmas.List.Sums.{fold_more}
 use Rattle.exact_math.specs.Ends.{BoxEnds, zero_box, add_box}
-use Rattle.complex_box.proofs.Sizes.{box_wider}
 use Rattle.complex_box.proofs.ZeroBoxes.{zero_right}
 use Rattle.row_recursions.specs.Rows.{RowsAdd}
 use Rattle.soundness.specs.Computed.{total_row}

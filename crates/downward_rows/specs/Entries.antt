@@ -18,7 +18,7 @@ use Rattle.field_basis.specs.Basis.{BasisModel}
 use Rattle.field_basis.specs.Targets.{point_at}
 
 -- the centre of cell b is a distance of the kernel from that of cell c
-pub record IsPairAt (tree : TreeModel) (b c : ℕ) : Type 0 where
+pub record IsVEntryAt (tree : TreeModel) (b c : ℕ) : Type 0 where
   pub in_range : c < size tree
   pub distance : IsKernelDistance (sides_between (square_of tree b) (square_of tree c))
 
@@ -36,10 +36,8 @@ pub record IsFarCell (tree : TreeModel) (points : List Point) (b : Square) (c : 
 
 -- the V and X entries of cell n: short lists, the V cells a distance of the kernel away and the points of the X cells far from it
 pub record HasFarEntries (tree : TreeModel) (lists : EntryListsModel) (points : List Point) (n : ℕ) : Type 0 where
-  pub has_pairs : n < length lists.v
-  pub pairs : All (IsPairAt tree n) (list_at lists.v n)
+  pub v_entries : All (IsVEntryAt tree n) (list_at lists.v n)
   pub short : length (list_at lists.v n) ≤ 27
-  pub has_far : n < length lists.x
   pub far : All (IsFarCell tree points (square_of tree n)) (list_at lists.x n)
   pub few : length (list_at lists.x n) ≤ 2 ^ 16
 

@@ -10,7 +10,7 @@ ghost use Rattle.row_recursions.specs.Sizes.{RowWithin};
 ghost use Rattle.places.specs.Place.{place_at};
 ghost use Rattle.field_basis.specs.Counts.{translated};
 ghost use Rattle.field_basis.specs.FieldPlaces.{AreMultipolePlaces, IsMultipolePlace};
-ghost use Rattle.downward_rows.specs.Entries.{IsPairAt, v_entry, v_rows};
+ghost use Rattle.downward_rows.specs.Entries.{IsVEntryAt, v_entry, v_rows};
 
 use cell_name::Cell;
 use complex_box::{CBox, Gauss, Work};
@@ -38,7 +38,7 @@ fn add_v_entry<const P: usize>(
     work: &mut Work,
 )
     requires cell { b < size basis.now.tree }
-    requires entry { IsPairAt basis.now.tree b c }
+    requires entry { IsVEntryAt basis.now.tree b c }
     requires row { (c < length up.now) × IsMultipolePlace P basis.now.points basis.now.tree c (place_at up.now c) }
     requires len { length into.old ≡ P }
     requires sum { RowWithin P (2 ^ 110) (row_of into.old) }

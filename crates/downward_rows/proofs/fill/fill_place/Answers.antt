@@ -1,4 +1,4 @@
-use Rattle.std.proofs.Common.{◌≡◌, ◌<◌, subst, arith, lit<}
+use Rattle.std.proofs.Common.{subst, arith, lit<}
 use Rattle.exact_math.proofs.Orders.{order_bounds}
 use Rattle.field_basis.specs.Basis.{IsBasis}
 use Rattle.downward_rows.proofs.MadePlaces.{parent_above}

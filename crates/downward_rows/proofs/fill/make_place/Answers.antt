@@ -1,4 +1,4 @@
-use Rattle.std.proofs.Common.{ℕ, ◌≡◌, ◌+◌, ◌^◌, ◌<◌, inl, inr, ◌⊎◌, false, ap, ◌∙◌, subst, sym, arith, lit<}
+use Rattle.std.proofs.Common.{◌≡◌, ◌+◌, ◌<◌, inl, inr, ◌⊎◌, false, ap, ◌∙◌, subst, sym, arith, lit<}
 use Rattle.std.proofs.lemmas.Int.{ints}
 use Rattle.exact_math.proofs.Orders.{order_bounds}
 use Rattle.local_shift.proofs.Sums.{nothing_at}

@@ -1,4 +1,4 @@
-use Rattle.std.proofs.Common.{◌≡◌, ◌+◌, ◌*◌, ◌^◌, ap, ap₂, ◌∙◌, subst, arith, lit<}
+use Rattle.std.proofs.Common.{◌+◌, ◌^◌, ap, ◌∙◌, subst, arith, lit<}
 use Rattle.exact_math.proofs.Orders.{order_bounds}
 use Rattle.exact_math.specs.Ends.{add_box}
 use Rattle.cell_name.proofs.Quarters.{right_of_parent, top_of_parent}
@@ -7,7 +7,6 @@ use Rattle.cell_lists.proofs.CellNumbers.{level_positive}
 use Rattle.cell_lists.proofs.TreeNumbers.{read_at}
 use Rattle.field_sizes.proofs.RowTotals.{wider}
 use Rattle.local_shift.proofs.Sums.{nothing_at}
-use Rattle.quadtree.specs.TreeModel.{square_of}
 use Rattle.row_recursions.specs.Cells.{quadrant_of}
 use Rattle.row_recursions.specs.Rows.{row_of, shifted_down}
 use Rattle.soundness.specs.Squares.{quadrant}

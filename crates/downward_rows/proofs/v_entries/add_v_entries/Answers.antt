@@ -1,4 +1,4 @@
-use Rattle.std.proofs.Common.{ℕ, ◌≡◌, ◌+◌, ◌*◌, ◌^◌, ◌<◌, ◌≤◌, List, length, get_or, take, ap, ◌∙◌, subst, sym, arith, lit<}
+use Rattle.std.proofs.Common.{ℕ, ◌≡◌, ◌+◌, ◌*◌, ◌^◌, ◌<◌, List, length, take, ap, ◌∙◌, subst, sym, arith, lit<}
 use Rattle.std.specs.Prelude.{All}
 use Rattle.std.proofs.Math.Seq.{take-length}
 use Rattle.exact_math.specs.Ends.{add_box}
@@ -6,13 +6,12 @@ use Rattle.exact_math.proofs.Orders.{order_bounds}
 use Rattle.cell_lists.specs.ListAt.{list_at}
 use Rattle.field_sizes.proofs.RowTotals.{wider}
 use Rattle.letters.specs.declared.Letter.TheVariants.{V}
-use Rattle.places.specs.Place.{place_at}
 use Rattle.row_recursions.specs.Rows.{row_of}
 use Rattle.soundness.specs.Computed.{total_row}
 use Rattle.field_basis.specs.Basis.{IsBasis}
 use Rattle.field_basis.specs.Counts.{translated}
 use Rattle.field_basis.specs.FieldPlaces.{AreMultipolePlaces}
-use Rattle.downward_rows.specs.Entries.{IsPairAt, v_entry}
+use Rattle.downward_rows.specs.Entries.{IsVEntryAt, v_entry}
 use Rattle.downward_rows.proofs.Counts.{none_translated, more_translated}
 use Rattle.downward_rows.proofs.EntryPlaces.{far_entries}
 use Rattle.downward_rows.proofs.Lists.{listed}
@@ -39,7 +38,7 @@ add_v_entry-requires g c =
     let s : IsBasis g.row.P b = subst (IsBasis g.row.P) c.basis.view_is c.basis.invariant in
     let same = c.v_list-c-items.ensures ∙ ap (λ b. list_at b.lists.v c.args.n) c.basis.view_is in
     let entries = far_entries b.tree b.lists b.points s.tree_is c.args.n c.requires.cell in
-    let Q : List ℕ → Type 0 = λ l. All (IsPairAt b.tree c.args.n) l in
+    let Q : List ℕ → Type 0 = λ l. All (IsVEntryAt b.tree c.args.n) l in
     let R : List ℕ → Type 0 = λ l. AreMultipolePlaces g.row.P b.points b.tree c.args.up.now l in
     let small : c.loop-c.c-index < 27 = omega (arith, entries.short, ap (λ l. length l) same, c.loop-c-test.true) in
     let few = order_bounds g.row.P s.order in (
@@ -49,7 +48,7 @@ add_v_entry-requires g c =
         (
           c.requires.cell,
           (
-            subst Q (sym same) entries.pairs c.loop-c.c-index 0 c.loop-c-test.true,
+            subst Q (sym same) entries.v_entries c.loop-c.c-index 0 c.loop-c-test.true,
             (
               subst R (sym same) c.requires.rows c.loop-c.c-index 0 c.loop-c-test.true,
               (

@@ -1,4 +1,4 @@
-use Rattle.std.proofs.Common.{◌≡◌, ◌*◌, ◌^◌, ap, ◌∙◌, subst, sym, lit<}
+use Rattle.std.proofs.Common.{◌≡◌, ◌^◌, ap, ◌∙◌, subst, sym, lit<}
 use Rattle.exact_math.specs.Ends.{add_box}
 use Rattle.complex_box.specs.Box.{number}
 use Rattle.kernel_table.specs.Kernel.{IsKernelDistance}

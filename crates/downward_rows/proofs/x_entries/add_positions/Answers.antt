@@ -1,4 +1,4 @@
-use Rattle.std.proofs.Common.{◌≡◌, ◌+◌, ◌*◌, ◌^◌, arith}
+use Rattle.std.proofs.Common.{◌+◌, ◌*◌, ◌^◌, arith}
 use Rattle.cell_name.specs.Cell.{square}
 use Rattle.field_sizes.proofs.RowTotals.{wider}
 use Rattle.row_recursions.specs.Rows.{row_of}

@@ -1,4 +1,4 @@
-use Rattle.std.proofs.Common.{ℕ, ◌≡◌, ◌+◌, ◌*◌, ◌^◌, ◌<◌, List, length, get_or, take, ap, ◌∙◌, subst, sym, arith}
+use Rattle.std.proofs.Common.{ℕ, ◌≡◌, ◌+◌, ◌*◌, ◌^◌, List, length, get_or, take, ap, ◌∙◌, subst, sym, arith}
 use Rattle.std.specs.Prelude.{All}
 use Rattle.std.proofs.Math.Seq.{take-length}
 use Rattle.exact_math.specs.Ends.{add_box}
