@@ -7,7 +7,7 @@ use Rattle.exact_math.specs.Ends.{BoxEnds, BoxEndsContain, BoxEndsWithin}
 use Rattle.exact_math.specs.Units.{unit}
 use Rattle.exact_math.proofs.Orders.{order_bounds}
 use Rattle.complex_box.specs.Box.{box_ends, BoxContains, BoxWithin}
-use Rattle.complex_box.specs.Rows.{at, zero_cbox}
+use Rattle.complex_box.specs.Rows.{zero_cbox}
 use Rattle.complex_box.specs.declared.CBox.{CBox}
 use Rattle.field_basis.proofs.Positions.{targets_at}
 use Rattle.field_basis.specs.Basis.{BasisModel, IsBasis, target_of, target_place}
@@ -23,7 +23,7 @@ use Rattle.quadtree.proofs.Lists.{Contains-into_map}
 use Rattle.quadtree.specs.Tree.{AreInGrid}
 use Rattle.tree_field.proofs.EachList.{each_list_has_tree}
 use Rattle.tree_field.proofs.Whole.{field_contains}
-use Rattle.tree_field.specs.Field.{targets, target_box, target_boxes}
+use Rattle.tree_field.specs.Field.{targets, target_box}
 use Rattle.tree_field.specs.Lists.{TreeLists, AreTreeLists}
 use Rattle.row_board.specs.Board.{IsBoard}
 use Rattle.row_board.specs.Names.{is_filled}
