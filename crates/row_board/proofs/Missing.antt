@@ -7,8 +7,7 @@ use Rattle.std.proofs.lemmas.List.Elements.{All-cons, All-map}
 use Rattle.letters.specs.declared.Letter.{Letter}
 use Rattle.cell_lists.specs.EntryLists.{lists_of}
 use Rattle.cell_lists.specs.ListAt.{list_at}
-use Rattle.field_basis.specs.Basis.{BasisModel, IsBasis, target_leaf}
-use Rattle.field_basis.proofs.Positions.{IsTargetPosition, leaf_in_tree, position_at}
+use Rattle.field_basis.specs.Basis.{BasisModel, IsBasis}
 use Rattle.quadtree.proofs.Limits.{in_grid}
 use Rattle.quadtree.specs.TreeModel.{size, node_of}
 use Rattle.row_board.specs.Names.{is_filled, needs, AreFilled, IsFirstMissing}
@@ -55,13 +54,6 @@ module _ (P : ℕ) (b : BasisModel) (is : IsBasis P b) where
   pub numbers : (letter : Letter) (n : ℕ) → n < size b.tree → All (λ c. c < size b.tree) (list_at (lists_of b.lists letter) n)
   numbers letter n lt = (is.tree_is.lists_are.each b.points b.cap (in_grid b.points is.tree_is.tree_is.range) is.is_tree letter n lt).numbers
 
-  -- the position of the target of a number, and its leaf
-  pub target_at : (k : ℕ) → k < length b.targets → IsTargetPosition b.points (get_or b.targets k 0)
-  target_at k lt = position_at b.points b.targets is.targets_are k lt
-
   -- a position that was read
   pub target_read : (k target : ℕ) → k < length b.targets → target ≡ get_or b.targets k target → get_or b.targets k 0 ≡ target
   target_read k target lt e = get_or_default b.targets k 0 target lt ∙ sym e
-
-  pub leaf_below : (k : ℕ) → k < length b.targets → target_leaf b k < size b.tree
-  leaf_below k lt = leaf_in_tree b.points b.cap b.tree is.is_tree b.targets is.targets_are k lt (target_leaf b k) refl

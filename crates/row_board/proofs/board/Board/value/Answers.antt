@@ -5,10 +5,11 @@ use Rattle.complex_box.specs.Box.{BoxContains}
 use Rattle.complex_box.specs.declared.CBox.{CBox}
 use Rattle.field_basis.specs.Basis.{target_place}
 use Rattle.near_field.specs.DirectSum.{direct_sum}
+use Rattle.target_values.proofs.FieldBox.{box_contains, box_small}
 use Rattle.row_board.specs.Board.{IsOfField}
 use Rattle.row_board.specs.Parts.{BoardParts}
 use Rattle.row_board.specs.declared.name.Name.TheVariants.{Value}
-use Rattle.row_board.proofs.Values.{value_mark, value_read, box_contains, box_small}
+use Rattle.row_board.proofs.Values.{value_mark, value_read}
 use Rattle.row_board.proofs.board.Board.value.Goals as goal
 
 pub returns-then-index-clause-field : goal.returns-then-index-clause-field
@@ -23,7 +24,7 @@ returns-then-index-clause-contains g c =
     let value : CBox = c.index-then-index.result.now in
     let lt = subst (λ (b : BoardParts). k < length b.basis.targets) (sym c.self.view_is) c.requires in
     let box = value_read g.row.P _ c.self.invariant k c.index.result.now value lt c.index.ensures c.if-index.true c.index-then-index.ensures in
-    subst (λ (b : BoardParts). BoxContains unit value (direct_sum (target_place b.basis k) b.basis.points)) c.self.view_is (box_contains g.row.P _ c.self.invariant.basis_is k value lt box)
+    subst (λ (b : BoardParts). BoxContains unit value (direct_sum (target_place b.basis k) b.basis.points)) c.self.view_is (box_contains g.row.P _ c.self.invariant.basis_is k lt value box)
 
 pub returns-then-index-clause-size : goal.returns-then-index-clause-size
 returns-then-index-clause-size g c =
@@ -31,4 +32,4 @@ returns-then-index-clause-size g c =
     let value : CBox = c.index-then-index.result.now in
     let lt = subst (λ (b : BoardParts). k < length b.basis.targets) (sym c.self.view_is) c.requires in
     let box = value_read g.row.P _ c.self.invariant k c.index.result.now value lt c.index.ensures c.if-index.true c.index-then-index.ensures in
-    box_small g.row.P _ c.self.invariant.basis_is k value lt box
+    box_small g.row.P _ c.self.invariant.basis_is k lt value box
