@@ -2,7 +2,6 @@
 pub mod Children
 pub mod Empty
 pub mod Fills
-pub mod Made
 pub mod Missing
-pub mod Sizes
+pub mod Needed
 pub mod Values

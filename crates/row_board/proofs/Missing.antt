@@ -3,21 +3,18 @@ use Rattle.std.proofs.Common.{ℕ, ◌≡◌, ◌<◌, List, [], ◌∷◌, leng
 use Rattle.std.specs.Prelude.{All}
 use Rattle.std.proofs.lemmas.Bool.{ne_eqb}
 use Rattle.std.proofs.lemmas.List.{get_or_default, map-append}
-use Rattle.std.proofs.lemmas.List.Elements.{All-cons, All-contains, All-map}
+use Rattle.std.proofs.lemmas.List.Elements.{All-cons, All-map}
 use Rattle.letters.specs.declared.Letter.{Letter}
 use Rattle.cell_lists.specs.EntryLists.{lists_of}
 use Rattle.cell_lists.specs.ListAt.{list_at}
+use Rattle.field_basis.specs.Basis.{BasisModel, IsBasis}
+use Rattle.quadtree.proofs.Limits.{in_grid}
 use Rattle.quadtree.specs.TreeModel.{size, node_of}
-use Rattle.target_values.proofs.Positions.{IsTargetPosition, leaf_in_tree, position_at}
-use Rattle.quadtree.proofs.Lists.{Contains-into_map}
-use Rattle.tree_rows.specs.FieldRows.{AreMultipoleRowsOf}
-use Rattle.row_board.specs.Board.{IsBoard}
-use Rattle.row_board.specs.Names.{is_filled, needs, target_leaf, AreFilled, IsFirstMissing}
+use Rattle.row_board.specs.Names.{is_filled, needs, AreFilled, IsFirstMissing}
 use Rattle.row_board.specs.Parts.{BoardParts}
 use Rattle.row_board.specs.Search.{AreMarked, IsFirstUnmarked}
 use Rattle.row_board.specs.declared.name.Name.{Name}
 use Rattle.row_board.specs.declared.name.Name.TheVariants.{Up, Local}
-use Rattle.row_board.proofs.Sizes.{inside}
 
 module _ (b : BoardParts) where
   pub up_filled : (cells : List ℕ) → AreMarked b.has_up cells → AreFilled b (map Up cells)
@@ -36,32 +33,27 @@ module _ (b : BoardParts) where
   all_filled x names t h = All-cons (λ name. is_filled b name ≡ true) x names t h
 
   -- a mark that was read
-  pub local_mark : (inside : BoardParts) (n : ℕ) (mark : Bool) → inside ≡ b → length inside.has_local ≡ size inside.tree → n < size b.tree → mark ≡ get_or inside.has_local n mark → is_filled b (Local n) ≡ mark
+  pub local_mark : (inside : BoardParts) (n : ℕ) (mark : Bool) → inside ≡ b → length inside.has_local ≡ size inside.basis.tree → n < size b.basis.tree → mark ≡ get_or inside.has_local n mark → is_filled b (Local n) ≡ mark
   local_mark inside n mark view len lt e =
-      let trees = ap (λ (v : BoardParts). size v.tree) view in
+      let trees = ap (λ (v : BoardParts). size v.basis.tree) view in
       ap (λ (v : BoardParts). get_or v.has_local n false) (sym view) ∙ get_or_default inside.has_local n false mark (omega (arith, trees, len, lt)) ∙ sym e
 
   -- a cell below the root
-  pub needs_below : (n : ℕ) → (n ≡ 0 → ⊥) → needs b (Local n) ≡ Local (node_of b.tree n).parent ∷ map Up (list_at b.lists.v n)
-  needs_below n ne = ap (λ t. cond t [] (Local (node_of b.tree n).parent ∷ map Up (list_at b.lists.v n))) (ne_eqb n 0 ne)
+  pub needs_below : (n : ℕ) → (n ≡ 0 → ⊥) → needs b (Local n) ≡ Local (node_of b.basis.tree n).parent ∷ map Up (list_at b.basis.lists.v n)
+  needs_below n ne = ap (λ t. cond t [] (Local (node_of b.basis.tree n).parent ∷ map Up (list_at b.basis.lists.v n))) (ne_eqb n 0 ne)
 
-module _ (P : ℕ) (b : BoardParts) (is : IsBoard P b) where
+-- the basis of a board that is seen otherwise
+pub same_basis : (basis : BasisModel) (inside now : BoardParts) → basis ≡ inside.basis → inside ≡ now → basis ≡ now.basis
+same_basis basis inside now here view = here ∙ ap (λ (b : BoardParts). b.basis) view
+
+-- lists and targets of a basis
+module _ (P : ℕ) (b : BasisModel) (is : IsBasis P b) where
   pub listed : (letter : Letter) (n : ℕ) → n < size b.tree → n < length (lists_of b.lists letter)
   listed letter n lt = omega (arith, is.tree_is.lists_are.as_many letter)
 
   pub numbers : (letter : Letter) (n : ℕ) → n < size b.tree → All (λ c. c < size b.tree) (list_at (lists_of b.lists letter) n)
-  numbers letter n lt = (is.tree_is.lists_are.each b.points b.cap (inside P b is) is.is_tree letter n lt).numbers
-
-  pub rows_of_filled : (cells : List ℕ) → AreFilled b (map Up cells) → AreMultipoleRowsOf b.points b.cap P b.tree b.up cells
-  rows_of_filled cells h = record { each = λ n m. is.filled (Up n) (All-contains (λ name. is_filled b name ≡ true) (map Up cells) (Up n) h (Contains-into_map Up cells n m)) }
-
-  -- the target of a number, and its leaf
-  pub target_at : (k : ℕ) → k < length b.targets → IsTargetPosition b.points (get_or b.targets k 0)
-  target_at k lt = position_at b.points b.targets is.targets_are k lt
+  numbers letter n lt = (is.tree_is.lists_are.each b.points b.cap (in_grid b.points is.tree_is.tree_is.range) is.is_tree letter n lt).numbers
 
   -- a position that was read
   pub target_read : (k target : ℕ) → k < length b.targets → target ≡ get_or b.targets k target → get_or b.targets k 0 ≡ target
   target_read k target lt e = get_or_default b.targets k 0 target lt ∙ sym e
-
-  pub leaf_below : (k : ℕ) → k < length b.targets → target_leaf b k < size b.tree
-  leaf_below k lt = leaf_in_tree b.points b.cap b.tree is.is_tree b.targets is.targets_are k lt (target_leaf b k) refl

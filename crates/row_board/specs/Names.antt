@@ -1,5 +1,5 @@
 -- The names of the places of a board, and what each needs.
-use Rattle.std.specs.Prelude.{ℕ, ◌<◌, ◌≡◌, Bool, true, false, cond, ◌==◌, List, [], ◌∷◌, ◌++◌, length, map, All, slice_index_or}
+use Rattle.std.specs.Prelude.{◌<◌, ◌≡◌, Bool, true, false, cond, ◌==◌, List, [], ◌∷◌, ◌++◌, length, map, All, slice_index_or}
 use Rattle.cell_lists.specs.ListAt.{list_at}
 use Rattle.field_basis.specs.Basis.{target_leaf}
 use Rattle.quadtree.specs.TreeModel.{size, node_of}

@@ -1,5 +1,5 @@
 //! The board.
-ghost use Rattle.std.specs.Prelude.{◌≡◌, ◌^◌, ◌<◌, true, false, IsTrue, ◌↔◌, MatchOption, IfSome};
+ghost use Rattle.std.specs.Prelude.{◌≡◌, ◌^◌, true, false, IsTrue, ◌↔◌, MatchOption, IfSome};
 ghost use Rattle.exact_math.specs.Units.{unit};
 ghost use Rattle.complex_box.specs.Box.{BoxWithin, BoxContains};
 ghost use Rattle.complex_box.specs.Rows.{at};

@@ -1,5 +1,5 @@
 //! Filling a board.
-ghost use Rattle.std.specs.Prelude.{◌≡◌, ◌+◌, ◌^◌, ◌<◌, ◌≤◌, true, false, length, ◌∷◌, map, All, MatchOption, MatchResult, IfErr, IsOk, OnOk};
+ghost use Rattle.std.specs.Prelude.{◌≡◌, ◌^◌, ◌<◌, true, false, length, ◌∷◌, map, All, MatchOption, MatchResult, IfErr, IsOk, OnOk};
 ghost use Rattle.field_basis.specs.Counts.{paired, pairs_of_target, shifts_into, translated, translations_into};
 ghost use Rattle.quadtree.specs.TreeModel.{size};
 ghost use Rattle.row_board.specs.Board.{IsBoard, IsOfField, OthersStay, worked};
@@ -32,7 +32,8 @@ impl<const P: usize> Board<P> {
         requires { n < size self.now.basis.tree }
         ensures { MatchOption result (AreFilled self.now (needs self.now (Name.Up n))) (IsFirstMissing self.now (needs self.now (Name.Up n))) }
     {
-        match first_unmarked_quarter(&self.basis.tree, &self.has_up, n) {
+        let basis = &self.basis;
+        match first_unmarked_quarter(&basis.tree, &self.has_up, n) {
             Some(m) => Some(Name::Up(m)),
             None => None,
         }
@@ -46,7 +47,8 @@ impl<const P: usize> Board<P> {
         if n == 0 {
             return None;
         }
-        self.first_missing(self.basis.tree.parent(n), self.basis.lists.v_list(n))
+        let basis = &self.basis;
+        self.first_missing(basis.tree.parent(n), basis.lists.v_list(n))
     }
 
     /// The first row that the box of the k-th target needs and that is missing.
@@ -54,8 +56,9 @@ impl<const P: usize> Board<P> {
         requires { k < length self.now.basis.targets }
         ensures { MatchOption result (AreFilled self.now (needs self.now (Name.Value k))) (IsFirstMissing self.now (needs self.now (Name.Value k))) }
     {
-        let leaf = self.basis.tree.leaf_of(self.basis.targets[k] as usize);
-        self.first_missing(leaf, self.basis.lists.w_list(leaf))
+        let basis = &self.basis;
+        let leaf = basis.tree.leaf_of(basis.targets[k] as usize);
+        self.first_missing(leaf, basis.lists.w_list(leaf))
     }
 
     /// The first row that is needed and missing.
@@ -81,13 +84,8 @@ impl<const P: usize> Board<P> {
         ensures others { OthersStay P (Name.Up n) self.old self.new }
         ensures work { work.new ≡ translated (shifts_into self.old.basis.points self.old.basis.tree n) work.old }
     {
-        upward_rows::fill_place(
-            &self.basis.tree,
-            &self.basis.points,
-            n,
-            &mut self.up,
-            work,
-        );
+        let basis = &self.basis;
+        upward_rows::fill_place(&basis.tree, &basis.points, n, &mut self.up, work);
         self.has_up[n] = true;
     }
 

@@ -1,6 +1,7 @@
 //! Making a board.
 ghost use Rattle.std.specs.Prelude.{◌≡◌, ◌≤◌, false, length, All, IfOk, IfErr, OnOk};
 ghost use Rattle.exact_math.specs.Orders.{IsCapacity, IsOrder};
+ghost use Rattle.complex_box.specs.Rows.{IsZero};
 ghost use Rattle.points.specs.Limits.{InRange, WithinLimits, most_points, most_weight, total_weight};
 ghost use Rattle.quadtree.specs.Faults.{most_cells, HasMoreCells, IsFaultOf, NoneIsCrowded};
 ghost use Rattle.quadtree.specs.TreeModel.{IsTreeOf};
@@ -15,6 +16,31 @@ use places::Place;
 use points::{Point, Points};
 use quadtree::{Tree, TreeFault};
 use std::alloc::{AllocError, Global};
+
+/// So many places with rows of zeros and the radius 0.
+fn zero_places<const P: usize>(alloc: Global, count: usize) -> Result<Vec<Place<P>>, AllocError>
+    ensures len { IfOk result (λ v. length v.items ≡ count) }
+    ensures rows { IfOk result (λ v. All (λ place. All IsZero place.row) v.items) }
+    ensures radii { IfOk result (λ v. All (λ place. place.radius ≡ 0) v.items) }
+{
+    vec![in alloc; Place::zero(); count]
+}
+
+/// So many zero boxes.
+fn zero_boxes(alloc: Global, count: usize) -> Result<Vec<CBox>, AllocError>
+    ensures len { IfOk result (λ v. length v.items ≡ count) }
+    ensures zero { IfOk result (λ v. All IsZero v.items) }
+{
+    vec![in alloc; CBox::zero(); count]
+}
+
+/// So many marks, none of them set.
+fn no_marks(alloc: Global, count: usize) -> Result<Vec<bool>, AllocError>
+    ensures len { IfOk result (λ v. length v.items ≡ count) }
+    ensures unset { IfOk result (λ v. All (λ mark. mark ≡ false) v.items) }
+{
+    vec![in alloc; false; count]
+}
 
 impl<const P: usize> Board<P> {
     /// The board of a list of points with a leaf capacity, with no place filled.
@@ -53,14 +79,20 @@ impl<const P: usize> Board<P> {
         let basis = Basis::<P>::over(alloc, points, cap, tree)?;
         let cells = basis.tree.cells().len();
         let targets = basis.targets.len();
+        let up = zero_places(alloc, cells)?;
+        let local = zero_places(alloc, cells)?;
+        let values = zero_boxes(alloc, targets)?;
+        let has_up = no_marks(alloc, cells)?;
+        let has_local = no_marks(alloc, cells)?;
+        let has_value = no_marks(alloc, targets)?;
         Ok(Board {
             basis,
-            up: vec![in alloc; Place::zero(); cells]?,
-            local: vec![in alloc; Place::zero(); cells]?,
-            values: vec![in alloc; CBox::zero(); targets]?,
-            has_up: vec![in alloc; false; cells]?,
-            has_local: vec![in alloc; false; cells]?,
-            has_value: vec![in alloc; false; targets]?,
+            up,
+            local,
+            values,
+            has_up,
+            has_local,
+            has_value,
         })
     }
 }
