@@ -29,6 +29,15 @@ moments_in c p k = source_moment (side c) (pole p.kind) (dipole p.kind) (offset 
 abbrev pub far_coefficients_in : Square → Point → ℕ → BoxEnds
 far_coefficients_in b p l = far_source (side b) (pole p.kind) (dipole p.kind) (offset b (place p)) l
 
+-- ---- one entry
+-- V: the multipole row of the cell c, converted for the cell b
+abbrev pub v_row : ℕ → Square → Square → (ℕ → BoxEnds) → ℕ → BoxEnds
+v_row P b c row = converted P (kernel_entry (sides_between b c)) row
+
+-- W: the value of the multipole row of the cell c at a place
+abbrev pub w_value : ℕ → Gaussian → Square → (ℕ → BoxEnds) → BoxEnds
+w_value P z c row = multipole_value P row (side c) (offset c z)
+
 -- ---- from sources, which are points by `point`
 module _ {X : Type 0} (point : X → Point) where
   -- their moments in a cell
@@ -39,15 +48,21 @@ module _ {X : Type 0} (point : X → Point) where
   abbrev pub weight_of : ℕ → List X → ℕ
   weight_of P xs = sum_by (λ x. weight P (source_of (point x))) xs
 
-  -- from the sources of entries
-  module _ {E : Type 0} (sources : E → List X) where
-    -- X: what the sources of each add to the local row of the cell b
-    abbrev pub x_rows : Square → List E → ℕ → BoxEnds
-    x_rows b es = total_row (λ e. total_row (λ x. far_coefficients_in b (point x)) (sources e)) es
+  -- X: what they add to the local row of the cell b
+  abbrev pub x_row : Square → List X → ℕ → BoxEnds
+  x_row b xs = total_row (λ x. far_coefficients_in b (point x)) xs
 
-    -- U: the pairs of a place with the sources of each
+  -- U: the pairs of a place with them
+  abbrev pub pairs_with : Gaussian → List X → BoxEnds
+  pairs_with z xs = total_box (λ x. pair_box z (point x)) xs
+
+  -- the sums over entries, from the sources of each
+  module _ {E : Type 0} (sources : E → List X) where
+    abbrev pub x_rows : Square → List E → ℕ → BoxEnds
+    x_rows b es = total_row (λ e. x_row b (sources e)) es
+
     abbrev pub u_pairs : Gaussian → List E → BoxEnds
-    u_pairs z es = total_box (λ e. total_box (λ x. pair_box z (point x)) (sources e)) es
+    u_pairs z es = total_box (λ e. pairs_with z (sources e)) es
 
 -- ---- from the rows of cells
 module _ {E : Type 0} (cell : E → Square) (row : E → ℕ → BoxEnds) where
@@ -55,14 +70,13 @@ module _ {E : Type 0} (cell : E → Square) (row : E → ℕ → BoxEnds) where
   abbrev pub child_rows : List E → ℕ → BoxEnds
   child_rows es = total_row (λ e. shifted_up (row e) (quadrant (cell e))) es
 
+  -- the sums over V and over W entries
   module _ (P : ℕ) where
-    -- V: their multipole rows, converted for the cell b
     abbrev pub v_rows : Square → List E → ℕ → BoxEnds
-    v_rows b es = total_row (λ e. converted P (kernel_entry (sides_between b (cell e))) (row e)) es
+    v_rows b es = total_row (λ e. v_row P b (cell e) (row e)) es
 
-    -- W: the values of their multipole rows at a place
     abbrev pub w_values : Gaussian → List E → BoxEnds
-    w_values z es = total_box (λ e. multipole_value P (row e) (side (cell e)) (offset (cell e) z)) es
+    w_values z es = total_box (λ e. w_value P z (cell e) (row e)) es
 
 -- ---- what entries can lose, from the weights of their sources
 module _ {E : Type 0} (P : ℕ) (weight : E → ℕ) where
