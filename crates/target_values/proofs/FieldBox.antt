@@ -109,7 +109,7 @@ module _ (P : ℕ) (b : BasisModel) (is : IsBasis P b) where
       local_small i l = subst (BoxEndsWithin (2 ^ 82)) (sym ((row_here some_lists.0 some_lists.1).row_is i l)) ((within (target_leaf b k) leaf_is.in_range).local i l)
 
       -- the box that the parts make
-      abbrev pub parts_make : BoxEnds
+      abbrev parts_make : BoxEnds
       parts_make =
           let s : Square = square_of b.tree (target_leaf b k) in
           let z : Gaussian = target_place b k in

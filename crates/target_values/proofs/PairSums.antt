@@ -55,7 +55,7 @@ pub weight-most : (p : Point) → InRange p → 2 ^ 40 * weight64 p ≤ 2 ^ 67
 weight-most p range = let light = weight_bounded p range in omega arith
 
 -- ---- one position more
-pub sources_at-more : (points : List Point) (ms : List ℕ) (i : ℕ) (p : Point) → i < length ms → p ≡ point_at points (get_or ms i 0) → sources_at points (take (i + 1) ms) ≡ sources_at points (take i ms) ++ sources (p ∷ [])
+sources_at-more : (points : List Point) (ms : List ℕ) (i : ℕ) (p : Point) → i < length ms → p ≡ point_at points (get_or ms i 0) → sources_at points (take (i + 1) ms) ≡ sources_at points (take i ms) ++ sources (p ∷ [])
 sources_at-more points ms i p lt e =
     ap sources (map_more (point_at points) ms i 0 lt)
     ∙ filter-append (λ p. is_source p.kind) (map (point_at points) (take i ms)) (point_at points (get_or ms i 0) ∷ [])

@@ -1,5 +1,5 @@
 -- Sums over two lists, over what a filter keeps, and with one term that counts.
-use Rattle.std.proofs.Common.{ℕ, zero, suc, ◌≡◌, ◌≢◌, ◌+◌, List, [], ◌∷◌, map, Bool, true, false, cond, filter, refl, sym, ap, ap₂, ◌∙◌, arith}
+use Rattle.std.proofs.Common.{ℕ, zero, suc, ◌≡◌, ◌≢◌, ◌+◌, List, [], ◌∷◌, Bool, true, false, cond, filter, refl, sym, ap, ap₂, ◌∙◌, arith}
 use Rattle.std.specs.Prelude.{All, AllPairs, Contains, sum_by}
 use Rattle.std.proofs.lemmas.List.Elements.{All-tail}
 use Rattle.std.proofs.lemmas.List.Sums.{sum_by-cons}
@@ -39,7 +39,3 @@ sum_by-one f (y ∷ ys) x apart (zero, lt, e) none =
 sum_by-one f (y ∷ ys) x apart (suc k, lt, e) none =
     let first = none y (0, omega arith, refl) (first_differs y x ys apart (k, omega arith, e)) in
     omega (arith, sum_by-cons f y ys, first, sum_by-one f ys x (rest_differ (λ a b. a ≢ b) y ys apart) (k, omega arith, e) (λ z m. none z (later y z ys m)))
-
-pub map-same : {A B : Type 0} (f g : A → B) (xs : List A) → All (λ x. f x ≡ g x) xs → map f xs ≡ map g xs
-map-same f g [] h = refl
-map-same f g (x ∷ xs) h = ap₂ (λ y ys. y ∷ ys) (h 0 x (omega arith)) (map-same f g xs (All-tail (λ x. f x ≡ g x) x xs h))
