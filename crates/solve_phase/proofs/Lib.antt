@@ -1,0 +1,2 @@
+-- The field that finished places make.
+pub mod FieldOf
