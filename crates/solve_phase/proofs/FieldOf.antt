@@ -14,6 +14,7 @@ use Rattle.field_basis.proofs.Positions.{few_positions}
 use Rattle.letters.specs.declared.Letter.TheVariants.{V}
 use Rattle.places.specs.Place.{PlaceModel, all_translations}
 use Rattle.places.specs.Target.{TargetModel, all_pairs, values_of}
+use Rattle.points.specs.declared.Point.{Point}
 use Rattle.quadtree.proofs.Limits.{in_grid}
 use Rattle.quadtree.specs.Tree.{AreInGrid}
 use Rattle.quadtree.specs.TreeModel.{squares, size, node_of}
@@ -53,8 +54,8 @@ module _ (P : ℕ) (b : BasisModel) (is : IsBasis P b) where
     made = record { basis = b; up = up; local = local; values = values_of values; translations = all_translations up + all_translations local; pairs = all_pairs values }
 
     module _ (up_are : AreAllMultipolePlaces P b.points b.tree up) (local_are : AreAllLocalPlaces P b local) where
-      pub fit : All (BoxWithin (2 ^ 84)) (values_of values) → FitTogether P made
-      fit small = record { basis_is = is; up_each = up_are.as_many; local_each = local_are.as_many; small = small }
+      pub fit : length values ≡ length b.targets → All (BoxWithin (2 ^ 84)) (values_of values) → FitTogether P made
+      fit each small = record { basis_is = is; up_each = up_are.as_many; local_are = local_are; value_each = length-map values (λ (p : TargetModel). p.value) ∙ each; small = small }
 
       pub solved : all_translations up ≡ count_by (is_shifted b.points) (squares b.tree) → all_translations local ≡ all_translations_into b → AreTargetBoxes P b (values_of values) → AreAllPairs b (all_pairs values)
           → IsSolved b.points b.cap P made
@@ -77,3 +78,15 @@ module _ (P : ℕ) (b : BasisModel) (is : IsBasis P b) where
               pairs_are = pairs lists are;
             };
       }
+
+-- the same of parts that are equal to these
+module _ (P : ℕ) (b : BasisModel) (up up' local local' : List PlaceModel) (values values' : List TargetModel) (m n p : ℕ) (eu : up' ≡ up) (el : local' ≡ local) (ev : values' ≡ values)
+    (em : m ≡ all_translations up) (en : n ≡ all_translations local) (ep : p ≡ all_pairs values) where
+  abbrev pub parts : FieldParts
+  parts = record { basis = b; up = up'; local = local'; values = values_of values'; translations = m + n; pairs = p }
+
+  pub parts_fit : (is : IsBasis P b) → FitTogether P (made P b is up local values) → FitTogether P parts
+  parts_fit is h = rw (eu, el, ev, em, en, ep) h
+
+  pub parts_solved : (is : IsBasis P b) (points : List Point) (cap : ℕ) → b.points ≡ points → b.cap ≡ cap → IsSolved b.points b.cap P (made P b is up local values) → IsSolved points cap P parts
+  parts_solved is points cap es ec h = rw (sym es, sym ec, eu, el, ev, em, en, ep) h

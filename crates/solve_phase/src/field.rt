@@ -83,7 +83,8 @@ impl<const P: usize> Field<P> {
     /// The radius of the local row of cell `n`; 0 where the cell has no target. Condition: `n` is a cell's number.
     pub fn radius(&self, n: usize) -> i128
         requires { n < size self.now.basis.tree }
-        ensures { result ≡ pos (place_at self.now.local n).radius }
+        ensures value { result ≡ pos (place_at self.now.local n).radius }
+        ensures without { (node_of self.now.basis.tree n).has_target ≡ false → result ≡ pos 0 }
     {
         self.local[n].radius()
     }
