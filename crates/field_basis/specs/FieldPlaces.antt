@@ -22,9 +22,10 @@ abbrev pub AreSameRows : ℕ → (ℕ → BoxEnds) → (ℕ → BoxEnds) → Typ
 AreSameRows P m n = (k : ℕ) → k < P → m k ≡ n k
 
 -- ---- multipole rows
--- the row of cell n, with each capacity that gives the tree
+-- the row of cell n, with each capacity that gives the tree, and the radius 0
 pub record IsMultipolePlace (P : ℕ) (points : List Point) (tree : TreeModel) (n : ℕ) (place : PlaceModel) : Type 0 where
   pub row_is : (cap : ℕ) → IsTreeOf 16 tree points cap → AreSameRows P (row_of place.row) (multipole_row points cap (square_of tree n))
+  pub radius_is : place.radius ≡ 0
 
 -- there is a place for each of these cells, which holds its row
 abbrev pub AreMultipolePlaces : ℕ → List Point → TreeModel → List PlaceModel → List ℕ → Type 0

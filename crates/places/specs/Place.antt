@@ -8,7 +8,7 @@ pub record PlaceModel : Type 0 where
   pub radius : ℕ
   pub translations : ℕ
 
--- what a place keeps of a radius
+-- the greatest radius that a place keeps
 abbrev pub most_radius : ℕ
 most_radius = 2 ^ 90
 
@@ -19,11 +19,6 @@ no_place = record { row = []; radius = 0; translations = 0 }
 -- the place of a number
 abbrev pub place_at : List PlaceModel → ℕ → PlaceModel
 place_at places n = slice_index_or places n no_place
-
--- the row alone has changed
-pub record IsSameButRow (old new : PlaceModel) : Type 0 where
-  pub radius : new.radius ≡ old.radius
-  pub translations : new.translations ≡ old.translations
 
 -- no place but that of a number has changed
 pub record OthersStay (n : ℕ) (old new : List PlaceModel) : Type 0 where

@@ -49,7 +49,7 @@ impl<const P: usize> Place<P> {
         Row::new(&self.row)
     }
 
-    /// The row, to be written.
+    /// The row, to be written: its `P` boxes; radius and translations stay.
     #[inline]
     pub fn row_mut(&mut self) -> &mut [CBox]
         ensures* lends { sem 𝓛 (LendsRow P.row self.entry result) }
@@ -59,7 +59,7 @@ impl<const P: usize> Place<P> {
         &mut self.row
     }
 
-    /// The radius of the row.
+    /// The radius of the row, from 0 to 2^90.
     #[inline]
     pub fn radius(&self) -> i128
         ensures radius { result ≡ pos self.now.radius }
@@ -68,7 +68,7 @@ impl<const P: usize> Place<P> {
         self.further.re.lo
     }
 
-    /// Keeps the radius of the row, which is 0 to 2^90.
+    /// Keeps the radius of the row. Condition: it is from 0 to 2^90.
     #[inline]
     pub fn set_radius(&mut self, radius: i128)
         requires least { pos 0 ≤ℤ radius }

@@ -6,7 +6,7 @@ ghost use Rattle.places.specs.Target.{all_pairs};
 use crate::place::Place;
 use crate::target::TargetPlace;
 
-/// The translations of all places, of which there are fewer than 2^64.
+/// The translations of all places. Condition: together they are below 2^64.
 pub fn all_translations<const P: usize>(places: &[Place<P>]) -> u64
     requires { all_translations places.now < 2 ^ 64 }
     ensures { result ≡ all_translations places.now }
@@ -18,7 +18,7 @@ pub fn all_translations<const P: usize>(places: &[Place<P>]) -> u64
     total
 }
 
-/// The pairs of all places, of which there are fewer than 2^64.
+/// The pairs of all places. Condition: together they are below 2^64.
 pub fn all_pairs(places: &[TargetPlace]) -> u64
     requires { all_pairs places.now < 2 ^ 64 }
     ensures { result ≡ all_pairs places.now }

@@ -4,7 +4,7 @@ ghost use Rattle.exact_math.specs.Orders.{IsOrder};
 ghost use Rattle.field_basis.specs.Counts.{shifts_into, translated};
 ghost use Rattle.field_basis.specs.FieldPlaces.{AreMultipolePlaces, AreSameRows, IsMultipolePlace};
 ghost use Rattle.field_basis.specs.Trees.{IsTreeOfPoints};
-ghost use Rattle.places.specs.Place.{IsSameButRow, OthersStay, place_at};
+ghost use Rattle.places.specs.Place.{OthersStay, place_at};
 ghost use Rattle.quadtree.specs.TreeModel.{IsTreeOf, size, square_of};
 ghost use Rattle.row_recursions.specs.Rows.{row_of};
 ghost use Rattle.tree_field.specs.Field.{multipole_row};
@@ -54,8 +54,8 @@ fn sum_row<const P: usize>(
 }
 
 /// Makes the multipole row of cell `n`: of a leaf the sum of the moments of its sources, of another cell the sum of the rows of its quarters
-/// that have a source, shifted up, which raises the translations by one each. A cell without a source gets zeros. `behind` are the places of
-/// the last cells, and is only read.
+/// that have a source, shifted up, which raises the translations by one each. A cell without a source gets zeros. The radius of the place
+/// becomes 0, and its translations stay. `behind` are the places of the last cells, and is only read.
 ///
 /// Conditions: `P` is one of the orders, the tree is that of the points, which are within the limits, `n` is a cell's number, those of its
 /// quarters that have a source have their rows in `behind`, and the count of translations is below 2^62.
@@ -73,13 +73,14 @@ pub fn make_place<const P: usize>(
     requires behind { AreBehind P points.now tree.now behind.now (source_children tree.now n) }
     requires room { work.old.translations < 2 ^ 62 }
     ensures row { IsMultipolePlace P points.now tree.now n place.new }
-    ensures rest { IsSameButRow place.old place.new }
+    ensures kept { place.new.translations ≡ place.old.translations }
     ensures work { work.new ≡ translated (shifts_into points.now tree.now n) work.old }
 {
     sum_row::<P>(tree, points, n, behind, place.row_mut(), work);
+    place.set_radius(0);
 }
 
-/// Makes the multipole row of cell `n` in its place among the places of all cells.
+/// Makes the multipole row of cell `n` in its place among the places of all cells, as `make_place` does.
 ///
 /// Conditions: as for `make_place`; there is a place for each cell, and those of the quarters of `n` that have a source hold their rows.
 pub fn fill_place<const P: usize>(
@@ -96,6 +97,7 @@ pub fn fill_place<const P: usize>(
     requires quarters { AreMultipolePlaces P points.now tree.now places.old (source_children tree.now n) }
     requires room { work.old.translations < 2 ^ 62 }
     ensures row { IsMultipolePlace P points.now tree.now n (place_at places.new n) }
+    ensures kept { (place_at places.new n).translations ≡ (place_at places.old n).translations }
     ensures others { OthersStay n places.old places.new }
     ensures work { work.new ≡ translated (shifts_into points.now tree.now n) work.old }
 {

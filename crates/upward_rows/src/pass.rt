@@ -1,9 +1,10 @@
 //! The rows of all cells.
-ghost use Rattle.std.specs.Prelude.{◌≡◌, length, sum_by, count_by};
+ghost use Rattle.std.specs.Prelude.{◌≡◌, ℕ, ◌<◌, length, count_by};
 ghost use Rattle.exact_math.specs.Orders.{IsOrder};
+ghost use Rattle.field_basis.specs.Counts.{shifts_into};
 ghost use Rattle.field_basis.specs.FieldPlaces.{AreAllMultipolePlaces};
 ghost use Rattle.field_basis.specs.Trees.{IsTreeOfPoints};
-ghost use Rattle.places.specs.Place.{all_translations};
+ghost use Rattle.places.specs.Place.{all_translations, place_at};
 ghost use Rattle.quadtree.specs.TreeModel.{size, squares};
 ghost use Rattle.upward_rows.specs.Shifted.{is_shifted};
 
@@ -13,8 +14,8 @@ use places::Place;
 use points::Point;
 use quadtree::Tree;
 
-/// Makes the multipole rows of all cells, from the last to the first, whatever rows stood in their places, and keeps in each place how many
-/// translations its row took: together one for each cell below the root that has a source.
+/// Makes the multipole rows of all cells, from the last to the first, whatever stood in their places, with the radius 0, and keeps in each place
+/// how many translations its row took: together one for each cell below the root that has a source.
 ///
 /// Conditions: `P` is one of the orders, the tree is that of the points, which are within the limits, and there is a place for each cell.
 pub fn upward_pass<const P: usize>(tree: &Tree, points: &[Point], places: &mut [Place<P>])
@@ -22,6 +23,7 @@ pub fn upward_pass<const P: usize>(tree: &Tree, points: &[Point], places: &mut [
     requires tree { IsTreeOfPoints points.now tree.now }
     requires len { length places.old ≡ size tree.now }
     ensures rows { AreAllMultipolePlaces P points.now tree.now places.new }
+    ensures each { (n : ℕ) → n < size tree.now → (place_at places.new n).translations ≡ shifts_into points.now tree.now n }
     ensures translations { all_translations places.new ≡ count_by (is_shifted points.now) (squares tree.now) }
 {
     for n in (0..tree.cells().len()).rev() {

@@ -45,7 +45,9 @@ loop-n-preserved g c =
     let inside : n < length filled = omega (arith, lt, c.fill_place.auto.places, c.loop-n.auto.places, c.requires.len) in
     let taken : c.set_translations.new.self.translations ≡ shifts_into points tree n =
     omega (arith, c.set_translations.ensures.translations, c.translations.ensures, ap (λ (w : Counts). w.translations) c.fill_place.ensures.work, c.new-work.ensures.translations) in
-    let row = c.set_translations.ensures.row ∙ ap (λ (p : PlaceModel). p.row) (get_or_default filled n c.index-places-n.result no_place inside) in
+    let here = get_or_default filled n c.index-places-n.result no_place inside in
+    let row = c.set_translations.ensures.row ∙ ap (λ (p : PlaceModel). p.row) here in
+    let radius = c.set_translations.ensures.radius ∙ ap (λ (p : PlaceModel). p.radius) here in
     let kept : (m : ℕ) → n < m → place_at (slice_set filled n c.set_translations.new.self) m ≡ place_at c.loop-n.places m =
     λ m after. get_or-set_other filled n m c.set_translations.new.self no_place (omega (arith, after)) ∙ c.fill_place.ensures.others.others m (omega (arith, after)) in
     let own : place_at (slice_set filled n c.set_translations.new.self) n ≡ c.set_translations.new.self = get_or-set_same filled n c.set_translations.new.self no_place inside in
@@ -59,7 +61,7 @@ loop-n-preserved g c =
                 let e : n ≡ m = omega (arith, le, early) in
                 subst (λ j. IsMultipolePlace P points tree j (place_at (slice_set filled n c.set_translations.new.self) j)) e
                 (subst (IsMultipolePlace P points tree n) (sym own)
-                (record { row_is = λ cap is k h. ap (λ l. row_of l k) row ∙ c.fill_place.ensures.row.row_is cap is k h }))
+                (record { row_is = λ cap is k h. ap (λ l. row_of l k) row ∙ c.fill_place.ensures.row.row_is cap is k h; radius_is = radius ∙ c.fill_place.ensures.row.radius_is }))
           ];
       translations = λ m le last.
           elim (cases_lt n m) [
