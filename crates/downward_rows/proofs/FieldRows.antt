@@ -32,8 +32,8 @@ use Rattle.tree_field.specs.Lists.{TreeLists, AreTreeLists}
 use Rattle.field_basis.specs.Basis.{BasisModel, IsBasis}
 use Rattle.field_basis.specs.FieldPlaces.{AreSameRows}
 use Rattle.field_basis.specs.Targets.{no_point, point_at}
-use Rattle.downward_rows.specs.Entries.{far_row_at, v_rows, x_entry, x_rows, row_below, IsFarCell, IsFarPosition}
-use Rattle.downward_rows.specs.Radii.{v_losses, x_losses}
+use Rattle.downward_rows.specs.Entries.{far_row_at, v_rows_of, x_entry, x_rows_of, row_below, IsFarCell, IsFarPosition}
+use Rattle.downward_rows.specs.Radii.{v_losses_of, x_losses_of}
 use Rattle.downward_rows.proofs.Lists.{entries_by_number}
 use Rattle.downward_rows.proofs.SameRows.{shifted_down_same}
 
@@ -73,12 +73,12 @@ module _ (P : ℕ) (b : BasisModel) (is : IsBasis P b) (n : ℕ) (lt : n < size 
       ∙ ap (λ l. total_row (far_coefficients_in (square_of b.tree n)) l k) ((nodes_of_tree b.tree b.points b.cap (in_grid b.points is.tree_is.tree_is.range) is.is_tree c far.in_range).members no_point)
 
   module _ (lists : TreeLists) (are : AreTreeLists 16 b.points b.cap lists) where
-    v_rows_are : (k : ℕ) → v_rows P b n k ≡ converted_rows b.points b.cap P lists (square_of b.tree n) k
+    v_rows_are : (k : ℕ) → v_rows_of P b n k ≡ converted_rows b.points b.cap P lists (square_of b.tree n) k
     v_rows_are k =
         sym (total_box-map (λ c. converted P (kernel_entry (sides_between (square_of b.tree n) c)) (multipole_row b.points b.cap c) k) (square_of b.tree) (list_at b.lists.v n))
         ∙ ap (λ l. total_box (λ c. converted P (kernel_entry (sides_between (square_of b.tree n) c)) (multipole_row b.points b.cap c) k) l) (sym (entries_by_number P b is V n lt lists are))
 
-    x_rows_are : (k : ℕ) → x_rows b n k ≡ far_rows b.points b.cap P lists (square_of b.tree n) k
+    x_rows_are : (k : ℕ) → x_rows_of b n k ≡ far_rows b.points b.cap P lists (square_of b.tree n) k
     x_rows_are k =
         sym (total_box-map (λ c. total_row (far_coefficients_in (square_of b.tree n)) (sources_in b.points c) k) (square_of b.tree) (list_at b.lists.x n))
         ∙ ap (λ l. total_box (λ c. total_row (far_coefficients_in (square_of b.tree n)) (sources_in b.points c) k) l) (sym (entries_by_number P b is X n lt lists are))
@@ -88,17 +88,17 @@ module _ (P : ℕ) (b : BasisModel) (is : IsBasis P b) (n : ℕ) (lt : n < size 
         ap₂ add_box (shifted_down_same P m (local_row b.points b.cap P lists (parent (square_of b.tree n))) (quadrant (square_of b.tree n)) same k) (ap₂ add_box (v_rows_are k) (x_rows_are k))
         ∙ sym (local_row-below b.points b.cap P lists (square_of b.tree n) lo k)
 
-    v_losses_are : v_losses P b n ≡ sum_by (pair_radius_in b.points P (side (square_of b.tree n))) (lists.entries V (square_of b.tree n))
+    v_losses_are : v_losses_of P b n ≡ sum_by (pair_radius_in b.points P (side (square_of b.tree n))) (lists.entries V (square_of b.tree n))
     v_losses_are =
         sym (sum_by-map (pair_radius_in b.points P (side (square_of b.tree n))) (square_of b.tree) (list_at b.lists.v n))
         ∙ ap (λ l. sum_by (pair_radius_in b.points P (side (square_of b.tree n))) l) (sym (entries_by_number P b is V n lt lists are))
 
-    x_losses_are : x_losses P b n ≡ sum_by (single_radius_in b.points P (side (square_of b.tree n))) (lists.entries X (square_of b.tree n))
+    x_losses_are : x_losses_of P b n ≡ sum_by (single_radius_in b.points P (side (square_of b.tree n))) (lists.entries X (square_of b.tree n))
     x_losses_are =
         sym (sum_by-map (single_radius_in b.points P (side (square_of b.tree n))) (square_of b.tree) (list_at b.lists.x n))
         ∙ ap (λ l. sum_by (single_radius_in b.points P (side (square_of b.tree n))) l) (sym (entries_by_number P b is X n lt lists are))
 
-    pub radius_is : 0 < (square_of b.tree n).level → local_radius b.points b.cap P lists (parent (square_of b.tree n)) + (v_losses P b n + x_losses P b n) ≡ local_radius b.points b.cap P lists (square_of b.tree n)
+    pub radius_is : 0 < (square_of b.tree n).level → local_radius b.points b.cap P lists (parent (square_of b.tree n)) + (v_losses_of P b n + x_losses_of P b n) ≡ local_radius b.points b.cap P lists (square_of b.tree n)
     radius_is lo =
         ap (λ r. local_radius b.points b.cap P lists (parent (square_of b.tree n)) + r) (ap₂ (λ x y. x + y) v_losses_are x_losses_are)
         ∙ sym (local_radius-below b.points b.cap P lists (square_of b.tree n) lo)

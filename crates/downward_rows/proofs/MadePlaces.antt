@@ -22,7 +22,7 @@ use Rattle.field_basis.specs.Basis.{BasisModel, IsBasis}
 use Rattle.field_basis.specs.Counts.{translated, translations_into}
 use Rattle.field_basis.specs.FieldPlaces.{AreSameRows, HasLocalPlace, HasLocalRow, IsLocalPlace}
 use Rattle.downward_rows.specs.Entries.{row_below}
-use Rattle.downward_rows.specs.Radii.{v_losses, x_losses}
+use Rattle.downward_rows.specs.Radii.{v_losses_of, x_losses_of}
 use Rattle.downward_rows.proofs.FieldRows.{row_is, radius_is}
 use Rattle.downward_rows.proofs.FieldSizes.{some_lists, local_small, radius_small}
 use Rattle.downward_rows.proofs.Trees.{target_of_parent}
@@ -83,17 +83,17 @@ module _ (P : ℕ) (b : BasisModel) (is : IsBasis P b) (n : ℕ) (lt : n < size 
     parent_row : (lists : TreeLists) → AreTreeLists 16 b.points b.cap lists → HasLocalRow P b lists (node_of b.tree n).parent above
     parent_row lists are = parent_is.with_target (target_of_parent b.tree tree b.points n lo lt target) lists are
 
-    pub radius_made : (lists : TreeLists) → AreTreeLists 16 b.points b.cap lists → above.radius + (v_losses P b n + x_losses P b n) ≡ local_radius b.points b.cap P lists (square_of b.tree n)
+    pub radius_made : (lists : TreeLists) → AreTreeLists 16 b.points b.cap lists → above.radius + (v_losses_of P b n + x_losses_of P b n) ≡ local_radius b.points b.cap P lists (square_of b.tree n)
     radius_made lists are =
-        ap (λ r. r + (v_losses P b n + x_losses P b n)) ((parent_row lists are).radius_is ∙ ap (λ c. local_radius b.points b.cap P lists c) (parent_before b.tree tree n lo lt).is_parent)
+        ap (λ r. r + (v_losses_of P b n + x_losses_of P b n)) ((parent_row lists are).radius_is ∙ ap (λ c. local_radius b.points b.cap P lists c) (parent_before b.tree tree n lo lt).is_parent)
         ∙ radius_is P b is n lt lists are level
 
-    pub radius_light : above.radius + (v_losses P b n + x_losses P b n) ≤ 2 ^ 80
+    pub radius_light : above.radius + (v_losses_of P b n + x_losses_of P b n) ≤ 2 ^ 80
     radius_light =
         let some = some_lists P b is in
         omega (arith, radius_made some.0 some.1, radius_small P b is n lt some.0 some.1)
 
-    pub place_made : (place : PlaceModel) → AreSameRows P (row_of place.row) (row_below P b n (row_of above.row)) → place.radius ≡ above.radius + (v_losses P b n + x_losses P b n) → IsLocalPlace P b n place
+    pub place_made : (place : PlaceModel) → AreSameRows P (row_of place.row) (row_below P b n (row_of above.row)) → place.radius ≡ above.radius + (v_losses_of P b n + x_losses_of P b n) → IsLocalPlace P b n place
     place_made place row radius = record {
       with_target = λ t lists are. record {
         row_is = λ k h. row k h ∙ row_is P b is n lt lists are (row_of above.row) level

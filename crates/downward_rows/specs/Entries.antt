@@ -10,7 +10,7 @@ use Rattle.points.specs.Points.{place}
 use Rattle.points.specs.declared.Point.{Point}
 use Rattle.quadtree.specs.TreeModel.{TreeModel, size, square_of, node_of}
 use Rattle.row_recursions.specs.Geometry.{sides_between}
-use Rattle.soundness.specs.Steps.{total_row, far_coefficients_in, v_row, x_row, from_parent}
+use Rattle.soundness.specs.Steps.{far_coefficients_in, v_row, v_rows, x_row, x_rows, from_parent}
 use Rattle.soundness.specs.Squares.{IsFarFrom}
 use Rattle.tree_field.specs.Field.{multipole_row, sources_in}
 use Rattle.field_basis.specs.Basis.{BasisModel}
@@ -49,16 +49,16 @@ far_row_at points b k = far_coefficients_in b (point_at points k)
 abbrev pub v_entry : ℕ → BasisModel → ℕ → ℕ → ℕ → BoxEnds
 v_entry P b n c = v_row P (square_of b.tree n) (square_of b.tree c) (multipole_row b.points b.cap (square_of b.tree c))
 
-abbrev pub v_rows : ℕ → BasisModel → ℕ → ℕ → BoxEnds
-v_rows P b n = total_row (v_entry P b n) (list_at b.lists.v n)
+abbrev pub v_rows_of : ℕ → BasisModel → ℕ → ℕ → BoxEnds
+v_rows_of P b n = v_rows (square_of b.tree) (λ c. multipole_row b.points b.cap (square_of b.tree c)) P (square_of b.tree n) (list_at b.lists.v n)
 
 -- what the sources of the cell c of its X list add, and those of all of them
 abbrev pub x_entry : BasisModel → ℕ → ℕ → ℕ → BoxEnds
 x_entry b n c = x_row (λ p. p) (square_of b.tree n) (sources_in b.points (square_of b.tree c))
 
-abbrev pub x_rows : BasisModel → ℕ → ℕ → BoxEnds
-x_rows b n = total_row (x_entry b n) (list_at b.lists.x n)
+abbrev pub x_rows_of : BasisModel → ℕ → ℕ → BoxEnds
+x_rows_of b n = x_rows (λ p. p) (λ c. sources_in b.points (square_of b.tree c)) (square_of b.tree n) (list_at b.lists.x n)
 
 -- the local row of a cell below the root, from its parent's row
 abbrev pub row_below : ℕ → BasisModel → ℕ → (ℕ → BoxEnds) → ℕ → BoxEnds
-row_below P b n m k = add_box (from_parent P (square_of b.tree n) m k) (add_box (v_rows P b n k) (x_rows b n k))
+row_below P b n m k = add_box (from_parent P (square_of b.tree n) m k) (add_box (v_rows_of P b n k) (x_rows_of b n k))

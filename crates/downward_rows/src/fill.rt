@@ -43,9 +43,9 @@ fn make_row<const P: usize>(
 }
 
 /// Makes the local row of cell `n` and its radius. The row is its parent's, brought down, with the rows of the V list, converted, and what the
-/// sources of the X list add; the radius is its parent's with what these entries can lose. The root has zeros, and so has a cell without a
-/// target. The translations are raised by one for the parent and one for each V entry where the cell is below the root and has a target.
-/// `above` begins with the places of the first cells, the parent's among them.
+/// sources of the X list add; the radius is its parent's with what these entries can lose. The root has zeros and the radius 0, and so has a
+/// cell without a target. The translations are raised by one for the parent and one for each V entry where the cell is below the root and has
+/// a target. `above` begins with the places of the first cells, the parent's among them.
 ///
 /// Conditions: `n` is a cell's number, the cells of its V list have their multipole rows in `up`, its parent's local row stands in `above`,
 /// and the count of translations is below 2^62.
@@ -75,7 +75,7 @@ pub fn make_place<const P: usize>(
     place.set_radius(local_radius(basis, n, parent.radius()));
 }
 
-/// Makes the local row of cell `n` and its radius in its place among the places of all cells.
+/// Makes the local row of cell `n` and its radius in its place among the places of all cells. The translations that it keeps stay as they are.
 ///
 /// Conditions: as for `make_place`; there is a place for each cell, and that of the parent of `n` holds its local row.
 pub fn fill_place<const P: usize>(
@@ -91,6 +91,7 @@ pub fn fill_place<const P: usize>(
     requires parent { 0 < n → HasLocalPlace P basis.now places.old (node_of basis.now.tree n).parent }
     requires room { work.old.translations < 2 ^ 62 }
     ensures local { IsLocalPlace P basis.now n (place_at places.new n) }
+    ensures kept { (place_at places.new n).translations ≡ (place_at places.old n).translations }
     ensures others { OthersStay n places.old places.new }
     ensures work { work.new ≡ translated (translations_into basis.now n) work.old }
 {

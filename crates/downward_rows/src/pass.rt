@@ -1,8 +1,9 @@
 //! The local rows of all cells.
-ghost use Rattle.std.specs.Prelude.{◌≡◌, length};
+ghost use Rattle.std.specs.Prelude.{◌≡◌, ℕ, ◌<◌, length};
 ghost use Rattle.downward_rows.specs.Translations.{all_translations_into};
+ghost use Rattle.field_basis.specs.Counts.{translations_into};
 ghost use Rattle.field_basis.specs.FieldPlaces.{AreAllLocalPlaces, AreAllMultipolePlaces};
-ghost use Rattle.places.specs.Place.{all_translations};
+ghost use Rattle.places.specs.Place.{all_translations, place_at};
 ghost use Rattle.quadtree.specs.TreeModel.{size};
 
 use crate::fill::fill_place;
@@ -18,6 +19,7 @@ pub fn downward_pass<const P: usize>(basis: &Basis<P>, up: &[Place<P>], places: 
     requires rows { AreAllMultipolePlaces P basis.now.points basis.now.tree up.now }
     requires len { length places.old ≡ size basis.now.tree }
     ensures local { AreAllLocalPlaces P basis.now places.new }
+    ensures each { (n : ℕ) → n < size basis.now.tree → (place_at places.new n).translations ≡ translations_into basis.now n }
     ensures translations { all_translations places.new ≡ all_translations_into basis.now }
 {
     for n in 0..basis.tree.cells().len() {

@@ -2,7 +2,7 @@
 ghost use Rattle.std.specs.Prelude.{◌≡◌, ◌+◌, ◌^◌, ◌≤◌, ◌<◌, pos, ◌≤ℤ◌, ◌+ℤ◌};
 ghost use Rattle.quadtree.specs.TreeModel.{size};
 ghost use Rattle.places.specs.Place.{most_radius};
-ghost use Rattle.downward_rows.specs.Radii.{v_losses, x_losses};
+ghost use Rattle.downward_rows.specs.Radii.{v_losses_of, x_losses_of};
 
 use error_ledger::Ledger;
 use field_basis::Basis;
@@ -11,7 +11,7 @@ use field_basis::Basis;
 fn add_v_losses<const P: usize>(basis: &Basis<P>, n: usize, ledger: &mut Ledger)
     requires cell { n < size basis.now.tree }
     requires room { ledger.old ≤ 2 ^ 92 }
-    ensures added { ledger.new ≡ ledger.old + v_losses P basis.now n }
+    ensures added { ledger.new ≡ ledger.old + v_losses_of P basis.now n }
     ensures size { ledger.new ≤ ledger.old + 2 ^ 91 }
 {
     let side = basis.tree.cells()[n].side();
@@ -24,7 +24,7 @@ fn add_v_losses<const P: usize>(basis: &Basis<P>, n: usize, ledger: &mut Ledger)
 fn add_x_losses<const P: usize>(basis: &Basis<P>, n: usize, ledger: &mut Ledger)
     requires cell { n < size basis.now.tree }
     requires room { ledger.old ≤ 2 ^ 92 }
-    ensures added { ledger.new ≡ ledger.old + x_losses P basis.now n }
+    ensures added { ledger.new ≡ ledger.old + x_losses_of P basis.now n }
     ensures size { ledger.new ≤ ledger.old + 2 ^ 91 }
 {
     let side = basis.tree.cells()[n].side();
@@ -38,7 +38,7 @@ pub(crate) fn local_radius<const P: usize>(basis: &Basis<P>, n: usize, parent: i
     requires cell { n < size basis.now.tree }
     requires least { pos 0 ≤ℤ parent }
     requires most { parent ≤ℤ pos most_radius }
-    ensures { result ≡ parent +ℤ pos (v_losses P basis.now n + x_losses P basis.now n) }
+    ensures { result ≡ parent +ℤ pos (v_losses_of P basis.now n + x_losses_of P basis.now n) }
 {
     let mut ledger = Ledger::new();
     add_v_losses(basis, n, &mut ledger);

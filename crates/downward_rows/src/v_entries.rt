@@ -10,7 +10,7 @@ ghost use Rattle.row_recursions.specs.Sizes.{RowWithin};
 ghost use Rattle.places.specs.Place.{place_at};
 ghost use Rattle.field_basis.specs.Counts.{translated};
 ghost use Rattle.field_basis.specs.FieldPlaces.{AreMultipolePlaces, IsMultipolePlace};
-ghost use Rattle.downward_rows.specs.Entries.{IsVEntryAt, v_entry, v_rows};
+ghost use Rattle.downward_rows.specs.Entries.{IsVEntryAt, v_entry, v_rows_of};
 
 use cell_name::Cell;
 use complex_box::{CBox, Gauss, Work};
@@ -67,7 +67,7 @@ pub(crate) fn add_v_entries<const P: usize>(
     requires sum { RowWithin P (2 ^ 90) (row_of into.old) }
     requires room { work.old.translations + 27 < 2 ^ 63 }
     ensures len { length into.new ≡ P }
-    ensures adds { RowsAdd P (row_of into.old) (v_rows P basis.now n) (row_of into.new) }
+    ensures adds { RowsAdd P (row_of into.old) (v_rows_of P basis.now n) (row_of into.new) }
     ensures size { RowWithin P (2 ^ 91) (row_of into.new) }
     ensures work { work.new ≡ translated (length (list_at basis.now.lists.v n)) work.old }
 {

@@ -6,7 +6,7 @@ ghost use Rattle.quadtree.specs.TreeModel.{size};
 ghost use Rattle.row_recursions.specs.Rows.{row_of, RowsAdd};
 ghost use Rattle.row_recursions.specs.Sizes.{RowWithin};
 ghost use Rattle.soundness.specs.Computed.{total_row};
-ghost use Rattle.downward_rows.specs.Entries.{IsFarPosition, far_row_at, x_rows};
+ghost use Rattle.downward_rows.specs.Entries.{IsFarPosition, far_row_at, x_rows_of};
 
 use cell_name::Cell;
 use complex_box::CBox;
@@ -49,7 +49,7 @@ pub(crate) fn add_x_entries<const P: usize>(basis: &Basis<P>, n: usize, into: &m
     requires len { length into.old ≡ P }
     requires sum { RowWithin P (2 ^ 91) (row_of into.old) }
     ensures len { length into.new ≡ P }
-    ensures adds { RowsAdd P (row_of into.old) (x_rows basis.now n) (row_of into.new) }
+    ensures adds { RowsAdd P (row_of into.old) (x_rows_of basis.now n) (row_of into.new) }
 {
     let cell = basis.tree.cells()[n];
     for c in basis.lists.x_list(n) {

@@ -1,8 +1,9 @@
 //! The boxes of all targets.
-ghost use Rattle.std.specs.Prelude.{◌≡◌, ◌*◌, ◌^◌, ◌≤◌, length, All};
+ghost use Rattle.std.specs.Prelude.{◌≡◌, ℕ, ◌*◌, ◌^◌, ◌<◌, ◌≤◌, length, All};
 ghost use Rattle.complex_box.specs.Box.{BoxWithin};
+ghost use Rattle.field_basis.specs.Counts.{pairs_of_target};
 ghost use Rattle.field_basis.specs.FieldPlaces.{AreAllLocalPlaces, AreAllMultipolePlaces, AreAllPairs, AreTargetBoxes, BoxesContain};
-ghost use Rattle.places.specs.Target.{all_pairs, values_of};
+ghost use Rattle.places.specs.Target.{all_pairs, target_at, values_of};
 
 use crate::value::target_value;
 use complex_box::Work;
@@ -10,7 +11,7 @@ use field_basis::Basis;
 use places::{Place, TargetPlace};
 
 /// Writes the box of each target, in the order of the list, and the pairs that were summed for it: together those of the U entries of all
-/// cells. The boxes are those of the field, contain the exact sums at the targets, and have no end larger than 2^84.
+/// cells. The boxes are those of the field and contain the direct sums at the targets, and no end is larger than 2^84 in size.
 ///
 /// Conditions: `up` holds the multipole rows of all cells and `local` their local rows and radii, and there is a place for each target.
 pub fn value_pass<const P: usize>(
@@ -25,6 +26,7 @@ pub fn value_pass<const P: usize>(
     ensures values { AreTargetBoxes P basis.now (values_of values.new) }
     ensures contains { BoxesContain basis.now.points (values_of values.new) }
     ensures size { All (BoxWithin (2 ^ 84)) (values_of values.new) }
+    ensures each { (k : ℕ) → k < length basis.now.targets → (target_at values.new k).pairs ≡ pairs_of_target basis.now k }
     ensures pairs { AreAllPairs basis.now (all_pairs values.new) }
     ensures few { all_pairs values.new ≤ length basis.now.targets * length basis.now.points }
 {

@@ -16,11 +16,11 @@ use local_expansion::at_local;
 use places::Place;
 
 /// The box of the k-th target, counted from 0: the value of its leaf's local row, those of the multipole rows of the leaf's W entries, and the
-/// pairs with the sources of its U entries, widened by the leaf's radius and by what the W entries can lose. It contains the exact sum at the
-/// target, and no end is larger than 2^84. The pairs of `work` are raised by one for each source of the U entries at another place.
+/// pairs with the sources of its U entries, widened by the leaf's radius and by what the W entries can lose. It contains the direct sum at the
+/// target, and no end is larger than 2^84 in size. The pairs of `work` are raised by one for each source of the U entries at another place.
 ///
 /// Conditions: there are more than `k` targets, the cells of the W list of the target's leaf have their multipole rows in `up`, the leaf has
-/// its local row in `local`, and the count of pairs is below 2^62.
+/// its local row and radius in `local`, and the count of pairs is below 2^62.
 pub fn target_value<const P: usize>(
     basis: &Basis<P>,
     up: &[Place<P>],

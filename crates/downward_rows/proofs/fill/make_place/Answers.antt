@@ -6,7 +6,7 @@ use Rattle.quadtree.specs.TreeModel.{node_of}
 use Rattle.row_recursions.specs.Rows.{row_of}
 use Rattle.field_basis.specs.Basis.{IsBasis}
 use Rattle.downward_rows.specs.Entries.{row_below}
-use Rattle.downward_rows.specs.Radii.{v_losses, x_losses}
+use Rattle.downward_rows.specs.Radii.{v_losses_of, x_losses_of}
 use Rattle.downward_rows.proofs.MadePlaces.{parent_read, parent_small, radius_light, radius_read, place_made, place_empty, nothing_translated}
 use Rattle.downward_rows.proofs.fill.make_place.Goals.{then-n-eq0-via-then-n-eq0, then-n-eq0-via-else-n-eq0+then-not-has_target}
 use Rattle.downward_rows.proofs.fill.make_place.Goals as goal
@@ -53,7 +53,7 @@ set_radius-requires-2 g c =
     let above = c.index-above-parent.result in
     let parent = parent_read g.row.P b s c.args.n c.requires.cell lo c.args.above.now c.parent.result p_is above c.index-above-parent.is (c.requires.parent lo) in
     let light = radius_light g.row.P b s c.args.n c.requires.cell lo has above parent in
-    let e = radius_read above.radius (v_losses g.row.P b c.args.n + x_losses g.row.P b c.args.n) c.radius.result c.local_radius.result c.radius.ensures.radius light c.local_radius.ensures in
+    let e = radius_read above.radius (v_losses_of g.row.P b c.args.n + x_losses_of g.row.P b c.args.n) c.radius.result c.local_radius.result c.radius.ensures.radius light c.local_radius.ensures in
     let few = order_bounds g.row.P s.order in
     (omega (arith, few), (omega (arith, ints, e), omega (arith, ints, e, light)))
 
@@ -67,7 +67,7 @@ returns-clause-local g c =
     let above = c.index-above-parent.result in
     let parent = parent_read g.row.P b s c.args.n c.requires.cell lo c.args.above.now c.parent.result p_is above c.index-above-parent.is (c.requires.parent lo) in
     let light = radius_light g.row.P b s c.args.n c.requires.cell lo has above parent in
-    let e = radius_read above.radius (v_losses g.row.P b c.args.n + x_losses g.row.P b c.args.n) c.radius.result c.local_radius.result c.radius.ensures.radius light c.local_radius.ensures in
+    let e = radius_read above.radius (v_losses_of g.row.P b c.args.n + x_losses_of g.row.P b c.args.n) c.radius.result c.local_radius.result c.radius.ensures.radius light c.local_radius.ensures in
     place_made g.row.P b s c.args.n c.requires.cell lo has above parent c.set_radius-2.new.self
     (λ k h. ap (λ r. row_of r k) c.set_radius-2.ensures.row ∙ c.make_row.ensures.row k h ∙ ap (λ r. row_below g.row.P b c.args.n (row_of r) k) c.row.ensures)
     (omega (arith, ints, c.set_radius-2.ensures.radius ∙ e))

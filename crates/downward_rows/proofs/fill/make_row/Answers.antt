@@ -12,7 +12,7 @@ use Rattle.row_recursions.specs.Rows.{row_of, shifted_down}
 use Rattle.soundness.specs.Squares.{quadrant}
 use Rattle.field_basis.proofs.Trees.{some_tree}
 use Rattle.field_basis.specs.Basis.{IsBasis}
-use Rattle.downward_rows.specs.Entries.{v_rows, x_rows}
+use Rattle.downward_rows.specs.Entries.{v_rows_of, x_rows_of}
 use Rattle.downward_rows.proofs.FilledRows.{zero_row_within, three_added, quadrant_read}
 use Rattle.downward_rows.proofs.fill.make_row.Goals as goal
 
@@ -54,8 +54,8 @@ returns-clause-row g c = λ k h.
     let b = c.args.basis.now in
     let e = read_at b.tree c.cells.result.now c.args.n c.index-cells-n.result (c.cells.ensures.all ∙ ap (λ b. b.tree.cells) c.basis.view_is) c.requires.cell c.index-cells-n.is in
     three_added g.row.P (row_of c.clear.new.cells) (row_of c.shift_down.new.into) (row_of c.add_v_entries.new.into) (row_of c.add_x_entries.new.into)
-    (shifted_down g.row.P (row_of c.args.parent.cells.now) (quadrant_of c.quadrant.result)) (v_rows g.row.P b c.args.n) (x_rows b c.args.n)
+    (shifted_down g.row.P (row_of c.args.parent.cells.now) (quadrant_of c.quadrant.result)) (v_rows_of g.row.P b c.args.n) (x_rows_of b c.args.n)
     (nothing_at g.row.P c.clear.new.cells (c.clear.auto.cells ∙ c.requires.len) c.clear.ensures) c.shift_down.ensures.adds c.add_v_entries.ensures.adds c.add_x_entries.ensures.adds k h
-    ∙ ap (λ z. add_box z (add_box (v_rows g.row.P b c.args.n k) (x_rows b c.args.n k)))
+    ∙ ap (λ z. add_box z (add_box (v_rows_of g.row.P b c.args.n k) (x_rows_of b c.args.n k)))
     (ap (λ q. shifted_down g.row.P (row_of c.args.parent.cells.now) q k)
     (quadrant_read c.quadrant.result (square c.index-cells-n.result) (right_of_parent (square c.index-cells-n.result) c.quadrant.result c.quadrant.ensures) (top_of_parent (square c.index-cells-n.result) c.quadrant.result c.quadrant.ensures) ∙ ap quadrant e))

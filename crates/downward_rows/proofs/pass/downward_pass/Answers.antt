@@ -72,6 +72,12 @@ returns-clause-local g c =
     let last : size b.tree ≤ c.loop-n.n = omega (arith, c.loop-n-test.false, ap (λ l. length l) c.cells-n-end.ensures.all, ap (λ b. length b.tree.cells) c.basis.view_is) in
     record { as_many = c.loop-n.auto.places ∙ c.requires.len; each = λ n lt. c.loop-n.invariant.local n (omega (arith, lt, last)) }
 
+pub returns-clause-each : goal.returns-clause-each
+returns-clause-each g c =
+    let b = c.args.basis.now in
+    let last : size b.tree ≤ c.loop-n.n = omega (arith, c.loop-n-test.false, ap (λ l. length l) c.cells-n-end.ensures.all, ap (λ b. length b.tree.cells) c.basis.view_is) in
+    λ n lt. c.loop-n.invariant.translations n (omega (arith, lt, last))
+
 pub returns-clause-translations : goal.returns-clause-translations
 returns-clause-translations g c =
     let b = c.args.basis.now in

@@ -64,6 +64,7 @@ returns g c =
       values = boxes_are g.row.P b is values long each;
       contains = all_contain g.row.P b is values long each;
       size = all_small g.row.P b is values long each;
+      each = λ k lt. (each k (omega (arith, lt, long))).pairs;
       pairs = all_pairs_are g.row.P b is values long each;
       few = all_pairs_few g.row.P b is values long each;
     }
