@@ -9,8 +9,8 @@ use Rattle.complex_box.specs.Box.{box_ends}
 use Rattle.complex_box.specs.Rows.{zero_cbox}
 use Rattle.complex_box.specs.declared.CBox.{CBox}
 use Rattle.field_basis.specs.FieldPlaces.{HasNoRow, IsLocalPlace, IsMultipolePlace, IsTargetBox}
-use Rattle.places.specs.Place.{PlaceModel, place_at, OthersStay as OtherPlacesStay}
-use Rattle.row_board.specs.Board.{IsBoard, IsOfField, IsZeroPlace, IsSamePlace, OthersStay}
+use Rattle.places.specs.Place.{PlaceModel, place_at, OthersStay}
+use Rattle.row_board.specs.Board.{IsBoard, IsOfField, IsZeroPlace, IsSamePlace, OtherPlacesStay}
 use Rattle.row_board.specs.Names.{IsName, is_filled}
 use Rattle.row_board.specs.Parts.{BoardParts}
 use Rattle.row_board.specs.declared.name.Name.{Name}
@@ -20,8 +20,7 @@ use Rattle.row_board.specs.declared.name.Name.TheVariants.{Up, Local, Value}
 pub record Fills (P : ℕ) (name : Name) (old new : BoardParts) : Type 0 where
   pub board : IsBoard P new
   pub filled : is_filled new name ≡ true
-  pub row : IsOfField P new name
-  pub others : OthersStay P name old new
+  pub others : OtherPlacesStay name old new
 
 same_or_other : (a b : Name) → (a ≡ b) ⊎ (a ≢ b)
 same_or_other (Up m) (Up n) = ⊎_elim (λ e. inl (ap Up e)) (λ ne. inr (λ e. ne (cc))) (cases_eq m n)
@@ -103,7 +102,6 @@ module _ (P : ℕ) (old : BoardParts) (up local : List PlaceModel) (values : Lis
         empty = now_empty;
       };
       filled = filled;
-      row = row;
       others = record { basis = refl; marks = marks; rows = rows };
     }
 
@@ -116,7 +114,7 @@ unmarked marks n m ne = get_or-set_other marks n m true false ne
 
 module _ (P : ℕ) (old : BoardParts) (is : IsBoard P old) where
   -- a multipole row
-  module _ (n : ℕ) (up : List PlaceModel) (stay : OtherPlacesStay n old.up up) where
+  module _ (n : ℕ) (up : List PlaceModel) (stay : OthersStay n old.up up) where
     up_marks : (other : Name) → other ≢ Up n → is_filled (with_up old n up) other ≡ is_filled old other
     up_marks (Up m) ne = unmarked old.has_up n m (λ e. ne (ap Up e))
     up_marks (Local m) ne = refl
@@ -134,7 +132,7 @@ module _ (P : ℕ) (old : BoardParts) (is : IsBoard P old) where
         (marked old.has_up n (omega (arith, named.0, is.up_marks))) row up_marks up_rows
 
   -- a local row and its radius
-  module _ (n : ℕ) (local : List PlaceModel) (stay : OtherPlacesStay n old.local local) where
+  module _ (n : ℕ) (local : List PlaceModel) (stay : OthersStay n old.local local) where
     local_marks : (other : Name) → other ≢ Local n → is_filled (with_local old n local) other ≡ is_filled old other
     local_marks (Up m) ne = refl
     local_marks (Local m) ne = unmarked old.has_local n m (λ e. ne (ap Local e))
@@ -171,14 +169,14 @@ module _ (P : ℕ) (old : BoardParts) (is : IsBoard P old) where
         (subst (IsTargetBox P old.basis k) (sym (get_or-set_same old.values k value zero_cbox (omega (arith, named, is.value_each)))) row) value_marks value_rows
 
   -- ---- the places and marks as they are kept
-  pub up_kept : (n : ℕ) (was up kept : List PlaceModel) → was ≡ old.up → (length up ≡ length was → kept ≡ up) → IsName old (Up n) → OtherPlacesStay n was up → IsMultipolePlace P old.basis.points old.basis.tree n (place_at up n) → Fills P (Up n) old (with_up old n kept)
+  pub up_kept : (n : ℕ) (was up kept : List PlaceModel) → was ≡ old.up → (length up ≡ length was → kept ≡ up) → IsName old (Up n) → OthersStay n was up → IsMultipolePlace P old.basis.points old.basis.tree n (place_at up n) → Fills P (Up n) old (with_up old n kept)
   up_kept n was up kept here same named stay row =
-      subst (λ (l : List PlaceModel). Fills P (Up n) old (with_up old n l)) (sym (same stay.as_many)) (up_fills n up (subst (λ (l : List PlaceModel). OtherPlacesStay n l up) here stay) named row)
+      subst (λ (l : List PlaceModel). Fills P (Up n) old (with_up old n l)) (sym (same stay.as_many)) (up_fills n up (subst (λ (l : List PlaceModel). OthersStay n l up) here stay) named row)
 
-  pub local_kept : (n : ℕ) (was local kept : List PlaceModel) → was ≡ old.local → (length local ≡ length was → kept ≡ local) → IsName old (Local n) → OtherPlacesStay n was local → IsLocalPlace P old.basis n (place_at local n) → Fills P (Local n) old (with_local old n kept)
+  pub local_kept : (n : ℕ) (was local kept : List PlaceModel) → was ≡ old.local → (length local ≡ length was → kept ≡ local) → IsName old (Local n) → OthersStay n was local → IsLocalPlace P old.basis n (place_at local n) → Fills P (Local n) old (with_local old n kept)
   local_kept n was local kept here same named stay row =
-      subst (λ (l : List PlaceModel). Fills P (Local n) old (with_local old n l)) (sym (same stay.as_many)) (local_fills n local (subst (λ (l : List PlaceModel). OtherPlacesStay n l local) here stay) named row)
+      subst (λ (l : List PlaceModel). Fills P (Local n) old (with_local old n l)) (sym (same stay.as_many)) (local_fills n local (subst (λ (l : List PlaceModel). OthersStay n l local) here stay) named row)
 
 -- what filling leaves of a board that is seen otherwise
-pub others_seen : (P : ℕ) (name : Name) (old seen new : BoardParts) → old ≡ seen → OthersStay P name old new → OthersStay P name seen new
-others_seen P name old seen new e h = subst (λ (b : BoardParts). OthersStay P name b new) e h
+pub others_seen : (name : Name) (old seen new : BoardParts) → old ≡ seen → OtherPlacesStay name old new → OtherPlacesStay name seen new
+others_seen name old seen new e h = subst (λ (b : BoardParts). OtherPlacesStay name b new) e h

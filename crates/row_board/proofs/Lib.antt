@@ -1,7 +1,9 @@
 -- What the proofs of this crate rest on.
 pub mod Children
 pub mod Empty
+pub mod FewCounts
 pub mod Fills
+pub mod FullBoard
 pub mod Missing
 pub mod Needed
 pub mod Values

@@ -19,7 +19,7 @@ use Rattle.row_board.specs.declared.name.Name.TheVariants.{Value}
 
 module _ (P : ℕ) (b : BoardParts) (is : IsBoard P b) where
   -- a mark that was read
-  pub value_mark : (k : ℕ) (mark : Bool) → k < length b.basis.targets → mark ≡ get_or b.has_value k mark → is_filled b (Value k) ≡ mark
+  value_mark : (k : ℕ) (mark : Bool) → k < length b.basis.targets → mark ≡ get_or b.has_value k mark → is_filled b (Value k) ≡ mark
   value_mark k mark lt e = get_or_default b.has_value k false mark (omega (arith, lt, is.value_marks)) ∙ sym e
 
   pub value_read : (k : ℕ) (mark : Bool) (value : CBox) → k < length b.basis.targets → mark ≡ get_or b.has_value k mark → mark ≡ true → value ≡ get_or b.values k value → IsTargetBox P b.basis k value

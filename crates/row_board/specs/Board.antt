@@ -4,6 +4,7 @@ use Rattle.exact_math.specs.Ends.{zero_box}
 use Rattle.complex_box.specs.Box.{box_ends}
 use Rattle.complex_box.specs.Counts.{Counts}
 use Rattle.complex_box.specs.Rows.{at}
+use Rattle.complex_box.specs.declared.CBox.{CBox}
 use Rattle.field_basis.specs.Basis.{IsBasis}
 use Rattle.field_basis.specs.Counts.{shifts_into, translations_into, pairs_of_target, translated, paired}
 use Rattle.field_basis.specs.FieldPlaces.{IsMultipolePlace, IsLocalPlace, HasNoRow, IsTargetBox}
@@ -32,6 +33,10 @@ IsSamePlace old new (Up n) = place_at new.up n ≡ place_at old.up n
 IsSamePlace old new (Local n) = place_at new.local n ≡ place_at old.local n
 IsSamePlace old new (Value k) = at new.values k ≡ at old.values k
 
+-- the box of the k-th target is filled, and is this one
+abbrev pub IsFilledBox : BoardParts → ℕ → CBox → Type 0
+IsFilledBox b k value = (is_filled b (Value k) ≡ true) × (value ≡ at b.values k)
+
 -- a board of points within their limits: there is a place for each row, only places with a name are filled, what is filled is what the field has, and the
 -- rest is zero
 pub record IsBoard (P : ℕ) (b : BoardParts) : Type 0 where
@@ -47,7 +52,7 @@ pub record IsBoard (P : ℕ) (b : BoardParts) : Type 0 where
   pub empty : (name : Name) → is_filled b name ≡ false → IsZeroPlace P b name
 
 -- nothing has changed but the place of the name
-pub record OthersStay (P : ℕ) (name : Name) (old new : BoardParts) : Type 0 where
+pub record OtherPlacesStay (name : Name) (old new : BoardParts) : Type 0 where
   pub basis : new.basis ≡ old.basis
   pub marks : (other : Name) → other ≢ name → is_filled new other ≡ is_filled old other
   pub rows : (other : Name) → other ≢ name → IsSamePlace old new other

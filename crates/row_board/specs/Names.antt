@@ -1,5 +1,5 @@
 -- The names of the places of a board, and what each needs.
-use Rattle.std.specs.Prelude.{◌<◌, ◌≡◌, Bool, true, false, cond, ◌==◌, List, [], ◌∷◌, ◌++◌, length, map, All, slice_index_or}
+use Rattle.std.specs.Prelude.{◌<◌, ◌≡◌, Bool, true, false, cond, ◌==◌, List, [], ◌∷◌, ◌++◌, length, map, All, slice_index_or, Option, MatchOption}
 use Rattle.cell_lists.specs.ListAt.{list_at}
 use Rattle.field_basis.specs.Basis.{target_leaf}
 use Rattle.quadtree.specs.TreeModel.{size, node_of}
@@ -36,3 +36,7 @@ pub record IsFirstMissing (b : BoardParts) (names : List Name) (missing : Name) 
   pub split : names ≡ before ++ missing ∷ behind
   pub filled : AreFilled b before
   pub is_missing : is_filled b missing ≡ false
+
+-- what a search among some names finds: nothing where all are filled, and otherwise the first that is not
+abbrev pub FindsMissing : BoardParts → List Name → Option Name → Type 0
+FindsMissing b names found = MatchOption found (AreFilled b names) (IsFirstMissing b names)

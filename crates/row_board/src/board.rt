@@ -1,11 +1,11 @@
 //! The board.
-ghost use Rattle.std.specs.Prelude.{◌≡◌, ◌^◌, true, false, IsTrue, ◌↔◌, MatchOption, IfSome};
+ghost use Rattle.std.specs.Prelude.{◌≡◌, ◌^◌, false, IsTrue, ◌↔◌, MatchOption, IfSome};
 ghost use Rattle.exact_math.specs.Units.{unit};
 ghost use Rattle.complex_box.specs.Box.{BoxWithin, BoxContains};
-ghost use Rattle.complex_box.specs.Rows.{at};
 ghost use Rattle.field_basis.specs.Basis.{target_place};
+ghost use Rattle.field_basis.specs.FieldPlaces.{IsTargetBox};
 ghost use Rattle.near_field.specs.DirectSum.{direct_sum};
-ghost use Rattle.row_board.specs.Board.{IsBoard, IsOfField};
+ghost use Rattle.row_board.specs.Board.{IsBoard, IsFilledBox};
 ghost use Rattle.row_board.specs.Names.{IsName, is_filled};
 
 use crate::name::Name;
@@ -64,12 +64,12 @@ impl<const P: usize> Board<P> {
         }
     }
 
-    /// The box of the k-th target, counted from 0, which contains the exact sum there; `None` where it isn't filled. Condition: there are more
+    /// The box of the k-th target, counted from 0, which contains the direct sum there; `None` where it isn't filled. Condition: there are more
     /// than `k` targets.
     pub fn value(&self, k: usize) -> Option<CBox>
         requires { IsName self.now (Name.Value k) }
-        ensures value { MatchOption result (is_filled self.now (Name.Value k) ≡ false) (λ value. (is_filled self.now (Name.Value k) ≡ true) × (value ≡ at self.now.values k)) }
-        ensures field { IfSome result (λ value. IsOfField P self.now (Name.Value k)) }
+        ensures value { MatchOption result (is_filled self.now (Name.Value k) ≡ false) (IsFilledBox self.now k) }
+        ensures field { IfSome result (λ value. IsTargetBox P self.now.basis k value) }
         ensures size { IfSome result (λ value. BoxWithin (2 ^ 84) value) }
         ensures contains { IfSome result (λ value. BoxContains unit value (direct_sum (target_place self.now.basis k) self.now.basis.points)) }
     {

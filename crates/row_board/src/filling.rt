@@ -1,9 +1,9 @@
 //! Filling a board.
-ghost use Rattle.std.specs.Prelude.{◌≡◌, ◌^◌, ◌<◌, true, false, length, ◌∷◌, map, All, MatchOption, MatchResult, IfErr, IsOk, OnOk};
+ghost use Rattle.std.specs.Prelude.{◌≡◌, ◌+◌, ◌^◌, ◌<◌, ◌≤◌, true, false, length, ◌∷◌, map, All, IfErr, IsOk, OnOk};
 ghost use Rattle.field_basis.specs.Counts.{paired, pairs_of_target, shifts_into, translated, translations_into};
 ghost use Rattle.quadtree.specs.TreeModel.{size};
-ghost use Rattle.row_board.specs.Board.{IsBoard, IsOfField, OthersStay, worked};
-ghost use Rattle.row_board.specs.Names.{IsName, is_filled, needs, AreFilled, IsFirstMissing};
+ghost use Rattle.row_board.specs.Board.{IsBoard, OtherPlacesStay, worked};
+ghost use Rattle.row_board.specs.Names.{IsName, is_filled, needs, AreFilled, IsFirstMissing, FindsMissing};
 
 use crate::board::Board;
 use crate::name::{Name, NotReady};
@@ -16,7 +16,7 @@ impl<const P: usize> Board<P> {
     fn first_missing(&self, cell: usize, far: &[u32]) -> Option<Name>
         requires cell { cell < size self.now.basis.tree }
         requires far { All (λ n. n < size self.now.basis.tree) far.now }
-        ensures { MatchOption result (AreFilled self.now (Name.Local cell ∷ map Name.Up far.now)) (IsFirstMissing self.now (Name.Local cell ∷ map Name.Up far.now)) }
+        ensures { FindsMissing self.now (Name.Local cell ∷ map Name.Up far.now) result }
     {
         if !self.has_local[cell] {
             return Some(Name::Local(cell));
@@ -30,7 +30,7 @@ impl<const P: usize> Board<P> {
     /// The first multipole row of a quarter of cell `n` that is missing.
     fn missing_quarter(&self, n: usize) -> Option<Name>
         requires { n < size self.now.basis.tree }
-        ensures { MatchOption result (AreFilled self.now (needs self.now (Name.Up n))) (IsFirstMissing self.now (needs self.now (Name.Up n))) }
+        ensures { FindsMissing self.now (needs self.now (Name.Up n)) result }
     {
         let basis = &self.basis;
         match first_unmarked_quarter(&basis.tree, &self.has_up, n) {
@@ -42,7 +42,7 @@ impl<const P: usize> Board<P> {
     /// The first row that the local row of cell `n` needs and that is missing.
     fn missing_for_local(&self, n: usize) -> Option<Name>
         requires { n < size self.now.basis.tree }
-        ensures { MatchOption result (AreFilled self.now (needs self.now (Name.Local n))) (IsFirstMissing self.now (needs self.now (Name.Local n))) }
+        ensures { FindsMissing self.now (needs self.now (Name.Local n)) result }
     {
         if n == 0 {
             return None;
@@ -54,7 +54,7 @@ impl<const P: usize> Board<P> {
     /// The first row that the box of the k-th target needs and that is missing.
     fn missing_for_value(&self, k: usize) -> Option<Name>
         requires { k < length self.now.basis.targets }
-        ensures { MatchOption result (AreFilled self.now (needs self.now (Name.Value k))) (IsFirstMissing self.now (needs self.now (Name.Value k))) }
+        ensures { FindsMissing self.now (needs self.now (Name.Value k)) result }
     {
         let basis = &self.basis;
         let leaf = basis.tree.leaf_of(basis.targets[k] as usize);
@@ -64,7 +64,7 @@ impl<const P: usize> Board<P> {
     /// The first row that is needed and missing.
     fn missing(&self, name: Name) -> Option<Name>
         requires { IsName self.now name }
-        ensures { MatchOption result (AreFilled self.now (needs self.now name)) (IsFirstMissing self.now (needs self.now name)) }
+        ensures { FindsMissing self.now (needs self.now name) result }
     {
         match name {
             Name::Up(n) => self.missing_quarter(n),
@@ -79,9 +79,8 @@ impl<const P: usize> Board<P> {
         requires ready { AreFilled self.old (needs self.old (Name.Up n)) }
         requires room { work.old.translations < 2 ^ 62 }
         ensures filled { is_filled self.new (Name.Up n) ≡ true }
-        ensures row { IsOfField P self.new (Name.Up n) }
         ensures board { IsBoard P self.new }
-        ensures others { OthersStay P (Name.Up n) self.old self.new }
+        ensures others { OtherPlacesStay (Name.Up n) self.old self.new }
         ensures work { work.new ≡ translated (shifts_into self.old.basis.points self.old.basis.tree n) work.old }
     {
         let basis = &self.basis;
@@ -95,9 +94,8 @@ impl<const P: usize> Board<P> {
         requires ready { AreFilled self.old (needs self.old (Name.Local n)) }
         requires room { work.old.translations < 2 ^ 62 }
         ensures filled { is_filled self.new (Name.Local n) ≡ true }
-        ensures row { IsOfField P self.new (Name.Local n) }
         ensures board { IsBoard P self.new }
-        ensures others { OthersStay P (Name.Local n) self.old self.new }
+        ensures others { OtherPlacesStay (Name.Local n) self.old self.new }
         ensures work { work.new ≡ translated (translations_into self.old.basis n) work.old }
     {
         downward_rows::fill_place(&self.basis, &self.up, n, &mut self.local, work);
@@ -110,9 +108,8 @@ impl<const P: usize> Board<P> {
         requires ready { AreFilled self.old (needs self.old (Name.Value k)) }
         requires room { work.old.pairs < 2 ^ 62 }
         ensures filled { is_filled self.new (Name.Value k) ≡ true }
-        ensures row { IsOfField P self.new (Name.Value k) }
         ensures board { IsBoard P self.new }
-        ensures others { OthersStay P (Name.Value k) self.old self.new }
+        ensures others { OtherPlacesStay (Name.Value k) self.old self.new }
         ensures work { work.new ≡ paired (pairs_of_target self.old.basis k) work.old }
     {
         self.values[k] = target_value(&self.basis, &self.up, &self.local, k, work);
@@ -132,13 +129,12 @@ impl<const P: usize> Board<P> {
         requires translations { work.old.translations < 2 ^ 62 }
         requires pairs { work.old.pairs < 2 ^ 62 }
         ensures stays { is_filled self.old name ≡ true → IsOk result × (self.new ≡ self.old) × (work.new ≡ work.old) }
-        ensures ready { is_filled self.old name ≡ false → MatchResult result (λ unit. AreFilled self.old (needs self.old name)) (λ e. IsFirstMissing self.old (needs self.old name) e.missing) }
-        ensures unchanged { IfErr result (λ e. (self.new ≡ self.old) × (work.new ≡ work.old)) }
+        ensures ready { OnOk result (is_filled self.old name ≡ false → AreFilled self.old (needs self.old name) × (work.new ≡ worked self.old name work.old)) }
+        ensures missing { IfErr result (λ e. IsFirstMissing self.old (needs self.old name) e.missing × (self.new ≡ self.old) × (work.new ≡ work.old)) }
         ensures filled { OnOk result (is_filled self.new name ≡ true) }
-        ensures row { OnOk result (IsOfField P self.new name) }
-        ensures others { OthersStay P name self.old self.new }
+        ensures others { OtherPlacesStay name self.old self.new }
         ensures board { IsBoard P self.new }
-        ensures work { OnOk result (is_filled self.old name ≡ false → work.new ≡ worked self.old name work.old) }
+        ensures few { (work.new.translations ≤ work.old.translations + 28) × (work.new.pairs ≤ work.old.pairs + length self.old.basis.points) }
     {
         if self.filled(name) {
             return Ok(());

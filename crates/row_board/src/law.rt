@@ -1,7 +1,8 @@
 //! The law of a full board. Nothing here runs: it is the contract of a function with an empty body.
 ghost use Rattle.row_board.specs.Laws.{FullBoard};
 
-/// Where every place of a board is filled, the boxes of the targets are those of the field, in whatever order the places were filled.
+/// Where every place of a board is filled, all rows and radii and the boxes of the targets are those of the field, in whatever order the places
+/// were filled.
 pub fn full_board()
     ensures { FullBoard }
 {}

@@ -45,8 +45,12 @@ fn no_marks(alloc: Global, count: usize) -> Result<Vec<bool>, AllocError>
 impl<const P: usize> Board<P> {
     /// The board of a list of points with a leaf capacity, with no place filled.
     ///
-    /// The list is within the limits of its text, `P` is one of the orders, and the capacity is 8 to 1024. Where more than 4,096 points stand at
-    /// one place, `Crowded` has the first such place by column and row. Otherwise, where the tree has more than 65,536 cells, it is `Cells`.
+    /// Conditions: the list is within the limits of its text, `P` is one of the orders, and the capacity is 8 to 1024.
+    ///
+    /// # Errors
+    ///
+    /// Where more than 4,096 points stand at one place, `Crowded` has the first such place by column and row, and how many they are; otherwise,
+    /// where the tree has more than 65,536 cells, it is `Cells`. `Memory` is want of memory.
     pub fn new(alloc: Global, points: &Points, cap: u32) -> Result<Board<P>, TreeFault>
         requires list { WithinLimits points.now.mode points.now.list }
         requires order { IsOrder P }

@@ -44,7 +44,7 @@ pub invariant_of-self : goal.invariant_of-self
 invariant_of-self g c = (made g c).board
 
 pub returns-clause-others : goal.returns-clause-others
-returns-clause-others g c = others_seen _ _ _ _ _ c.self.view_is (made g c).others
+returns-clause-others g c = others_seen _ _ _ _ c.self.view_is (made g c).others
 
 pub returns-clause-board : goal.returns-clause-board
 returns-clause-board g c = (made g c).board

@@ -36,11 +36,8 @@ made g c =
 pub invariant_of-self : goal.invariant_of-self
 invariant_of-self g c = (made g c).board
 
-pub returns-clause-row : goal.returns-clause-row
-returns-clause-row g c = (made g c).row
-
 pub returns-clause-others : goal.returns-clause-others
-returns-clause-others g c = others_seen _ _ _ _ _ c.self.view_is (made g c).others
+returns-clause-others g c = others_seen _ _ _ _ c.self.view_is (made g c).others
 
 pub returns-clause-board : goal.returns-clause-board
 returns-clause-board g c = (made g c).board

@@ -1,11 +1,11 @@
 -- The parent's row first, then those of the V list.
 use Rattle.std.proofs.Common.{◌<◌, ◌∷◌, map, ap, ap₂, ◌∙◌, sym, subst, arith, lit<}
-use Rattle.std.specs.Prelude.{All, MatchOption}
+use Rattle.std.specs.Prelude.{All}
 use Rattle.letters.specs.declared.Letter.TheVariants.{V}
 use Rattle.cell_lists.specs.ListAt.{list_at}
 use Rattle.field_basis.specs.Basis.{BasisModel}
 use Rattle.quadtree.specs.TreeModel.{size, node_of}
-use Rattle.row_board.specs.Names.{AreFilled, IsFirstMissing}
+use Rattle.row_board.specs.Names.{FindsMissing}
 use Rattle.row_board.specs.declared.name.Name.TheVariants.{Up, Local}
 use Rattle.row_board.proofs.Missing.{same_basis, needs_below, listed, numbers}
 use Rattle.row_board.proofs.board.Board.missing_for_local.Goals as goal
@@ -25,6 +25,6 @@ pub returns : goal.returns
 returns g c =
     let n = c.args.n in
     let e = same_basis _ _ _ c.basis.view_is c.self.view_is in
-    subst (λ names. MatchOption c.first_missing.result (AreFilled c.args.self.now names) (IsFirstMissing c.args.self.now names))
+    subst (λ names. FindsMissing c.args.self.now names c.first_missing.result)
     (ap₂ (λ m l. Local m ∷ map Up l) (c.parent.ensures ∙ ap (λ (b : BasisModel). (node_of b.tree n).parent) e) (c.v_list.ensures ∙ ap (λ (b : BasisModel). list_at b.lists.v n) e) ∙ sym (needs_below c.args.self.now n c.if-n-eq0.false))
     c.first_missing.ensures
