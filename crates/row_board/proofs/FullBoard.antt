@@ -32,6 +32,7 @@ module _ (P : ℕ) (b : BoardParts) (is : IsBoard P b) (full : IsFull b) where
           let source = (nodes_of_tree b.basis.tree b.basis.points cap (in_grid b.basis.points is.basis_is.tree_is.tree_is.range) is_tree n lt).source in
           let cell = tree_cell_at b.basis.tree b.basis.points cap n is_tree lt in
           zero.row_is k h ∙ sym (multipole_row-zero b.basis.points cap (square_of b.basis.tree n) (omega (arith, cell.level_in_grid, cell.of_grid)) (sym source ∙ none) k);
+      radius_is = zero.radius_is;
     }
 
     multipole_place : IsMultipolePlace P b.basis.points b.basis.tree n (place_at b.up n)
