@@ -1,5 +1,5 @@
 //! The field that a solve gives.
-ghost use Rattle.std.specs.Prelude.{◌≡◌, ◌^◌, ◌<◌, true, false, length, pos, MatchOption};
+ghost use Rattle.std.specs.Prelude.{◌≡◌, ◌^◌, ◌<◌, true, false, length, pos, IfSome, MatchOption};
 ghost use Rattle.complex_box.specs.Box.{BoxWithin};
 ghost use Rattle.complex_box.specs.Rows.{at};
 ghost use Rattle.places.specs.Place.{place_at};
@@ -61,7 +61,8 @@ impl<const P: usize> Field<P> {
     /// The multipole row of cell `n`; `None` where the cell has no source. Condition: `n` is a cell's number.
     pub fn up(&self, n: usize) -> Option<Row<P>>
         requires { n < size self.now.basis.tree }
-        ensures { MatchOption result ((node_of self.now.basis.tree n).has_source ≡ false) (λ row. ((node_of self.now.basis.tree n).has_source ≡ true) × (row.cells.now ≡ (place_at self.now.up n).row)) }
+        ensures has { MatchOption result ((node_of self.now.basis.tree n).has_source ≡ false) (λ row. (node_of self.now.basis.tree n).has_source ≡ true) }
+        ensures row { IfSome result (λ row. row.cells.now ≡ (place_at self.now.up n).row) }
     {
         if !self.basis.tree.has_source(n) {
             return None;
@@ -72,7 +73,8 @@ impl<const P: usize> Field<P> {
     /// The local row of cell `n`; `None` where the cell has no target. Condition: `n` is a cell's number.
     pub fn local(&self, n: usize) -> Option<Row<P>>
         requires { n < size self.now.basis.tree }
-        ensures { MatchOption result ((node_of self.now.basis.tree n).has_target ≡ false) (λ row. ((node_of self.now.basis.tree n).has_target ≡ true) × (row.cells.now ≡ (place_at self.now.local n).row)) }
+        ensures has { MatchOption result ((node_of self.now.basis.tree n).has_target ≡ false) (λ row. (node_of self.now.basis.tree n).has_target ≡ true) }
+        ensures row { IfSome result (λ row. row.cells.now ≡ (place_at self.now.local n).row) }
     {
         if !self.basis.tree.has_target(n) {
             return None;
