@@ -24,7 +24,8 @@ use Rattle.field_basis.specs.FieldPlaces.{AreSameRows, HasLocalPlace, HasLocalRo
 use Rattle.downward_rows.specs.Entries.{row_below}
 use Rattle.downward_rows.specs.Radii.{v_losses_of, x_losses_of}
 use Rattle.downward_rows.proofs.FieldRows.{row_is, radius_is}
-use Rattle.downward_rows.proofs.FieldSizes.{some_lists, local_small, radius_small}
+use Rattle.field_basis.proofs.Sizes.{some_lists}
+use Rattle.downward_rows.proofs.FieldSizes.{local_small, radius_small}
 use Rattle.downward_rows.proofs.Trees.{target_of_parent}
 use mir.Syntax.{w128}
 

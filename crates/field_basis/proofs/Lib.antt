@@ -2,4 +2,5 @@
 pub mod CellWeights
 pub mod PlaceSums
 pub mod Positions
+pub mod Sizes
 pub mod Trees

@@ -13,7 +13,7 @@ pub const FAR_TARGET: Ends = (
 );
 
 /// There is a row, and its boxes are the known ones.
-pub fn row_is(rt: &impl Abort, row: Option<Row<4>>, known: &[Ends; 4]) {
+pub fn has_row(rt: &impl Abort, row: Option<Row<4>>, known: &[Ends; 4]) {
     match row {
         Some(row) => {
             for k in 0..4usize {

@@ -1,5 +1,5 @@
 //! Rows that are known from elsewhere.
-use crate::compare::{NINE_CHARGES, row_is};
+use crate::compare::{NINE_CHARGES, has_row};
 use solve_phase::solve;
 use std::test::Fail;
 use test_points::points_of;
@@ -16,7 +16,7 @@ fn multipole_rows(rt: HostRuntime) -> Result<(), Fail> {
     let quarter = 2_473_901_162_496;
     let nothing = ((0, 0), (0, 0));
     let root = [((nine, nine), (0, 0)), nothing, nothing, nothing];
-    row_is(&rt, field.up(0), &root);
+    has_row(&rt, field.up(0), &root);
     // the targets' cell of level 15, and the charges' cell of level 16
     assert!(rt; field.up(16).is_none());
     let leaf = [
@@ -25,7 +25,7 @@ fn multipole_rows(rt: HostRuntime) -> Result<(), Fail> {
         ((0, 0), (half, half)),
         ((quarter, quarter), (-quarter, -quarter)),
     ];
-    row_is(&rt, field.up(17), &leaf);
+    has_row(&rt, field.up(17), &leaf);
     Ok(())
 }
 
@@ -53,7 +53,7 @@ fn local_rows(rt: HostRuntime) -> Result<(), Fail> {
             (-168_884_986_027, -168_884_986_025),
         ),
     ];
-    row_is(&rt, field.local(15), &row);
+    has_row(&rt, field.local(15), &row);
     assert_eq!(rt; (field.radius(14), field.radius(15)), (0, 13_668_646_683));
     Ok(())
 }

@@ -10,7 +10,7 @@ use Rattle.quadtree.specs.TreeModel.{size, square_of, node_of}
 use Rattle.tree_field.proofs.MultipoleRows.{multipole_row-zero}
 use Rattle.tree_field.proofs.Program.{nodes_of_tree}
 use Rattle.row_board.specs.Board.{IsBoard, IsOfField, IsZeroPlace}
-use Rattle.row_board.specs.Laws.{IsFull, HoldsField}
+use Rattle.row_board.specs.Laws.{IsFull, HoldsWholeField}
 use Rattle.row_board.specs.Names.{IsName, is_filled}
 use Rattle.row_board.specs.Parts.{BoardParts}
 use Rattle.row_board.specs.declared.name.Name.{Name}
@@ -53,7 +53,7 @@ module _ (P : ℕ) (b : BoardParts) (is : IsBoard P b) (full : IsFull b) where
         (λ f. without_target f (place_at b.local n) (zero_of (Local n) (λ named. true≢false (sym named.1 ∙ f))))
         (cases_Bool (node_of b.basis.tree n).has_target)
 
-  pub holds_field : HoldsField P b
+  pub holds_field : HoldsWholeField P b
   holds_field = record {
     up_are = record { as_many = is.up_each; each = multipole_place };
     local_are = record { as_many = is.local_each; each = local_place };

@@ -11,12 +11,11 @@ use Rattle.downward_rows.specs.Translations.{all_translations_into}
 use Rattle.field_basis.specs.Basis.{BasisModel, IsBasis}
 use Rattle.field_basis.specs.FieldPlaces.{AreAllMultipolePlaces, AreAllLocalPlaces, AreTargetBoxes, AreAllPairs}
 use Rattle.field_basis.proofs.Positions.{few_positions}
+use Rattle.field_basis.proofs.Sizes.{inside}
 use Rattle.letters.specs.declared.Letter.TheVariants.{V}
 use Rattle.places.specs.Place.{PlaceModel, all_translations}
 use Rattle.places.specs.Target.{TargetModel, all_pairs, values_of}
 use Rattle.points.specs.declared.Point.{Point}
-use Rattle.quadtree.proofs.Limits.{in_grid}
-use Rattle.quadtree.specs.Tree.{AreInGrid}
 use Rattle.quadtree.specs.TreeModel.{squares, size, node_of}
 use Rattle.tree_field.proofs.Work.{sources_counted, work_of_tree, translations_are_few}
 use Rattle.tree_field.specs.Lists.{TreeLists, AreTreeLists}
@@ -26,9 +25,6 @@ use Rattle.solve_phase.specs.Field.{IsSolved}
 use Rattle.solve_phase.specs.Parts.{FieldParts, FitTogether}
 
 module _ (P : ℕ) (b : BasisModel) (is : IsBasis P b) where
-  inside : AreInGrid 16 b.points
-  inside = in_grid b.points is.tree_is.tree_is.range
-
   -- ---- how many translations and pairs there are at most
   pub few_up : (n : ℕ) → n ≡ count_by (is_shifted b.points) (squares b.tree) → n ≤ 65536
   few_up n e = let c = count_by-le-length (is_shifted b.points) (squares b.tree) in omega (arith, e, c, length-map b.tree.cells square, is.is_tree.few)
@@ -68,9 +64,9 @@ module _ (P : ℕ) (b : BasisModel) (is : IsBasis P b) where
         up_are = up_are;
         local_are = local_are;
         over = λ lists are.
-            let work = work_of_tree b.tree b.lists b.points b.cap lists inside is.is_tree is.tree_is.lists_are are in
+            let work = work_of_tree b.tree b.lists b.points b.cap lists (inside P b is) is.is_tree is.tree_is.lists_are are in
             let total : all_translations up + all_translations local ≡ translations b.points lists =
-            ap₂ (λ m n. m + n) (ups ∙ sources_counted b.tree b.points b.cap inside is.is_tree) locals ∙ sym work.translations_are in
+            ap₂ (λ m n. m + n) (ups ∙ sources_counted b.tree b.points b.cap (inside P b is) is.is_tree) locals ∙ sym work.translations_are in
             record {
               values_are = boxes lists are;
               translations_are = total;

@@ -16,7 +16,7 @@ use Rattle.field_basis.proofs.Positions.{IsTargetPosition, position_at, leaf_at_
 use Rattle.field_basis.specs.Basis.{BasisModel, IsBasis, target_of, target_place, target_leaf}
 use Rattle.field_basis.specs.FieldPlaces.{HasLocalRow, IsLocalPlace, IsMultipolePlace, IsTargetBox}
 use Rattle.field_basis.specs.Targets.{no_point, point_at}
-use Rattle.field_sizes.proofs.Bounds.{rows_within, boxes_within}
+use Rattle.field_sizes.proofs.Bounds.{boxes_within}
 use Rattle.field_sizes.specs.Sizes.{IsLimited, RowsWithin}
 use Rattle.letters.specs.declared.Letter.{Letter}
 use Rattle.letters.specs.declared.Letter.TheVariants.{U, W}
@@ -38,23 +38,14 @@ use Rattle.tree_field.proofs.EachList.{each_list_has_tree}
 use Rattle.tree_field.proofs.Program.{lists_of_tree, leaves_of_tree}
 use Rattle.tree_field.proofs.Sums.{total_box-map, sum_by-map}
 use Rattle.tree_field.proofs.Whole.{field_contains}
-use Rattle.target_values.proofs.Numbers.{inside}
+use Rattle.field_basis.proofs.Sizes.{inside, some_lists, limited, within}
 use Rattle.target_values.proofs.SameValues.{local_value-same}
 use Rattle.target_values.specs.Values.{value_of_cell, loss_of_cell, pairs_of_cell}
 
 module _ (P : ℕ) (b : BasisModel) (is : IsBasis P b) where
-  pub some_lists : (lists : TreeLists) × AreTreeLists 16 b.points b.cap lists
-  some_lists = each_list_has_tree 16 b.points b.cap (lit< tt) (inside P b is)
-
   -- ---- how large rows are
-  pub limited : (lists : TreeLists) → AreTreeLists 16 b.points b.cap lists → IsLimited b.points b.cap lists
-  limited lists are = record { in_grid = inside P b is; light = is.tree_is.tree_is.light; lists_are = are }
-
-  within : (n : ℕ) → n < size b.tree → RowsWithin b.points b.cap P some_lists.0 (square_of b.tree n)
-  within n lt = rows_within b.points b.cap P some_lists.0 is.order (limited some_lists.0 some_lists.1) (square_of b.tree n) (tree_cell_at b.tree b.points b.cap n is.is_tree lt)
-
   pub multipole_small : (n : ℕ) → n < size b.tree → (place : PlaceModel) → IsMultipolePlace P b.points b.tree n place → RowWithin P (2 ^ 74) (row_of place.row)
-  multipole_small n lt place here k l = subst (BoxEndsWithin (2 ^ 74)) (sym (here.row_is b.cap is.is_tree k l)) ((within n lt).multipole k l)
+  multipole_small n lt place here k l = subst (BoxEndsWithin (2 ^ 74)) (sym (here.row_is b.cap is.is_tree k l)) ((within P b is n lt).multipole k l)
 
   -- ---- the entries of a cell, by the numbers of their cells
   module _ (lists : TreeLists) (are : AreTreeLists 16 b.points b.cap lists) (n : ℕ) (lt : n < size b.tree) where
@@ -106,7 +97,7 @@ module _ (P : ℕ) (b : BasisModel) (is : IsBasis P b) where
       row_here lists are = here.with_target (has_target b.points b.cap b.tree is.is_tree (get_or b.targets k 0) position) lists are
 
       pub local_small : RowWithin P (2 ^ 82) (row_of place.row)
-      local_small i l = subst (BoxEndsWithin (2 ^ 82)) (sym ((row_here some_lists.0 some_lists.1).row_is i l)) ((within (target_leaf b k) leaf_is.in_range).local i l)
+      local_small i l = subst (BoxEndsWithin (2 ^ 82)) (sym ((row_here (some_lists P b is).0 (some_lists P b is).1).row_is i l)) ((within P b is (target_leaf b k) leaf_is.in_range).local i l)
 
       -- the box that the parts make
       abbrev parts_make : BoxEnds
@@ -128,11 +119,11 @@ module _ (P : ℕ) (b : BasisModel) (is : IsBasis P b) where
 
     pub box_contains : (value : CBox) → IsTargetBox P b k value → BoxContains unit value (direct_sum (target_place b k) b.points)
     box_contains value h =
-        subst (λ e. BoxEndsContain unit e (direct_sum (target_place b k) b.points)) (sym (h some_lists.0 some_lists.1))
-        (at_target (λ t. BoxEndsContain unit (target_box b.points b.cap P some_lists.0 16 (place t)) (direct_sum (place t) b.points))
-        (field_contains 16 b.points b.cap P some_lists.0 (lit< tt) (order_bounds P is.order).0 (inside P b is) some_lists.1) k lt)
+        subst (λ e. BoxEndsContain unit e (direct_sum (target_place b k) b.points)) (sym (h (some_lists P b is).0 (some_lists P b is).1))
+        (at_target (λ t. BoxEndsContain unit (target_box b.points b.cap P (some_lists P b is).0 16 (place t)) (direct_sum (place t) b.points))
+        (field_contains 16 b.points b.cap P (some_lists P b is).0 (lit< tt) (order_bounds P is.order).0 (inside P b is) (some_lists P b is).1) k lt)
 
     pub box_small : (value : CBox) → IsTargetBox P b k value → BoxWithin (2 ^ 84) value
     box_small value h =
-        subst (BoxEndsWithin (2 ^ 84)) (sym (h some_lists.0 some_lists.1))
-        (at_target (λ t. BoxEndsWithin (2 ^ 84) (target_box b.points b.cap P some_lists.0 16 (place t))) (boxes_within b.points b.cap P some_lists.0 is.order (limited some_lists.0 some_lists.1)) k lt)
+        subst (BoxEndsWithin (2 ^ 84)) (sym (h (some_lists P b is).0 (some_lists P b is).1))
+        (at_target (λ t. BoxEndsWithin (2 ^ 84) (target_box b.points b.cap P (some_lists P b is).0 16 (place t))) (boxes_within b.points b.cap P (some_lists P b is).0 is.order (limited P b is (some_lists P b is).0 (some_lists P b is).1)) k lt)

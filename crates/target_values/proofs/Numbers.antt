@@ -11,13 +11,12 @@ use Rattle.cell_lists.specs.EntryLists.{lists_of}
 use Rattle.cell_lists.specs.Lists.{IsListOf}
 use Rattle.cell_lists.specs.ListAt.{list_at}
 use Rattle.field_basis.proofs.CellWeights.{position_inside}
+use Rattle.field_basis.proofs.Sizes.{inside}
 use Rattle.field_basis.specs.Basis.{BasisModel, IsBasis}
 use Rattle.letters.specs.declared.Letter.{Letter}
 use Rattle.points.specs.Limits.{most_points}
 use Rattle.quadtree.specs.Members.{holds_position}
-use Rattle.quadtree.specs.Tree.{AreInGrid}
 use Rattle.quadtree.specs.TreeModel.{size, square_of, node_of}
-use Rattle.quadtree.proofs.Limits.{in_grid}
 
 -- ascending numbers below n are no more than n
 few_below : (n : ℕ) (xs : List ℕ) → All (λ x. x < n) xs → IsStrictlyIncreasing xs → length xs ≤ n
@@ -37,13 +36,10 @@ few_below n (x ∷ xs) below up =
         omega (arith, next, f, h)
 
 module _ (P : ℕ) (b : BasisModel) (is : IsBasis P b) where
-  pub inside : AreInGrid 16 b.points
-  inside = in_grid b.points is.tree_is.tree_is.range
-
   -- ---- a list of entries, as it is read
   module _ (letter : Letter) (n : ℕ) (lt : n < size b.tree) (items : List ℕ) (are : items ≡ list_at (lists_of b.lists letter) n) where
     list_of : IsListOf b.tree b.points b.cap letter n items
-    list_of = subst (IsListOf b.tree b.points b.cap letter n) (sym are) (is.tree_is.lists_are.each b.points b.cap inside is.is_tree letter n lt)
+    list_of = subst (IsListOf b.tree b.points b.cap letter n) (sym are) (is.tree_is.lists_are.each b.points b.cap (inside P b is) is.is_tree letter n lt)
 
     pub number_below : (i : ℕ) → i < length items → get_or items i 0 < size b.tree
     number_below i l = list_of.numbers i 0 l

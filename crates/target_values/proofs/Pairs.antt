@@ -25,7 +25,7 @@ use Rattle.field_basis.specs.Basis.{BasisModel, IsBasis}
 use Rattle.field_basis.specs.Counts.{count_apart, sources_at}
 use Rattle.field_basis.specs.Targets.{no_point, point_at, target_positions}
 use Rattle.field_basis.proofs.Positions.{targets_at, IsTargetPosition, positions_are, leaf_at_position}
-use Rattle.target_values.proofs.Numbers.{inside}
+use Rattle.field_basis.proofs.Sizes.{inside}
 use Rattle.target_values.proofs.Sums.{sum_by-exchange, sum_by-filter, sum_by-one}
 use Rattle.target_values.specs.Values.{count_of_cell}
 

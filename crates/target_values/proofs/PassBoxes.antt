@@ -25,9 +25,8 @@ use Rattle.points.specs.declared.Point.{Point}
 use Rattle.quadtree.specs.TreeModel.{leaf_of}
 use Rattle.tree_field.specs.Field.{target_box, targets}
 use Rattle.tree_field.proofs.Whole.{field_contains}
-use Rattle.target_values.proofs.FieldBox.{some_lists, limited}
 use Rattle.target_values.proofs.PairBounds.{few_pairs}
-use Rattle.target_values.proofs.Numbers.{inside}
+use Rattle.field_basis.proofs.Sizes.{inside, some_lists, limited}
 use Rattle.target_values.proofs.Pairs.{count_at, pairs_are}
 
 -- ---- lists whose images are the same

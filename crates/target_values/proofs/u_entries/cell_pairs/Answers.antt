@@ -13,7 +13,8 @@ use Rattle.quadtree.specs.TreeModel.{node_of}
 use Rattle.soundness.specs.Computed.{total_box}
 use Rattle.tree_field.proofs.Program.{nodes_of_tree}
 use Rattle.target_values.proofs.PairSums.{sources, ends-step, count-step, one_at_most, paired_again}
-use Rattle.target_values.proofs.Numbers.{inside, few_members, member_below}
+use Rattle.field_basis.proofs.Sizes.{inside}
+use Rattle.target_values.proofs.Numbers.{few_members, member_below}
 use Rattle.target_values.proofs.Read.{point_read}
 use Rattle.target_values.proofs.u_entries.cell_pairs.Goals as goal
 
