@@ -2,11 +2,10 @@
 use Rattle.std.proofs.Common.{ℕ, ◌≡◌, ◌+◌, ◌-◌, ◌<◌, ◌≤◌, zero, suc, inl, inr, List, length, Bool, true, false, cond, refl, sym, ap, ◌∙◌, subst, arith}
 use Rattle.std.specs.Prelude.{◌==◌, Contains}
 use Rattle.std.proofs.lemmas.Bool.{cases_lt, or_cases, or_right, ltb-true, ltb-false, eqb-true}
-use Rattle.std.proofs.lemmas.List.Elements.{All-contains}
 use mathlib.Core.Logic.{⊎_elim}
 use Rattle.points.specs.declared.Point.{Point}
 use Rattle.points.specs.Points.{place}
-use Rattle.cell_name.specs.Square.{Square, parent, IsInGrid, Holds, holds_test}
+use Rattle.cell_name.specs.Square.{Square, parent, Holds, holds_test}
 use Rattle.cell_name.proofs.Cells.{Holds-square_at, Holds-parent, parent-square_at}
 use Rattle.cell_name.proofs.HoldsTest.{Holds-from_test, test-from_Holds}
 use Rattle.cell_lists.proofs.OneEntry.{cell_is, listed}
