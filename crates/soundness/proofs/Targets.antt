@@ -1,7 +1,7 @@
 -- Each target's box contains the direct sum: what the path of its leaf holds, the values of the W entries and the pairs of the U entries have each source once.
-use Rattle.std.proofs.Common.{◌≡◌, sym, ap₂, subst, ◌∙◌, ℕ, ◌+◌, ◌^◌, ◌<◌, ◌≤◌, true, ◌&&◌, List, get_or}
-use Rattle.std.specs.Prelude.{◌==◌, pos, All, sum_by}
-use Rattle.std.specs.List.{count_by}
+use Rattle.std.proofs.Common.{◌≡◌, sym, ap₂, subst, ◌∙◌, ℕ, ◌+◌, ◌^◌, ◌<◌, ◌≤◌, arith, true, ◌&&◌, List, get_or}
+use Rattle.std.specs.Prelude.{◌==◌, pos, sum_by}
+use Rattle.std.proofs.lemmas.List.Folds.{list_any_at}
 use Rattle.exact_math.specs.Ends.{add_box, widen_box}
 use Rattle.exact_math.specs.Gaussian.{Gaussian}
 use Rattle.exact_math.proofs.RingTactic.{quotes, ring1, ring5}
@@ -25,7 +25,7 @@ use Rattle.soundness.proofs.Choices.{when, sum_list-filter_and, sum_list-once}
 use Rattle.soundness.proofs.Entries.{multipole_sum, multipole_held, multipole_near}
 use Rattle.soundness.proofs.Fields.{Local-value}
 use Rattle.soundness.proofs.Multipoles.{multipoles_held}
-use Rattle.soundness.proofs.Nodes.{under-self}
+use Rattle.soundness.proofs.Nodes.{under-self, under-le}
 use Rattle.soundness.proofs.Paths.{IsOn, entries_on, sources_held, terms_of, pair_cuts, far_cuts, on_path, local_held, path_near}
 use Rattle.soundness.proofs.Terms.{term_in_units, pair_holds, direct_sum-stands, direct_sum-in_units}
 
@@ -130,10 +130,16 @@ boxes_contain P A order rules k d i =
     contained_from_enclosed (pos (2 ^ 40)) target.box (direct_sum-stands target.place (points_of A.sources))
     (subst (EnclosesBox target.box) (sym (direct_sum-in_units target.place A.sources))
     (EnclosesBox-inside (rules.boxes k d i)
-    (box_held P A order rules target.place target.leaf far (rules.targets k d i).in_range (rules.targets k d i).held (rules.locals k d i) (rules.tiled k d i))))
+    (box_held P A order rules target.place target.leaf far (rules.targets k d i).in_range (rules.targets k d i).held locals (rules.tiled k d i))))
   where
     target : LeafTarget
     target = get_or A.targets k d
+
+    locals : (n : ℕ) → under A.parent target.leaf n ≡ true → LocalHolds P A n
+    locals n u =
+        let l = under-le A.parent rules.root rules.parents target.leaf n u in
+        let r = (rules.targets k d i).in_range in
+        rules.locals n (omega (arith, l, r)) (list_any_at (λ t. under A.parent t.leaf n) A.targets k d i u)
 
     far : (e : Entry) → IsOn A W target.leaf e → IsFarFrom (A.cell e.c) target.place
     far e h = h.apart k d i (under-self A.parent rules.root rules.parents target.leaf)

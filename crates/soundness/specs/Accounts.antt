@@ -14,7 +14,7 @@ pub record LeafSource : Type 0 where
   pub point : Point
   pub leaf : ℕ
 
--- a target's place with its leaf and its box
+-- A target's place with its leaf and its box. In the tree of a list it stands in a leaf; the rules let `leaf` be any node whose cell has the place.
 pub record LeafTarget : Type 0 where
   pub place : Gaussian
   pub leaf : ℕ
@@ -62,6 +62,10 @@ module _ (A : Accounting) where
   -- the sources in the leaves under a node
   abbrev pub sources_under : ℕ → List LeafSource
   sources_under n = filter (λ x. under A.parent x.leaf n) A.sources
+
+  -- some target's leaf is under a node
+  abbrev pub has_target_under : ℕ → Bool
+  has_target_under n = list_any (λ t. under A.parent t.leaf n) A.targets
 
   -- the entries of a letter whose b is the node
   abbrev pub entries_of : Letter → ℕ → List Entry

@@ -1,6 +1,6 @@
 -- What the entries of a cell add to its row, to its radius and to the box of a place, at order P: one step each, for whatever names the entries, with the rows, cells, sources and
 -- weights of these given. The field is the recursion of these steps over a tree, and the rules of an accounting include them.
-use Rattle.std.specs.Prelude.{ℕ, ◌+◌, pos, List, fold, sum_by}
+use Rattle.std.specs.Prelude.{ℕ, pos, List, fold, sum_by}
 use Rattle.exact_math.specs.Ends.{BoxEnds, zero_box, add_box, widen_box}
 use Rattle.exact_math.specs.Gaussian.{Gaussian}
 use Rattle.cell_name.specs.Square.{Square, side}

@@ -17,8 +17,8 @@ use Rattle.points.specs.declared.Point.{Point}
 use Rattle.quadtree.specs.Tree.{AreInGrid, IsSplit, IsLeaf}
 use Rattle.quadtree.proofs.Distinct.{Contains-filter}
 use Rattle.row_recursions.proofs.Geometry.{held_places}
-use Rattle.soundness.specs.Accounts.{LeafSource, LeafTarget, Accounting, under, is_leaf, accounts, points_of}
-use Rattle.soundness.specs.Rules.{SourceStands, TargetStands, IsTiled, LocalHolds, BoxHolds, Rules}
+use Rattle.soundness.specs.Accounts.{LeafSource, LeafTarget, Accounting, under, is_leaf, has_target_under, accounts, points_of}
+use Rattle.soundness.specs.Rules.{SourceStands, TargetStands, IsTiled, BoxHolds, Rules}
 use Rattle.soundness.specs.Squares.{IsIn}
 use Rattle.soundness.proofs.Inside.{BoxEndsInside-same, RowInside-same}
 use Rattle.soundness.proofs.Nodes.{under-self}
@@ -29,10 +29,10 @@ use Rattle.tree_field.specs.Field.{targets, box_in, target_box}
 use Rattle.tree_field.specs.Work.{is_target_in, has_target}
 use Rattle.tree_field.proofs.Accounts.{leaf_number, leaf_source, leaf_target, sources, accounting}
 use Rattle.tree_field.proofs.Entries.{entries_in_range, entries_apart, accounted_once}
-use Rattle.tree_field.proofs.Leaves.{leaf_is, leaf_holds, leaf_number_below, cell_of_leaf, under_is_holding, under_in_range}
+use Rattle.tree_field.proofs.Leaves.{leaf_is, leaf_holds, leaf_number_below, cell_of_leaf, under_is_holding}
 use Rattle.tree_field.proofs.LocalRows.{local_rows_same, radii_same, boxes_same}
-use Rattle.quadtree.proofs.Lists.{All-from_members, filter-filter}
-use Rattle.tree_field.proofs.Members.{list_any-member}
+use Rattle.quadtree.proofs.Lists.{All-from_members, filter-filter, image_of}
+use Rattle.tree_field.proofs.Members.{found, list_any-member}
 use Rattle.tree_field.proofs.MultipoleRows.{split_from_node, leaf_rows_same, inner_rows_same}
 use Rattle.tree_field.proofs.Numbers.{cell_at, above, tree_cell, level_positive, above_root, above_first, cell_above}
 
@@ -79,15 +79,18 @@ module _ (grid : ℕ) (points : List Point) (cap P : ℕ) (lists : TreeLists) (p
   All-sources : (Q : LeafSource → Type 0) → ((p : Point) → Contains (sources points) p → Q (leaf_source grid points cap lists p)) → All Q given.sources
   All-sources Q h = All-map Q (leaf_source grid points cap lists) (sources points) (All-from_members (λ p. Q (leaf_source grid points cap lists p)) (sources points) h)
 
-  node_below : (t : Point) → Contains (targets points) t → (n : ℕ) → under (above grid lists.cells) (leaf_number grid points cap lists t) n ≡ true → n < length lists.cells
-  node_below t h n u = under_in_range grid points cap lists.cells positive inside are.cells_are t (listed_target t h) n u
-
   -- the cell of a node above a target has it
-  target_here : (t : Point) → Contains (targets points) t → (n : ℕ) → under (above grid lists.cells) (leaf_number grid points cap lists t) n ≡ true → has_target points (cell n) ≡ true
-  target_here t h n u =
+  target_here : (t : Point) → Contains (targets points) t → (n : ℕ) → n < length lists.cells → under (above grid lists.cells) (leaf_number grid points cap lists t) n ≡ true → has_target points (cell n) ≡ true
+  target_here t h n lt u =
       let l = Contains-filter _ points t h in
       list_any-member (is_target_in (cell n)) points t l.0 (and_from (not (is_source t.kind)) (holds_test (cell n) t.x t.y) l.1
-      (sym (under_is_holding grid points cap lists.cells positive inside are.cells_are t l.0 n (node_below t h n u)) ∙ u))
+      (sym (under_is_holding grid points cap lists.cells positive inside are.cells_are t l.0 n lt) ∙ u))
+
+  target_under : (n : ℕ) → n < length lists.cells → has_target_under given n ≡ true → has_target points (cell n) ≡ true
+  target_under n lt e =
+      let f = found (λ (x : LeafTarget). under given.parent x.leaf n) given.targets e in
+      let i = image_of (leaf_target grid points cap P lists) (targets points) f.member f.listed in
+      target_here i.source i.listed n lt (ap (λ (x : LeafTarget). under (above grid lists.cells) x.leaf n) i.gives ∙ f.passes)
 
   at_most : (m n : ℕ) → m ≡ n → m ≤ n
   at_most m n e = omega arith
@@ -114,13 +117,13 @@ module _ (grid : ℕ) (points : List Point) (cap P : ℕ) (lists : TreeLists) (p
       of_leaf = λ e. RowInside-same P _ _ (leaf_rows_same grid points cap P lists positive inside are n lt e);
       of_inner = λ e. RowInside-same P _ _ (inner_rows_same grid points cap P lists positive inside are n lt e);
     };
-    locals = All-targets (λ t. (n : ℕ) → under given.parent t.leaf n ≡ true → LocalHolds P given n) (λ t h n u. record {
-      row = RowInside-same P _ _ (local_rows_same grid points cap P lists positive inside are n (node_below t h n u) (target_here t h n u));
-      radius = at_most _ _ (radii_same grid points cap P lists positive inside are n (node_below t h n u) (target_here t h n u));
-    });
+    locals = λ n lt h. record {
+      row = RowInside-same P _ _ (local_rows_same grid points cap P lists positive inside are n lt (target_under n lt h));
+      radius = at_most _ _ (radii_same grid points cap P lists positive inside are n lt (target_under n lt h));
+    };
     boxes = All-targets (BoxHolds P given)
         (λ t h. BoxEndsInside-same (boxes_same grid points cap P lists positive inside are (leaf_target grid points cap P lists t) (in_range t (listed_target t h))
-        (target_here t h (leaf_number grid points cap lists t)
+        (target_here t h (leaf_number grid points cap lists t) (in_range t (listed_target t h))
         (under-self (above grid lists.cells) (above_root grid points cap lists.cells positive inside are.cells_are) (above_first grid points cap lists.cells positive inside are.cells_are) (leaf_number grid points cap lists t)))
         ∙ ap (λ c. box_in points cap P lists c (place t)) (cell_of_leaf grid points cap lists.cells positive inside are.cells_are t (listed_target t h))));
   }
