@@ -1,4 +1,4 @@
--- An accounting, as somebody presents it: nodes with cells, sources and targets in their leaves, entries, rows, radii, and a box for each target.
+-- An accounting, as somebody presents it: nodes with cells, sources in leaves, targets in nodes, entries, rows, radii, and a box for each target.
 use Rattle.std.specs.Prelude.{ℕ, zero, suc, Bool, true, false, not, ◌&&◌, ◌||◌, ◌==◌, nat_lt, List, filter, map}
 use Rattle.std.specs.List.{range_with_len, list_any}
 use Rattle.exact_math.specs.Ends.{BoxEnds}
@@ -14,7 +14,7 @@ pub record LeafSource : Type 0 where
   pub point : Point
   pub leaf : ℕ
 
--- A target's place with its leaf and its box. In the tree of a list it stands in a leaf; the rules let `leaf` be any node whose cell has the place.
+-- A target's place, the node it stands in, and its box. In the field of a list this node is a leaf, as its name says; the rules (`TargetStands`) allow any that has the place.
 pub record LeafTarget : Type 0 where
   pub place : Gaussian
   pub leaf : ℕ

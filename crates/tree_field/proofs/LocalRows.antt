@@ -14,12 +14,11 @@ use Rattle.complex_box.proofs.ZeroBoxes.{zero_left}
 use Rattle.row_recursions.specs.Rows.{converted, shifted_down, multipole_value}
 use Rattle.row_recursions.specs.Sources.{source_of}
 use Rattle.soundness.specs.Accounts.{LeafTarget, Accounting, sources_under}
-use Rattle.soundness.specs.Computed.{total_box, total_row, far_coefficients_in, weight_under, local_row as given_local_row, converted_rows as given_converted_rows, far_rows as given_far_rows, local_radius as given_local_radius, pair_radius_of as given_pair_radius, single_radius_of as given_single_radius, target_box as given_target_box, multipoles_at, pairs_at as given_pairs_at}
+use Rattle.soundness.specs.Computed.{total_box, total_row, far_coefficients_in, cell_of, weight_under, weight_of_entry, local_row as given_local_row, converted_rows as given_converted_rows, far_rows as given_far_rows, local_radius as given_local_radius, target_box as given_target_box, multipoles_at, pairs_at as given_pairs_at}
 use Rattle.soundness.specs.Accounts.{entries_of}
 use Rattle.soundness.specs.Squares.{offset, quadrant, sides_between}
-use Rattle.soundness.specs.Steps.{value_in}
+use Rattle.soundness.specs.Steps.{v_loss, x_loss, w_loss, v_losses, x_losses, w_losses, value_in}
 use Rattle.truncation.specs.Entries.{weight}
-use Rattle.truncation.specs.Tails.{pair_radius, single_radius}
 use Rattle.tree_field.specs.Lists.{TreeLists, AreTreeLists}
 use Rattle.tree_field.specs.Field.{sources_in, multipole_row, converted_rows, far_rows, local_at_level, local_row, weight_in, pair_radius_in, single_radius_in, radius_at_level, local_radius, multipole_values_at, pairs_at, radius_in, box_in}
 use Rattle.tree_field.specs.Work.{has_target}
@@ -144,17 +143,17 @@ module _ (grid : ℕ) (points : List Point) (cap P : ℕ) (lists : TreeLists) (p
   weight_same : (n : ℕ) → n < length lists.cells → weight_under P given n ≡ weight_in points P (cell n)
   weight_same n lt = sum_over_sources grid points cap P lists positive inside are (λ p. weight P (source_of p)) n lt
 
-  pairs_lose : (n : ℕ) → n < length lists.cells → sum_by (given_pair_radius P given (side (cell n))) (entries_of given V n) ≡ sum_by (pair_radius_in points P (side (cell n))) (lists.entries V (cell n))
+  pairs_lose : (n : ℕ) → n < length lists.cells → v_losses P (weight_of_entry P given) (side (cell n)) (entries_of given V n) ≡ sum_by (pair_radius_in points P (side (cell n))) (lists.entries V (cell n))
   pairs_lose n lt = sum_over_entries grid points cap P lists positive inside are V n lt
-      (λ m. pair_radius P (weight_under P given m) (side (cell n)))
+      (λ m. v_loss P (weight_under P given m) (side (cell n)))
       (pair_radius_in points P (side (cell n)))
-      (λ m lm. ap (λ w. pair_radius P w (side (cell n))) (weight_same m lm))
+      (λ m lm. ap (λ w. v_loss P w (side (cell n))) (weight_same m lm))
 
-  singles_lose : (n : ℕ) → n < length lists.cells → sum_by (given_single_radius P given (side (cell n))) (entries_of given X n) ≡ sum_by (single_radius_in points P (side (cell n))) (lists.entries X (cell n))
+  singles_lose : (n : ℕ) → n < length lists.cells → x_losses P (weight_of_entry P given) (side (cell n)) (entries_of given X n) ≡ sum_by (single_radius_in points P (side (cell n))) (lists.entries X (cell n))
   singles_lose n lt = sum_over_entries grid points cap P lists positive inside are X n lt
-      (λ m. single_radius P (weight_under P given m) (side (cell n)))
+      (λ m. x_loss P (weight_under P given m) (side (cell n)))
       (single_radius_in points P (side (cell n)))
-      (λ m lm. ap (λ w. single_radius P w (side (cell n))) (weight_same m lm))
+      (λ m lm. ap (λ w. x_loss P w (side (cell n))) (weight_same m lm))
 
   pub radii_same : (n : ℕ) → n < length lists.cells → has_target points (cell n) ≡ true → given_local_radius P given n ≡ given.radius n
   radii_same zero lt t =
@@ -185,11 +184,11 @@ module _ (grid : ℕ) (points : List Point) (cap P : ℕ) (lists : TreeLists) (p
       (λ m lm. over_sources grid points cap P lists positive inside are (pair_box z) m lm)
 
   widened_same : (n : ℕ) → n < length lists.cells → has_target points (cell n) ≡ true
-      → given.radius n + sum_by (λ e. given_single_radius P given (side (given.cell e.c)) e) (entries_of given W n) ≡ radius_in points cap P lists (cell n)
+      → given.radius n + w_losses P (weight_of_entry P given) (cell_of given) (entries_of given W n) ≡ radius_in points cap P lists (cell n)
   widened_same n lt t = ap₂ (λ a b. a + b) (radius_given n t) (sum_over_entries grid points cap P lists positive inside are W n lt
-      (λ m. single_radius P (weight_under P given m) (side (cell m)))
-      (λ c. single_radius_in points P (side c) c)
-      (λ m lm. ap (λ w. single_radius P w (side (cell m))) (weight_same m lm)))
+      (λ m. w_loss P (weight_under P given m) (cell m))
+      (λ c. w_loss P (weight_in points P c) c)
+      (λ m lm. ap (λ w. w_loss P w (cell m)) (weight_same m lm)))
 
   pub boxes_same : (t : LeafTarget) → t.leaf < length lists.cells → has_target points (cell t.leaf) ≡ true → given_target_box P given t ≡ box_in points cap P lists (cell t.leaf) t.place
   boxes_same t lt h = ap₂ (λ b r. widen_box b (pos r))
