@@ -40,13 +40,13 @@ w_value P z c row = multipole_value P row (side c) (offset c z)
 
 -- what it can lose, by the weight of the sources in c, in units of 2^-40: V and X in a cell of the side s, and W by the side of c
 abbrev pub v_loss : ℕ → ℕ → ℕ → ℕ
-v_loss P heavy s = pair_radius P heavy s
+v_loss P weight s = pair_radius P weight s
 
 abbrev pub x_loss : ℕ → ℕ → ℕ → ℕ
-x_loss P heavy s = single_radius P heavy s
+x_loss P weight s = single_radius P weight s
 
 abbrev pub w_loss : ℕ → ℕ → Square → ℕ
-w_loss P heavy c = single_radius P heavy (side c)
+w_loss P weight c = single_radius P weight (side c)
 
 -- ---- from sources, which are points by `point`
 module _ {X : Type 0} (point : X → Point) where
