@@ -18,7 +18,7 @@ use Rattle.row_contents.specs.Contents.{MultipoleRowsHold}
 use Rattle.row_contents.specs.Fields.{sources_of}
 
 module _ (grid : ℕ) (points : List Point) (cap P : ℕ) where
-  sources_back : (lists : TreeLists) (ps : List Point) → map source_in (map (leaf_source grid points cap P lists) ps) ≡ map source_of ps
+  sources_back : (lists : TreeLists) (ps : List Point) → map source_in (map (leaf_source grid points cap lists) ps) ≡ map source_of ps
   sources_back lists [] = refl
   sources_back lists (p ∷ ps) = ap (λ xs. source_of p ∷ xs) (sources_back lists ps)
 

@@ -1,8 +1,8 @@
 -- The rules can be met: one charge 1 at (0, 0) and a target at (1, 0) in one leaf, at order 4.
-use Rattle.std.proofs.Common.{◌≡◌, refl, sym, subst, ◌∙◌, ℕ, zero, suc, ◌<◌, ◌≤◌, arith, true, [], ◌∷◌}
-use Rattle.std.specs.Prelude.{ℤ, pos, All}
+use Rattle.std.proofs.Common.{◌≡◌, refl, sym, ◌∙◌, ℕ, zero, suc, ◌<◌, ◌≤◌, arith, true, [], ◌∷◌}
+use Rattle.std.specs.Prelude.{pos, All}
 use Rattle.std.specs.List.{count_by}
-use Rattle.std.proofs.lemmas.Bool.{eqb-true, true≢false}
+use Rattle.std.proofs.lemmas.Bool.{true≢false}
 use Rattle.std.proofs.lemmas.Int.{ints}
 use Rattle.exact_math.specs.Ends.{BoxEnds, zero_box, BoxEndsInside}
 use Rattle.exact_math.specs.Gaussian.{gaussian}
@@ -69,15 +69,11 @@ leaf_row_inside : RowInside 4 (leaf_row presented 0) given_row
 unfolding under source_moment pole_moment dipole_moment
 leaf_row_inside = below_four (λ k. BoxEndsInside (leaf_row presented 0 k) (given_row k)) (BoxEndsInside-same refl) (BoxEndsInside-same refl) (BoxEndsInside-same refl) (BoxEndsInside-same refl)
 
-under_zero : (n : ℕ) → under (λ (n : ℕ). 0) 0 n ≡ true → 0 ≡ n
-unfolding under
-under_zero n e = eqb-true 0 n e
+local_row_inside : RowInside 4 (local_row 4 presented 0) (λ k. zero_box)
+local_row_inside k l = BoxEndsInside-same refl
 
-local_row_inside : (n : ℕ) → under presented.parent 0 n ≡ true → RowInside 4 (local_row 4 presented n) (λ k. zero_box)
-local_row_inside n e = subst (λ n. RowInside 4 (local_row 4 presented n) (λ k. zero_box)) (under_zero n e) (λ k l. BoxEndsInside-same refl)
-
-radius_at_least : (n : ℕ) → under presented.parent 0 n ≡ true → local_radius 4 presented n ≤ 0
-radius_at_least n e = subst (λ n. local_radius 4 presented n ≤ 0) (under_zero n e) (omega arith)
+radius_at_least : local_radius 4 presented 0 ≤ 0
+radius_at_least = omega arith
 
 box_inside : BoxEndsInside (target_box 4 presented target) target.box
 unfolding under local_value local_round
@@ -114,7 +110,7 @@ rules_met = record {
     of_leaf = λ e. at_zero (λ n. RowInside 4 (leaf_row presented n) given_row) leaf_row_inside n l;
     of_inner = λ e. absurd (true≢false (sym (at_zero (λ n. is_leaf presented n ≡ true) refl n l) ∙ e));
   };
-  locals = only (λ t. (n : ℕ) → under presented.parent t.leaf n ≡ true → LocalHolds 4 presented n) target (λ n u. record { row = local_row_inside n u; radius = radius_at_least n u });
+  locals = λ n l u. at_zero (λ n. LocalHolds 4 presented n) (record { row = local_row_inside; radius = radius_at_least }) n l;
   boxes = only (BoxHolds 4 presented) target box_inside;
 }
 

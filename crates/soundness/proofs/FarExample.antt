@@ -2,10 +2,10 @@
 use Rattle.std.proofs.Common.{◌≡◌, refl, sym, subst, ℕ, zero, suc, ◌<◌, ◌≤◌, arith, true, false, ◌||◌, List, [], ◌∷◌}
 use Rattle.std.specs.Prelude.{ℤ, pos, neg_ℤ, ◌==◌, All}
 use Rattle.std.specs.List.{count_by}
-use Rattle.std.proofs.lemmas.Bool.{eqb-true, true≢false, or_cases}
+use Rattle.std.proofs.lemmas.Bool.{eqb-true, true≢false, false≢true, or_cases}
 use Rattle.std.proofs.lemmas.Int.{ints}
 use mathlib.Core.Logic.{⊎_elim, inl}
-use Rattle.exact_math.specs.Ends.{BoxEnds, zero_box, BoxEndsInside}
+use Rattle.exact_math.specs.Ends.{BoxEnds, zero_box}
 use Rattle.exact_math.specs.Gaussian.{Gaussian, gaussian}
 use Rattle.cell_name.specs.Square.{Square, parent}
 use Rattle.letters.specs.declared.Entry.{Entry}
@@ -16,9 +16,9 @@ use Rattle.points.specs.declared.Kind.TheVariants.{Charge, Dipole, Vortex}
 use Rattle.points.specs.Points.{place}
 use Rattle.row_recursions.specs.Rows.{shifted_up}
 use Rattle.soundness.specs.Squares.{quadrant, IsQuarterOf, IsFarFrom, CellsAreApart}
-use Rattle.soundness.specs.Accounts.{LeafSource, LeafTarget, Accounting, under, is_leaf, accounts}
+use Rattle.soundness.specs.Accounts.{LeafSource, LeafTarget, Accounting, under, is_leaf, has_target_under, accounts}
 use Rattle.soundness.specs.Computed.{total_row, moments_in, leaf_row, shifted_rows, local_row, local_radius, target_box}
-use Rattle.soundness.specs.Rules.{RowInside, SourceStands, TargetStands, Apart, IsTiled, LocalHolds, BoxHolds, Rules}
+use Rattle.soundness.specs.Rules.{RowInside, SourceStands, TargetStands, Apart, IsTiled, BoxHolds, Rules}
 use Rattle.soundness.specs.Soundness.{BoxesContain}
 use Rattle.soundness.proofs.Example.{only}
 use Rattle.soundness.proofs.Inside.{BoxEndsInside-same, RowInside-same}
@@ -176,6 +176,9 @@ on_path P a b c n e = ⊎_elim (λ h. subst P (eqb-true 3 n h) a)
     (λ e. ⊎_elim (λ h. subst P (eqb-true 1 n h) b) (λ e. ⊎_elim (λ h. subst P (eqb-true 0 n h) c) (λ h. subst P (eqb-true 0 n h) c) (or_cases (0 == n) (0 == n) e)) (or_cases (1 == n) ((0 == n) || (0 == n)) e))
     (or_cases (3 == n) ((1 == n) || ((0 == n) || (0 == n))) e)
 
+above_target : (n : ℕ) → has_target_under presented n ≡ true → under above 3 n ≡ true
+above_target n e = ⊎_elim (λ u. u) (λ no. absurd (false≢true no)) (or_cases (under above 3 n) false e)
+
 -- ---- nodes
 parents_below : (n : ℕ) → 0 < n → above n < n
 parents_below zero h = absurd (omega arith)
@@ -258,7 +261,7 @@ rules_met = record {
   apart = four (λ e. Apart presented e.letter e.b e.c) (entry U 3 3) (entry X 3 6) (entry V 3 4) (entry W 3 5) tt source_far cells_apart target_far;
   tiled = only (λ t. IsTiled presented t.leaf) target accounted_once;
   multipoles = λ n l. record { of_leaf = leaf_rows_inside n l; of_inner = inner_rows_inside n l };
-  locals = only (λ t. (n : ℕ) → under above t.leaf n ≡ true → LocalHolds 2 presented n) target (λ n u. record { row = local_rows_inside n u; radius = radii_at_least n u });
+  locals = λ n l h. let u = above_target n h in record { row = local_rows_inside n u; radius = radii_at_least n u };
   boxes = only (BoxHolds 2 presented) target (BoxEndsInside-same refl);
 }
 

@@ -1,7 +1,7 @@
 -- Each target's box contains the direct sum: what the path of its leaf holds, the values of the W entries and the pairs of the U entries have each source once.
-use Rattle.std.proofs.Common.{◌≡◌, sym, ap₂, subst, ◌∙◌, ℕ, ◌+◌, ◌^◌, ◌<◌, ◌≤◌, true, ◌&&◌, List, get_or}
-use Rattle.std.specs.Prelude.{◌==◌, pos, All, sum_by}
-use Rattle.std.specs.List.{count_by}
+use Rattle.std.proofs.Common.{◌≡◌, sym, ap₂, subst, ◌∙◌, ℕ, ◌+◌, ◌^◌, ◌<◌, ◌≤◌, arith, true, ◌&&◌, List, get_or}
+use Rattle.std.specs.Prelude.{◌==◌, pos}
+use Rattle.std.proofs.lemmas.List.Folds.{list_any_at}
 use Rattle.exact_math.specs.Ends.{add_box, widen_box}
 use Rattle.exact_math.specs.Gaussian.{Gaussian}
 use Rattle.exact_math.proofs.RingTactic.{quotes, ring1, ring5}
@@ -17,15 +17,16 @@ use Rattle.near_field.specs.Pair.{pair_box}
 use Rattle.row_recursions.specs.Rows.{multipole_value}
 use Rattle.soundness.specs.Squares.{offset, IsIn, IsFarFrom}
 use Rattle.soundness.specs.Accounts.{LeafTarget, Accounting, is_letter, under, sources_under, entries_of, reaches, accounts, points_of}
-use Rattle.soundness.specs.Computed.{total_box, single_radius_of, local_row, local_radius, local_at, multipoles_at, pairs_at, target_radius}
+use Rattle.soundness.specs.Computed.{total_box, cell_of, weight_of_entry, local_row, local_radius, local_at, multipoles_at, pairs_at, target_radius}
 use Rattle.soundness.specs.Rules.{RowInside, IsTiled, LocalHolds, Rules}
 use Rattle.soundness.specs.Soundness.{RulesImplyContainment}
+use Rattle.soundness.specs.Steps.{w_loss, w_losses}
 use Rattle.soundness.proofs.Boxes.{slack, IsNear, IsNear-add, IsNear-sum, EnclosesBox-total, EnclosesBox-widen}
 use Rattle.soundness.proofs.Choices.{when, sum_list-filter_and, sum_list-once}
 use Rattle.soundness.proofs.Entries.{multipole_sum, multipole_held, multipole_near}
 use Rattle.soundness.proofs.Fields.{Local-value}
 use Rattle.soundness.proofs.Multipoles.{multipoles_held}
-use Rattle.soundness.proofs.Nodes.{under-self}
+use Rattle.soundness.proofs.Nodes.{under-self, under-le}
 use Rattle.soundness.proofs.Paths.{IsOn, entries_on, sources_held, terms_of, pair_cuts, far_cuts, on_path, local_held, path_near}
 use Rattle.soundness.proofs.Terms.{term_in_units, pair_holds, direct_sum-stands, direct_sum-in_units}
 
@@ -83,10 +84,10 @@ module _ (P : ℕ) (A : Accounting) (order : 2 ≤ P) (rules : Rules P A) (t : G
         one : (e : Entry) → IsOn A W leaf e → EnclosesBox (multipole_value P (A.multipole e.c) (side (A.cell e.c)) (offset (A.cell e.c) t)) (multipole_cuts e)
         one e h = multipole_held P (A.cell e.c) (sources_under A e.c) (A.multipole e.c) t (far e h) (multipoles_held P A rules e.c h.in_range)
 
-    values_near : IsNear (sum_by (λ e. single_radius_of P A (side (A.cell e.c)) e) (entries_of A W leaf)) (sum_of (entries_of A W leaf)) (sum_list complex_rationals multipole_cuts (entries_of A W leaf))
-    values_near = IsNear-sum terms multipole_cuts (λ e. single_radius_of P A (side (A.cell e.c)) e) (entries_of A W leaf) (λ k d i. one (get_or (entries_of A W leaf) k d) (entries_on P A order rules W leaf k d i))
+    values_near : IsNear (w_losses P (weight_of_entry P A) (cell_of A) (entries_of A W leaf)) (sum_of (entries_of A W leaf)) (sum_list complex_rationals multipole_cuts (entries_of A W leaf))
+    values_near = IsNear-sum terms multipole_cuts (λ e. w_loss P (weight_of_entry P A e) (A.cell e.c)) (entries_of A W leaf) (λ k d i. one (get_or (entries_of A W leaf) k d) (entries_on P A order rules W leaf k d i))
       where
-        one : (e : Entry) → IsOn A W leaf e → IsNear (single_radius_of P A (side (A.cell e.c)) e) (terms e) (multipole_cuts e)
+        one : (e : Entry) → IsOn A W leaf e → IsNear (w_loss P (weight_of_entry P A e) (A.cell e.c)) (terms e) (multipole_cuts e)
         one e h = multipole_near P (A.cell e.c) t (sources_under A e.c) order (far e h) (sources_held P A order rules e.c)
 
     -- ---- all together
@@ -130,10 +131,16 @@ boxes_contain P A order rules k d i =
     contained_from_enclosed (pos (2 ^ 40)) target.box (direct_sum-stands target.place (points_of A.sources))
     (subst (EnclosesBox target.box) (sym (direct_sum-in_units target.place A.sources))
     (EnclosesBox-inside (rules.boxes k d i)
-    (box_held P A order rules target.place target.leaf far (rules.targets k d i).in_range (rules.targets k d i).held (rules.locals k d i) (rules.tiled k d i))))
+    (box_held P A order rules target.place target.leaf far (rules.targets k d i).in_range (rules.targets k d i).held locals (rules.tiled k d i))))
   where
     target : LeafTarget
     target = get_or A.targets k d
+
+    locals : (n : ℕ) → under A.parent target.leaf n ≡ true → LocalHolds P A n
+    locals n u =
+        let l = under-le A.parent rules.root rules.parents target.leaf n u in
+        let r = (rules.targets k d i).in_range in
+        rules.locals n (omega (arith, l, r)) (list_any_at (λ t. under A.parent t.leaf n) A.targets k d i u)
 
     far : (e : Entry) → IsOn A W target.leaf e → IsFarFrom (A.cell e.c) target.place
     far e h = h.apart k d i (under-self A.parent rules.root rules.parents target.leaf)

@@ -1,4 +1,4 @@
--- An accounting, as somebody presents it: nodes with cells, sources and targets in their leaves, entries, rows, radii, and a box for each target.
+-- An accounting, as somebody presents it: nodes with cells, sources in leaves, targets in nodes, entries, rows, radii, and a box for each target.
 use Rattle.std.specs.Prelude.{ℕ, zero, suc, Bool, true, false, not, ◌&&◌, ◌||◌, ◌==◌, nat_lt, List, filter, map}
 use Rattle.std.specs.List.{range_with_len, list_any}
 use Rattle.exact_math.specs.Ends.{BoxEnds}
@@ -14,7 +14,7 @@ pub record LeafSource : Type 0 where
   pub point : Point
   pub leaf : ℕ
 
--- a target's place with its leaf and its box
+-- A target's place, the node it stands in, and its box. In the field of a list this node is a leaf, as its name says; the rules (`TargetStands`) allow any that has the place.
 pub record LeafTarget : Type 0 where
   pub place : Gaussian
   pub leaf : ℕ
@@ -62,6 +62,10 @@ module _ (A : Accounting) where
   -- the sources in the leaves under a node
   abbrev pub sources_under : ℕ → List LeafSource
   sources_under n = filter (λ x. under A.parent x.leaf n) A.sources
+
+  -- some target's leaf is under a node
+  abbrev pub has_target_under : ℕ → Bool
+  has_target_under n = list_any (λ t. under A.parent t.leaf n) A.targets
 
   -- the entries of a letter whose b is the node
   abbrev pub entries_of : Letter → ℕ → List Entry

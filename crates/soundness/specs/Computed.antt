@@ -1,15 +1,14 @@
 -- What the method computes at a node from what is given at others, at order P.
 use Rattle.std.specs.Prelude.{ℕ, zero, suc, ◌+◌, List}
-use Rattle.exact_math.specs.Ends.{BoxEnds, zero_box, add_box}
+use Rattle.exact_math.specs.Ends.{BoxEnds, zero_box}
 use Rattle.exact_math.specs.Gaussian.{Gaussian}
 use Rattle.cell_name.specs.Square.{Square, side}
 use Rattle.letters.specs.declared.Entry.{Entry}
 use Rattle.letters.specs.declared.Letter.TheVariants.{U, V, W, X}
 use Rattle.points.specs.declared.Point.{Point}
-use Rattle.truncation.specs.Tails.{pair_radius, single_radius}
 use Rattle.soundness.specs.Accounts.{LeafSource, LeafTarget, Accounting, children, sources_under, entries_of}
 pub use Rattle.soundness.specs.Steps.{total_box, total_row, moments_in, far_coefficients_in}
-use Rattle.soundness.specs.Steps.{moments_of, weight_of, child_rows, v_rows, x_rows, w_values, u_pairs, v_losses, x_losses, w_losses, from_parent, value_in, box_of}
+use Rattle.soundness.specs.Steps.{moments_of, weight_of, child_rows, v_rows, x_rows, w_values, u_pairs, v_losses, x_losses, w_losses, from_parent, local_row_of, radius_of, value_in, box_of}
 
 -- the point of a source
 abbrev pub point_of : LeafSource → Point
@@ -46,7 +45,7 @@ module _ (P : ℕ) (A : Accounting) where
   far_rows n = x_rows point_of (sources_of_entry A) (A.cell n) (entries_of A X n)
 
   abbrev pub local_row : ℕ → ℕ → BoxEnds
-  local_row n k = add_box (brought_down n k) (add_box (converted_rows n k) (far_rows n k))
+  local_row n k = local_row_of (brought_down n) (converted_rows n) (far_rows n) k
 
   -- ---- radii: what the entries can lose, in units of 2^-40
   abbrev pub weight_under : ℕ → ℕ
@@ -55,18 +54,12 @@ module _ (P : ℕ) (A : Accounting) where
   abbrev pub weight_of_entry : Entry → ℕ
   weight_of_entry e = weight_under e.c
 
-  abbrev pub pair_radius_of : ℕ → Entry → ℕ
-  pair_radius_of s e = pair_radius P (weight_under e.c) s
-
-  abbrev pub single_radius_of : ℕ → Entry → ℕ
-  single_radius_of s e = single_radius P (weight_under e.c) s
-
   abbrev pub radius_above : ℕ → ℕ
   radius_above zero = 0
   radius_above (suc n) = A.radius (A.parent (suc n))
 
   abbrev pub local_radius : ℕ → ℕ
-  local_radius n = radius_above n + (v_losses P weight_of_entry (side (A.cell n)) (entries_of A V n) + x_losses P weight_of_entry (side (A.cell n)) (entries_of A X n))
+  local_radius n = radius_of (radius_above n) (v_losses P weight_of_entry (side (A.cell n)) (entries_of A V n)) (x_losses P weight_of_entry (side (A.cell n)) (entries_of A X n))
 
   -- ---- the box of a target: the value of its leaf's local row, those of the W entries, and the pairs of the U entries
   abbrev pub local_at : ℕ → Gaussian → BoxEnds

@@ -1,4 +1,4 @@
--- Printed counts, whole numbers of 10^-12, and what they contain.
+-- Counts of Re and Im, whole numbers of 10^-12, as a certificate gives them in both modes, and what they contain.
 use Rattle.std.specs.Prelude.{ℤ, pos, ◌*ℤ◌, ◌≤ℤ◌, ◌^◌}
 use Rattle.exact_math.specs.Contains.{Contains}
 use Rattle.exact_math.specs.Ends.{Ends, BoxEnds}

@@ -1,5 +1,5 @@
--- The rules of an accounting: each given row, radius and box includes what the method computes from the others that are given, each entry has its places apart, and
--- each source is accounted for exactly once.
+-- The rules of an accounting: each multipole row, each local row and radius of a node with a target under it, and each box includes what the method computes from the others that are
+-- given, each V, W and X entry has its places apart, and each source is accounted for exactly once at each target.
 use Rattle.std.specs.Prelude.{ℕ, ◌≡◌, ◌<◌, ◌≤◌, true, false, All}
 use Rattle.std.specs.List.{count_by}
 use Rattle.exact_math.specs.Ends.{BoxEnds, BoxEndsInside}
@@ -7,7 +7,7 @@ use Rattle.letters.specs.declared.Letter.{Letter}
 use Rattle.letters.specs.declared.Letter.TheVariants.{U, V, W, X}
 use Rattle.points.specs.Points.{place}
 use Rattle.soundness.specs.Squares.{IsQuarterOf, IsIn, IsFarFrom, CellsAreApart}
-use Rattle.soundness.specs.Accounts.{LeafSource, LeafTarget, Accounting, under, is_leaf, accounts}
+use Rattle.soundness.specs.Accounts.{LeafSource, LeafTarget, Accounting, under, is_leaf, has_target_under, accounts}
 use Rattle.soundness.specs.Computed.{leaf_row, shifted_rows, local_row, local_radius, target_box}
 
 -- the first P boxes of a row lie in those of another
@@ -65,7 +65,7 @@ pub record Rules (P : ℕ) (A : Accounting) : Type 0 where
   pub in_range : All (λ e. e.c < A.nodes) A.entries
   pub apart : All (λ e. Apart A e.letter e.b e.c) A.entries
   pub tiled : All (λ t. IsTiled A t.leaf) A.targets
-  -- rows, those of the nodes above a target with their radii, and boxes
+  -- multipole rows; local rows and radii of the nodes with a target under them; and boxes
   pub multipoles : (n : ℕ) → n < A.nodes → MultipoleHolds P A n
-  pub locals : All (λ t. (n : ℕ) → under A.parent t.leaf n ≡ true → LocalHolds P A n) A.targets
+  pub locals : (n : ℕ) → n < A.nodes → has_target_under A n ≡ true → LocalHolds P A n
   pub boxes : All (BoxHolds P A) A.targets

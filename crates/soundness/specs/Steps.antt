@@ -1,5 +1,5 @@
--- What the entries of a cell add to its row, to its radius and to the box of a place, at order P: one step each, for whatever names the entries, with the rows, cells, sources and
--- weights of these given. The field is the recursion of these steps over a tree, and the rules of an accounting include them.
+-- What the sources, the children and the entries of a cell add to its rows, to its radius and to the box of a place, at order P: one step each, for whatever names them, with their
+-- rows, cells, sources and weights given. The field is the recursion of these steps over a tree, and the rules of an accounting include them.
 use Rattle.std.specs.Prelude.{ℕ, ◌+◌, pos, List, fold, sum_by}
 use Rattle.exact_math.specs.Ends.{BoxEnds, zero_box, add_box, widen_box}
 use Rattle.exact_math.specs.Gaussian.{Gaussian}
@@ -37,6 +37,16 @@ v_row P b c row = converted P (kernel_entry (sides_between b c)) row
 -- W: the value of the multipole row of the cell c at a place
 abbrev pub w_value : ℕ → Gaussian → Square → (ℕ → BoxEnds) → BoxEnds
 w_value P z c row = multipole_value P row (side c) (offset c z)
+
+-- what it can lose, by the weight of the sources in c, in units of 2^-40: V and X in a cell of the side s, and W by the side of c
+abbrev pub v_loss : ℕ → ℕ → ℕ → ℕ
+v_loss P weight s = pair_radius P weight s
+
+abbrev pub x_loss : ℕ → ℕ → ℕ → ℕ
+x_loss P weight s = single_radius P weight s
+
+abbrev pub w_loss : ℕ → ℕ → Square → ℕ
+w_loss P weight c = single_radius P weight (side c)
 
 -- ---- from sources, which are points by `point`
 module _ {X : Type 0} (point : X → Point) where
@@ -78,23 +88,29 @@ module _ {E : Type 0} (cell : E → Square) (row : E → ℕ → BoxEnds) where
     abbrev pub w_values : Gaussian → List E → BoxEnds
     w_values z es = total_box (λ e. w_value P z (cell e) (row e)) es
 
--- ---- what entries can lose, from the weights of their sources
+-- ---- what all entries of a letter can lose, from the weights of their sources
 module _ {E : Type 0} (P : ℕ) (weight : E → ℕ) where
-  -- V and X: in a cell of the side s
   abbrev pub v_losses : ℕ → List E → ℕ
-  v_losses s es = sum_by (λ e. pair_radius P (weight e) s) es
+  v_losses s es = sum_by (λ e. v_loss P (weight e) s) es
 
   abbrev pub x_losses : ℕ → List E → ℕ
-  x_losses s es = sum_by (λ e. single_radius P (weight e) s) es
+  x_losses s es = sum_by (λ e. x_loss P (weight e) s) es
 
-  -- W: each by its own cell's side
   abbrev pub w_losses : (E → Square) → List E → ℕ
-  w_losses cell es = sum_by (λ e. single_radius P (weight e) (side (cell e))) es
+  w_losses cell es = sum_by (λ e. w_loss P (weight e) (cell e)) es
 
 -- ---- a row, a radius and a box from these
--- the local row of the cell b below the root, from its parent's row
+-- what the cell b below the root has of its parent's local row: that row, brought down
 abbrev pub from_parent : ℕ → Square → (ℕ → BoxEnds) → ℕ → BoxEnds
 from_parent P b parent k = shifted_down P parent (quadrant b) k
+
+-- a local row: what the cell has of its parent's, and what its V and its X entries add
+abbrev pub local_row_of : (ℕ → BoxEnds) → (ℕ → BoxEnds) → (ℕ → BoxEnds) → ℕ → BoxEnds
+local_row_of above v x k = add_box (above k) (add_box (v k) (x k))
+
+-- its radius: the parent's, and what its V and its X entries can lose
+abbrev pub radius_of : ℕ → ℕ → ℕ → ℕ
+radius_of above v x = above + (v + x)
 
 -- the value of the cell's local row at a place
 abbrev pub value_in : ℕ → Square → (ℕ → BoxEnds) → Gaussian → BoxEnds

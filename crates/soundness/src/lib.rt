@@ -2,9 +2,10 @@
 //! where the rules hold between them each target's box contains the exact direct sum. Nothing here runs: the law is the contract of a
 //! function with an empty body.
 //!
-//! The rules are inclusions. Each given row, radius and box includes what the method computes from the other given ones, the cells, targets
-//! or sources of each entry are far enough apart, and each source is accounted for by exactly one entry in each target's leaf. How a
-//! tree was made, how many points its leaves may have, and which cells touch, no rule says.
+//! The rules are inclusions. Each given multipole row, each local row and radius of a node with a target under it, and each box includes what
+//! the method computes from the other given ones. The cells, targets or sources of each V, W and X entry are far enough apart, and each source
+//! is accounted for by exactly one entry in each target's leaf. How a tree was made, how many points its leaves may have, and which cells
+//! touch, no rule says.
 #![tactic(auto)]
 
 ghost use Rattle.soundness.specs.Soundness.{RulesImplyContainment, RulesImplyCounts};

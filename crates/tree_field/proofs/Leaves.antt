@@ -2,18 +2,17 @@
 use Rattle.std.proofs.Common.{ℕ, ◌≡◌, ◌+◌, ◌-◌, ◌<◌, ◌≤◌, zero, suc, inl, inr, List, length, Bool, true, false, cond, refl, sym, ap, ◌∙◌, subst, arith}
 use Rattle.std.specs.Prelude.{◌==◌, Contains}
 use Rattle.std.proofs.lemmas.Bool.{cases_lt, or_cases, or_right, ltb-true, ltb-false, eqb-true}
-use Rattle.std.proofs.lemmas.List.Elements.{All-contains}
 use mathlib.Core.Logic.{⊎_elim}
 use Rattle.points.specs.declared.Point.{Point}
 use Rattle.points.specs.Points.{place}
-use Rattle.cell_name.specs.Square.{Square, parent, IsInGrid, Holds, holds_test}
+use Rattle.cell_name.specs.Square.{Square, parent, Holds, holds_test}
 use Rattle.cell_name.proofs.Cells.{Holds-square_at, Holds-parent, parent-square_at}
 use Rattle.cell_name.proofs.HoldsTest.{Holds-from_test, test-from_Holds}
 use Rattle.cell_lists.proofs.OneEntry.{cell_is, listed}
 use Rattle.quadtree.specs.Tree.{count_in, AreInGrid, IsTreeCell, IsLeaf, AreTreeCells, is_over}
 use Rattle.quadtree.proofs.LeafLevel.{cell_of, IsListed, IsLeafLevel, leaf_level_exists, tree_at_next}
 use Rattle.soundness.specs.Accounts.{under}
-use Rattle.soundness.proofs.Nodes.{strong, under-root, under-parent, under-self, under-le}
+use Rattle.soundness.proofs.Nodes.{strong, under-root, under-parent, under-self}
 use Rattle.tree_field.specs.Field.{leaf_below, leaf_at}
 use Rattle.tree_field.proofs.Numbers.{number, cell_at, above, tree_cell, number_below, cell_of_number, number_of_cell, level_positive, above_root, above_first, cell_above, above_number}
 
@@ -148,9 +147,3 @@ module _ (grid : ℕ) (points : List Point) (cap : ℕ) (cells : List Square) (p
       ap (λ m. under (above grid cells) m n) (ap (number cells) l.is_cell)
       ∙ ap (under (above grid cells) (number cells (cell_of grid p l.level))) (sym (number_of_cell grid points cap cells positive inside are n lt) ∙ ap (number cells) is)
       ∙ u)
-
-  -- and of numbers past the last cell none is
-  pub under_in_range : (p : Point) → Contains points p → (n : ℕ) → under (above grid cells) (leaf_number p) n ≡ true → n < length cells
-  under_in_range p h n e =
-      let le = under-le (above grid cells) (above_root grid points cap cells positive inside are) (above_first grid points cap cells positive inside are) (leaf_number p) n e in
-      omega (arith, le, leaf_number_below p h)

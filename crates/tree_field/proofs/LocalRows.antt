@@ -1,7 +1,7 @@
 -- Local rows, radii and boxes of the field as what is computed of an accounting.
-use Rattle.std.proofs.Common.{ℕ, ◌≡◌, ◌+◌, ◌<◌, zero, suc, List, [], ◌∷◌, length, refl, sym, ap, ap₂, ◌∙◌, arith}
+use Rattle.std.proofs.Common.{ℕ, ◌≡◌, ◌+◌, ◌<◌, zero, suc, List, [], ◌∷◌, length, Bool, true, cond, refl, sym, ap, ap₂, ◌∙◌, arith}
 use Rattle.std.specs.Prelude.{pos, Contains, sum_by}
-use Rattle.exact_math.specs.Ends.{zero_box, add_box, widen_box}
+use Rattle.exact_math.specs.Ends.{BoxEnds, zero_box, add_box, widen_box}
 use Rattle.exact_math.specs.Gaussian.{Gaussian}
 use Rattle.cell_name.specs.Square.{Square, side, parent}
 use Rattle.cell_lists.specs.Entries.{IsVPair, IsWPair}
@@ -14,15 +14,17 @@ use Rattle.complex_box.proofs.ZeroBoxes.{zero_left}
 use Rattle.row_recursions.specs.Rows.{converted, shifted_down, multipole_value}
 use Rattle.row_recursions.specs.Sources.{source_of}
 use Rattle.soundness.specs.Accounts.{LeafTarget, Accounting, sources_under}
-use Rattle.soundness.specs.Computed.{total_box, total_row, far_coefficients_in, weight_under, local_row as given_local_row, converted_rows as given_converted_rows, far_rows as given_far_rows, local_radius as given_local_radius, pair_radius_of as given_pair_radius, single_radius_of as given_single_radius, target_box as given_target_box, multipoles_at, pairs_at as given_pairs_at}
+use Rattle.soundness.specs.Computed.{total_box, total_row, far_coefficients_in, cell_of, weight_under, weight_of_entry, local_row as given_local_row, converted_rows as given_converted_rows, far_rows as given_far_rows, local_radius as given_local_radius, target_box as given_target_box, multipoles_at, pairs_at as given_pairs_at}
 use Rattle.soundness.specs.Accounts.{entries_of}
 use Rattle.soundness.specs.Squares.{offset, quadrant, sides_between}
+use Rattle.soundness.specs.Steps.{v_loss, x_loss, w_loss, v_losses, x_losses, w_losses, value_in}
 use Rattle.truncation.specs.Entries.{weight}
-use Rattle.truncation.specs.Tails.{pair_radius, single_radius}
 use Rattle.tree_field.specs.Lists.{TreeLists, AreTreeLists}
-use Rattle.tree_field.specs.Field.{sources_in, multipole_row, converted_rows, far_rows, local_at_level, local_row, weight_in, pair_radius_in, single_radius_in, radius_at_level, local_radius, local_value_at, multipole_values_at, pairs_at, radius_in, box_in}
+use Rattle.tree_field.specs.Field.{sources_in, multipole_row, converted_rows, far_rows, local_at_level, local_row, weight_in, pair_radius_in, single_radius_in, radius_at_level, local_radius, multipole_values_at, pairs_at, radius_in, box_in}
+use Rattle.tree_field.specs.Work.{has_target}
 use Rattle.tree_field.proofs.Accounts.{accounting, over_sources, sum_over_sources, over_entries, sum_over_entries}
-use Rattle.tree_field.proofs.Numbers.{cell_at, tree_cell, first_is_root, level_positive, cell_above}
+use Rattle.tree_field.proofs.Numbers.{cell_at, above, tree_cell, first_is_root, level_positive, cell_above}
+use Rattle.tree_field.proofs.Occupants.{has_target-parent}
 
 -- ---- the row of the root, and that of a cell below it from its parent's
 root_level : (points : List Point) (cap P : ℕ) (lists : TreeLists) (level : ℕ) (b : Square) (k : ℕ) → level ≡ 0 → local_at_level points cap P lists level b k ≡ zero_box
@@ -103,8 +105,22 @@ module _ (grid : ℕ) (points : List Point) (cap P : ℕ) (lists : TreeLists) (p
       (λ c. total_row (far_coefficients_in (cell n)) (sources_in points c) k)
       (λ m lm. over_sources grid points cap P lists positive inside are (λ p. far_coefficients_in (cell n) p k) m lm)
 
-  pub local_rows_same : (n : ℕ) → n < length lists.cells → (k : ℕ) → given_local_row P given n k ≡ local_row points cap P lists (cell n) k
-  local_rows_same zero lt k =
+  -- what the accounting has of a cell with a target
+  row_given : (n : ℕ) → has_target points (cell n) ≡ true → given.local n ≡ local_row points cap P lists (cell n)
+  row_given n t = ap (λ (b : Bool). cond b (local_row points cap P lists (cell n)) (λ k. zero_box)) t
+
+  radius_given : (n : ℕ) → has_target points (cell n) ≡ true → given.radius n ≡ local_radius points cap P lists (cell n)
+  radius_given n t = ap (λ (b : Bool). cond b (local_radius points cap P lists (cell n)) 0) t
+
+  -- the cell of its parent has one too
+  target_above : (n : ℕ) → 0 < n → n < length lists.cells → has_target points (cell n) ≡ true → has_target points (cell (above grid lists.cells n)) ≡ true
+  target_above n lo lt t =
+      let here = tree_cell grid points cap lists.cells positive inside are.cells_are n lt in
+      ap (has_target points) (cell_above grid points cap lists.cells positive inside are.cells_are n lo lt)
+      ∙ has_target-parent points (cell n) (level_positive grid points cap lists.cells positive inside are.cells_are n lo lt) (omega (arith, here.level_in_grid, here.of_grid)) t
+
+  pub local_rows_same : (n : ℕ) → n < length lists.cells → has_target points (cell n) ≡ true → (k : ℕ) → given_local_row P given n k ≡ given.local n k
+  local_rows_same zero lt t k =
       ap (add_box zero_box)
       (ap₂ add_box
       (converted_same 0 lt k ∙ ap (λ l. total_row (λ c. converted P (kernel_entry (sides_between (cell 0) c)) (multipole_row points cap c)) l k) (root_V lt))
@@ -112,39 +128,47 @@ module _ (grid : ℕ) (points : List Point) (cap P : ℕ) (lists : TreeLists) (p
       ∙ zero_left zero_box)
       ∙ zero_left zero_box
       ∙ sym (local_row-root points cap P lists (cell 0) (root_cell lt) k)
-  local_rows_same (suc m) lt k =
+      ∙ sym (ap (λ (r : ℕ → BoxEnds). r k) (row_given 0 t))
+  local_rows_same (suc m) lt t k =
+      let from : given.local (above grid lists.cells (suc m)) ≡ local_row points cap P lists (parent (cell (suc m))) =
+      row_given (above grid lists.cells (suc m)) (target_above (suc m) (omega arith) lt t)
+      ∙ ap (λ c. local_row points cap P lists c) (cell_above grid points cap lists.cells positive inside are.cells_are (suc m) (omega arith) lt) in
       ap₂ add_box
-      (ap (λ c. shifted_down P (local_row points cap P lists c) (quadrant (cell (suc m))) k) (cell_above grid points cap lists.cells positive inside are.cells_are (suc m) (omega arith) lt))
+      (ap (λ (r : ℕ → BoxEnds). shifted_down P r (quadrant (cell (suc m))) k) from)
       (ap₂ add_box (converted_same (suc m) lt k) (far_same (suc m) lt k))
       ∙ sym (local_row-below points cap P lists (cell (suc m)) (level_positive grid points cap lists.cells positive inside are.cells_are (suc m) (omega arith) lt) k)
+      ∙ sym (ap (λ (r : ℕ → BoxEnds). r k) (row_given (suc m) t))
 
   -- ---- radii
   weight_same : (n : ℕ) → n < length lists.cells → weight_under P given n ≡ weight_in points P (cell n)
   weight_same n lt = sum_over_sources grid points cap P lists positive inside are (λ p. weight P (source_of p)) n lt
 
-  pairs_lose : (n : ℕ) → n < length lists.cells → sum_by (given_pair_radius P given (side (cell n))) (entries_of given V n) ≡ sum_by (pair_radius_in points P (side (cell n))) (lists.entries V (cell n))
+  pairs_lose : (n : ℕ) → n < length lists.cells → v_losses P (weight_of_entry P given) (side (cell n)) (entries_of given V n) ≡ sum_by (pair_radius_in points P (side (cell n))) (lists.entries V (cell n))
   pairs_lose n lt = sum_over_entries grid points cap P lists positive inside are V n lt
-      (λ m. pair_radius P (weight_under P given m) (side (cell n)))
+      (λ m. v_loss P (weight_under P given m) (side (cell n)))
       (pair_radius_in points P (side (cell n)))
-      (λ m lm. ap (λ w. pair_radius P w (side (cell n))) (weight_same m lm))
+      (λ m lm. ap (λ w. v_loss P w (side (cell n))) (weight_same m lm))
 
-  singles_lose : (n : ℕ) → n < length lists.cells → sum_by (given_single_radius P given (side (cell n))) (entries_of given X n) ≡ sum_by (single_radius_in points P (side (cell n))) (lists.entries X (cell n))
+  singles_lose : (n : ℕ) → n < length lists.cells → x_losses P (weight_of_entry P given) (side (cell n)) (entries_of given X n) ≡ sum_by (single_radius_in points P (side (cell n))) (lists.entries X (cell n))
   singles_lose n lt = sum_over_entries grid points cap P lists positive inside are X n lt
-      (λ m. single_radius P (weight_under P given m) (side (cell n)))
+      (λ m. x_loss P (weight_under P given m) (side (cell n)))
       (single_radius_in points P (side (cell n)))
-      (λ m lm. ap (λ w. single_radius P w (side (cell n))) (weight_same m lm))
+      (λ m lm. ap (λ w. x_loss P w (side (cell n))) (weight_same m lm))
 
-  pub radii_same : (n : ℕ) → n < length lists.cells → given_local_radius P given n ≡ local_radius points cap P lists (cell n)
-  radii_same zero lt =
+  pub radii_same : (n : ℕ) → n < length lists.cells → has_target points (cell n) ≡ true → given_local_radius P given n ≡ given.radius n
+  radii_same zero lt t =
       ap₂ (λ a b. 0 + (a + b))
       (pairs_lose 0 lt ∙ ap (sum_by (pair_radius_in points P (side (cell 0)))) (root_V lt))
       (singles_lose 0 lt ∙ ap (sum_by (single_radius_in points P (side (cell 0)))) (root_X lt))
       ∙ sym (local_radius-root points cap P lists (cell 0) (root_cell lt))
-  radii_same (suc m) lt =
+      ∙ sym (radius_given 0 t)
+  radii_same (suc m) lt t =
       ap₂ (λ a b. a + b)
-      (ap (local_radius points cap P lists) (cell_above grid points cap lists.cells positive inside are.cells_are (suc m) (omega arith) lt))
+      (radius_given (above grid lists.cells (suc m)) (target_above (suc m) (omega arith) lt t)
+      ∙ ap (local_radius points cap P lists) (cell_above grid points cap lists.cells positive inside are.cells_are (suc m) (omega arith) lt))
       (ap₂ (λ a b. a + b) (pairs_lose (suc m) lt) (singles_lose (suc m) lt))
       ∙ sym (local_radius-below points cap P lists (cell (suc m)) (level_positive grid points cap lists.cells positive inside are.cells_are (suc m) (omega arith) lt))
+      ∙ sym (radius_given (suc m) t)
 
   -- ---- boxes
   multipoles_same : (n : ℕ) → n < length lists.cells → (z : Gaussian) → multipoles_at P given n z ≡ multipole_values_at points cap P lists (cell n) z
@@ -159,13 +183,16 @@ module _ (grid : ℕ) (points : List Point) (cap P : ℕ) (lists : TreeLists) (p
       (λ c. total_box (pair_box z) (sources_in points c))
       (λ m lm. over_sources grid points cap P lists positive inside are (pair_box z) m lm)
 
-  widened_same : (n : ℕ) → n < length lists.cells → given.radius n + sum_by (λ e. given_single_radius P given (side (given.cell e.c)) e) (entries_of given W n) ≡ radius_in points cap P lists (cell n)
-  widened_same n lt = ap (λ r. local_radius points cap P lists (cell n) + r) (sum_over_entries grid points cap P lists positive inside are W n lt
-      (λ m. single_radius P (weight_under P given m) (side (cell m)))
-      (λ c. single_radius_in points P (side c) c)
-      (λ m lm. ap (λ w. single_radius P w (side (cell m))) (weight_same m lm)))
+  widened_same : (n : ℕ) → n < length lists.cells → has_target points (cell n) ≡ true
+      → given.radius n + w_losses P (weight_of_entry P given) (cell_of given) (entries_of given W n) ≡ radius_in points cap P lists (cell n)
+  widened_same n lt t = ap₂ (λ a b. a + b) (radius_given n t) (sum_over_entries grid points cap P lists positive inside are W n lt
+      (λ m. w_loss P (weight_under P given m) (cell m))
+      (λ c. w_loss P (weight_in points P c) c)
+      (λ m lm. ap (λ w. w_loss P w (cell m)) (weight_same m lm)))
 
-  pub boxes_same : (t : LeafTarget) → t.leaf < length lists.cells → given_target_box P given t ≡ box_in points cap P lists (cell t.leaf) t.place
-  boxes_same t lt = ap₂ (λ b r. widen_box (add_box (local_value_at points cap P lists (cell t.leaf) t.place) b) (pos r))
-      (ap₂ add_box (multipoles_same t.leaf lt t.place) (pairs_same t.leaf lt t.place))
-      (widened_same t.leaf lt)
+  pub boxes_same : (t : LeafTarget) → t.leaf < length lists.cells → has_target points (cell t.leaf) ≡ true → given_target_box P given t ≡ box_in points cap P lists (cell t.leaf) t.place
+  boxes_same t lt h = ap₂ (λ b r. widen_box b (pos r))
+      (ap₂ add_box
+      (ap (λ (r : ℕ → BoxEnds). value_in P (cell t.leaf) r t.place) (row_given t.leaf h))
+      (ap₂ add_box (multipoles_same t.leaf lt t.place) (pairs_same t.leaf lt t.place)))
+      (widened_same t.leaf lt h)

@@ -1,6 +1,6 @@
 -- The cells of a tree by their numbers, with the parent of each.
 use Rattle.std.proofs.Common.{ℕ, ◌≡◌, ◌-◌, ◌<◌, ◌≤◌, zero, suc, inl, inr, List, [], ◌∷◌, length, Bool, true, false, cond, ◌&&◌, refl, sym, ap, ◌∙◌, arith}
-use Rattle.std.specs.Prelude.{◌==◌, nat_lt, Contains, slice_index_or}
+use Rattle.std.specs.Prelude.{◌==◌, Contains, slice_index_or}
 use Rattle.std.proofs.lemmas.Bool.{false≢true, cases_lt, and_parts, and_from, eqb-true, eq-eqb, lt-ltb, le-ltb}
 use Rattle.points.specs.declared.Point.{Point}
 use Rattle.cell_name.specs.Order.{IsBefore}

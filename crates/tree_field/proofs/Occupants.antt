@@ -1,7 +1,8 @@
 -- Whether a cell has a source or a target, as tests.
-use Rattle.std.proofs.Common.{◌≡◌, ◌≤◌, List, true, not}
+use Rattle.std.proofs.Common.{◌≡◌, ◌<◌, ◌≤◌, List, true, not}
 use Rattle.std.proofs.lemmas.Bool.{and_parts, and_from}
-use Rattle.cell_name.specs.Square.{Square, holds_test}
+use Rattle.cell_name.specs.Square.{Square, parent, holds_test}
+use Rattle.cell_name.proofs.Cells.{Holds-parent}
 use Rattle.cell_name.proofs.HoldsTest.{Holds-from_test, test-from_Holds}
 use Rattle.points.specs.Points.{is_source}
 use Rattle.points.specs.declared.Point.{Point}
@@ -36,3 +37,9 @@ pub occupied_from_source : (points : List Point) (c : Square) → has_source poi
 occupied_from_source points c e =
     let f = found (is_source_in c) points e in
     count_by-listed (λ p. holds_test c p.x p.y) points f.member f.listed (and_parts (is_source f.member.kind) (holds_test c f.member.x f.member.y) f.passes).1
+
+-- the parent of a cell with a target has one
+pub has_target-parent : (points : List Point) (b : Square) → 0 < b.level → b.level ≤ b.grid → has_target points b ≡ true → has_target points (parent b) ≡ true
+has_target-parent points b lo hi e =
+    let h = HasTarget-from_test points b e in
+    test-from_HasTarget points (parent b) (record { target = h.target; here = record { listed = h.here.listed; held = Holds-parent b h.target.x h.target.y lo hi h.here.held }; is_target = h.is_target })

@@ -1,5 +1,5 @@
 -- A tree of the program and its lists, in the words of the field.
-use Rattle.std.proofs.Common.{ℕ, ◌≡◌, ◌+◌, ◌<◌, ◌≤◌, List, [], ◌∷◌, ◌++◌, length, map, get_or, Bool, true, false, cond, ◌&&◌, filter, Some, refl, sym, ap, ap₂, ◌∙◌, subst, arith, lit<, append_assoc, length-append}
+use Rattle.std.proofs.Common.{ℕ, ◌≡◌, ◌+◌, ◌<◌, List, [], ◌∷◌, ◌++◌, length, map, get_or, Bool, true, false, cond, ◌&&◌, filter, Some, refl, sym, ap, ap₂, ◌∙◌, subst, arith, lit<, append_assoc, length-append}
 use Rattle.std.specs.Prelude.{nat_lt, All, Contains}
 use Rattle.std.specs.List.{range_with_len}
 use Rattle.std.proofs.lemmas.Bool.{false≢true, and_from, lt-ltb}

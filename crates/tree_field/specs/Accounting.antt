@@ -1,6 +1,8 @@
--- The field of a list as an accounting: its cells by their numbers in the list of cells, its sources and targets with their leaves, its entries, rows, radii and boxes.
+-- The field of a list as an accounting, as its certificate has it: its cells by their numbers in the list of cells, its sources and targets with their leaves, its entries, rows, radii
+-- and boxes.
 use Rattle.std.specs.Prelude.{ℕ, suc, Bool, cond, ◌&&◌, ◌==◌, nat_lt, List, [], ◌∷◌, ◌++◌, length, map, filter, slice_index_or}
 use Rattle.std.specs.List.{flat_map}
+use Rattle.exact_math.specs.Ends.{BoxEnds, zero_box}
 use Rattle.cell_name.specs.Square.{Square, root, parent}
 use Rattle.letters.specs.declared.Entry.{Entry}
 use Rattle.letters.specs.declared.Letter.{Letter}
@@ -10,12 +12,13 @@ use Rattle.points.specs.declared.Point.{Point}
 use Rattle.soundness.specs.Accounts.{LeafSource, LeafTarget, Accounting}
 use Rattle.tree_field.specs.Field.{targets, multipole_row, leaf_at, local_row, local_radius, target_box}
 use Rattle.tree_field.specs.Lists.{TreeLists}
+use Rattle.tree_field.specs.Work.{has_target}
 
 -- ---- cells by numbers
 abbrev pub same_cell : Square → Square → Bool
 same_cell c d = (c.grid == d.grid) && (c.level == d.level) && (c.i == d.i) && (c.j == d.j)
 
--- where a cell stands in a list
+-- exactly where a cell stands in a list; the list's length where it doesn't
 unfoldable pub number : List Square → Square → ℕ
 number [] c = 0
 number (d ∷ ds) c = cond (same_cell d c) 0 (suc (number ds c))
@@ -28,21 +31,12 @@ cell_at grid cells n = slice_index_or cells n (root grid)
 abbrev pub above : ℕ → List Square → ℕ → ℕ
 above grid cells n = cond (nat_lt n (length cells)) (number cells (parent (cell_at grid cells n))) 0
 
--- ---- the accounting
-module _ (grid : ℕ) (points : List Point) (cap P : ℕ) (lists : TreeLists) where
-  abbrev pub leaf_number : Point → ℕ
-  leaf_number p = number lists.cells (leaf_at points cap grid (place p))
+-- the points that are sources
+abbrev pub sources : List Point → List Point
+sources points = filter (λ p. is_source p.kind) points
 
-  abbrev pub leaf_source : Point → LeafSource
-  leaf_source p = record { point = p; leaf = leaf_number p }
-
-  abbrev pub leaf_target : Point → LeafTarget
-  leaf_target t = record { place = place t; leaf = leaf_number t; box = target_box points cap P lists grid (place t) }
-
-  -- the points that are sources
-  abbrev pub sources : List Point
-  sources = filter (λ p. is_source p.kind) points
-
+-- ---- entries
+module _ (lists : TreeLists) where
   abbrev pub entry : Letter → Square → Square → Entry
   entry letter b c = record { letter = letter; b = number lists.cells b; c = number lists.cells c }
 
@@ -53,16 +47,37 @@ module _ (grid : ℕ) (points : List Point) (cap P : ℕ) (lists : TreeLists) wh
   abbrev pub of_cell : Square → List Entry
   of_cell b = entries_from U b ++ (entries_from V b ++ (entries_from W b ++ entries_from X b))
 
-  -- what the field presents of itself
-  abbrev pub accounting : Accounting
-  accounting = record {
-    nodes = length lists.cells;
-    parent = above grid lists.cells;
-    cell = cell_at grid lists.cells;
-    sources = map leaf_source sources;
-    targets = map leaf_target (targets points);
-    entries = flat_map of_cell lists.cells;
-    multipole = λ n. multipole_row points cap (cell_at grid lists.cells n);
-    local = λ n. local_row points cap P lists (cell_at grid lists.cells n);
-    radius = λ n. local_radius points cap P lists (cell_at grid lists.cells n);
-  }
+module _ (grid : ℕ) (points : List Point) (cap : ℕ) where
+  -- ---- sources in their leaves
+  module _ (lists : TreeLists) where
+    abbrev pub leaf_number : Point → ℕ
+    leaf_number p = number lists.cells (leaf_at points cap grid (place p))
+
+    abbrev pub leaf_source : Point → LeafSource
+    leaf_source p = record { point = p; leaf = leaf_number p }
+
+  -- ---- the accounting
+  module _ (P : ℕ) (lists : TreeLists) where
+    abbrev pub leaf_target : Point → LeafTarget
+    leaf_target t = record { place = place t; leaf = leaf_number lists t; box = target_box points cap P lists grid (place t) }
+
+    -- the local row and the radius of a cell with a target; a cell without one has the zero row and the radius 0
+    abbrev pub row_for_targets : Square → ℕ → BoxEnds
+    row_for_targets b = cond (has_target points b) (local_row points cap P lists b) (λ k. zero_box)
+
+    abbrev pub radius_for_targets : Square → ℕ
+    radius_for_targets b = cond (has_target points b) (local_radius points cap P lists b) 0
+
+    -- what the field presents of itself
+    abbrev pub accounting : Accounting
+    accounting = record {
+      nodes = length lists.cells;
+      parent = above grid lists.cells;
+      cell = cell_at grid lists.cells;
+      sources = map (leaf_source lists) (sources points);
+      targets = map leaf_target (targets points);
+      entries = flat_map (of_cell lists) lists.cells;
+      multipole = λ n. multipole_row points cap (cell_at grid lists.cells n);
+      local = λ n. row_for_targets (cell_at grid lists.cells n);
+      radius = λ n. radius_for_targets (cell_at grid lists.cells n);
+    }

@@ -1,4 +1,4 @@
--- The field meets the rules of an accounting, and its boxes contain the direct sum.
+-- The accounting of the field meets the rules, and its boxes contain the direct sum.
 use Rattle.std.specs.Prelude.{ℕ, ◌<◌, ◌≤◌, List, All}
 use Rattle.exact_math.specs.Ends.{BoxEndsContain}
 use Rattle.exact_math.specs.Units.{unit}
@@ -16,6 +16,6 @@ abbrev pub FieldContains : Type 0
 FieldContains = (grid : ℕ) (points : List Point) (cap P : ℕ) (lists : TreeLists) → 0 < grid → 2 ≤ P → AreInGrid grid points → AreTreeLists grid points cap lists
     → All (λ t. BoxEndsContain unit (target_box points cap P lists grid (place t)) (direct_sum (place t) points)) (targets points)
 
--- at each order, so it does as an accounting of its own cells, entries, rows and radii
+-- the field's accounting meets the rules, at each order
 abbrev pub FieldMeetsRules : Type 0
 FieldMeetsRules = (grid : ℕ) (points : List Point) (cap P : ℕ) (lists : TreeLists) → 0 < grid → AreInGrid grid points → AreTreeLists grid points cap lists → Rules P (accounting grid points cap P lists)

@@ -1,7 +1,7 @@
 -- The field of the method: rows and radii of the cells of the tree, and the box of each target. Rows and boxes count units of 2^-40; a row is a function of its index.
 use Rattle.std.specs.Prelude.{ℕ, zero, suc, ◌+◌, ◌-◌, Bool, ◌&&◌, not, cond, List, map, filter}
 use Rattle.std.specs.List.{list_any}
-use Rattle.exact_math.specs.Ends.{BoxEnds, zero_box, add_box}
+use Rattle.exact_math.specs.Ends.{BoxEnds, zero_box}
 use Rattle.exact_math.specs.Gaussian.{Gaussian}
 use Rattle.cell_name.specs.Square.{Square, side, parent, square_at, holds_test}
 use Rattle.letters.specs.declared.Letter.TheVariants.{U, V, W, X}
@@ -9,8 +9,7 @@ use Rattle.points.specs.Points.{is_source, place}
 use Rattle.points.specs.declared.Point.{Point}
 use Rattle.cell_name.specs.Quarters.{quarters}
 use Rattle.quadtree.specs.Tree.{is_over}
-use Rattle.soundness.specs.Steps.{moments_of, weight_of, child_rows, v_rows, x_rows, w_values, u_pairs, v_losses, x_losses, w_losses, from_parent, value_in, box_of}
-use Rattle.truncation.specs.Tails.{pair_radius, single_radius}
+use Rattle.soundness.specs.Steps.{moments_of, weight_of, child_rows, v_rows, x_rows, w_values, u_pairs, v_loss, x_loss, v_losses, x_losses, w_losses, from_parent, local_row_of, radius_of, value_in, box_of}
 use Rattle.tree_field.specs.Lists.{TreeLists}
 
 -- ---- points and cells
@@ -42,11 +41,11 @@ module _ (points : List Point) where
 
     -- what an entry of two cells of the side s can lose
     abbrev pub pair_radius_in : ℕ → Square → ℕ
-    pair_radius_in s c = pair_radius P (weight_in c) s
+    pair_radius_in s c = v_loss P (weight_in c) s
 
     -- and one of a cell of the side s and of points
     abbrev pub single_radius_in : ℕ → Square → ℕ
-    single_radius_in s c = single_radius P (weight_in c) s
+    single_radius_in s c = x_loss P (weight_in c) s
 
   module _ (cap : ℕ) where
     -- of a cell with that many levels below its own: the sum of the rows of its quarters with a source, shifted up, and of a leaf that of its sources
@@ -83,7 +82,7 @@ module _ (points : List Point) where
       -- the local row of a cell of a level: nothing at the root, and below it the parent's brought down and what the entries bring
       unfoldable pub local_at_level : ℕ → Square → ℕ → BoxEnds
       local_at_level zero b k = zero_box
-      local_at_level (suc level) b k = add_box (from_parent P b (local_at_level level (parent b)) k) (add_box (converted_rows b k) (far_rows b k))
+      local_at_level (suc level) b k = local_row_of (from_parent P b (local_at_level level (parent b))) (converted_rows b) (far_rows b) k
 
       abbrev pub local_row : Square → ℕ → BoxEnds
       local_row b = local_at_level b.level b
@@ -91,7 +90,7 @@ module _ (points : List Point) where
       -- ---- radii
       unfoldable pub radius_at_level : ℕ → Square → ℕ
       radius_at_level zero b = 0
-      radius_at_level (suc level) b = radius_at_level level (parent b) + (v_losses P (weight_in P) (side b) (lists.entries V b) + x_losses P (weight_in P) (side b) (lists.entries X b))
+      radius_at_level (suc level) b = radius_of (radius_at_level level (parent b)) (v_losses P (weight_in P) (side b) (lists.entries V b)) (x_losses P (weight_in P) (side b) (lists.entries X b))
 
       abbrev pub local_radius : Square → ℕ
       local_radius b = radius_at_level b.level b

@@ -6,8 +6,9 @@ ghost use Rattle.tree_field.specs.Program.{ListsOfTree, NodesOfTree, LeavesOfTre
 /// The box of each target contains the direct sum of the list, for each list of points within a grid, each capacity of the leaves and each
 /// order from 2 on.
 ///
-/// The field is an accounting of its own cells, entries, rows and radii that meets the rules of soundness: what is computed of it is what it
-/// has. Cells that don't touch are apart, and exactly one entry accounts for each target and source.
+/// The field is an accounting of its own cells, entries, rows and radii that meets the rules of soundness: its multipole rows, the local rows
+/// and radii of its cells with a target, and its boxes are what is computed of it. Cells without a target have the zero row and the radius 0,
+/// which no rule asks for. Cells that don't touch are apart, and exactly one entry accounts for each target and source.
 pub fn boxes_contain_the_sum()
     ensures rules { FieldMeetsRules }
     ensures contains { FieldContains }

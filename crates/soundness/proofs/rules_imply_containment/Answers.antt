@@ -1,4 +1,3 @@
-use Rattle.std.specs.Prelude.{All}
 use Rattle.std.proofs.Common.{get_or}
 use Rattle.near_field.specs.DirectSum.{direct_sum}
 use Rattle.soundness.specs.Accounts.{points_of}
