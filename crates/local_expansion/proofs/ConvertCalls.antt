@@ -4,7 +4,6 @@ use Rattle.std.proofs.lemmas.Int.{ints}
 use Rattle.exact_math.specs.Ends.{BoxEnds, BoxEndsWithin, add_box}
 use Rattle.exact_math.specs.Gaussian.{Gaussian}
 use Rattle.exact_math.specs.Orders.{IsOrder}
-use Rattle.exact_math.specs.Ratio.{ComplexRatio, ◌+ᶜ◌}
 use Rattle.exact_math.specs.Sums.{sum_terms}
 use Rattle.exact_math.proofs.Orders.{order_bounds}
 use Rattle.complex_box.specs.Rows.{zero_cbox}
@@ -13,9 +12,8 @@ use Rattle.complex_box.proofs.Sizes.{box_wider, add_box_within}
 use Rattle.kernel_table.specs.Kernel.{IsKernelDistance, kernel_entry, IsKernelColumn}
 use Rattle.kernel_table.proofs.Entries.{kernel_entries}
 use Rattle.kernel_table.proofs.Sizes.{norm≥4}
-use Rattle.truncation.specs.Entries.{Source, pair_cut}
-use Rattle.row_recursions.specs.Fields.{HoldsField}
-use Rattle.row_recursions.specs.Moments.{HoldsMoments}
+use Rattle.truncation.specs.Entries.{pair_cut}
+use Rattle.row_recursions.specs.Contents.{AddsFieldConverted}
 use Rattle.row_recursions.specs.Rows.{row_of, RowsAdd, converted}
 use Rattle.row_recursions.specs.Sizes.{RowWithin}
 use Rattle.row_recursions.proofs.ConvertLaws.{field_converted}
@@ -40,9 +38,8 @@ module _ (P : ℕ) (e : Gaussian) (m : ℕ → BoxEnds) (order : IsOrder P) (dis
       (converted_within P (2 ^ 79) e m few_enough distance bounded l h)))
 
   -- the row to which it was added
-  pub converted_field : (s : ℕ) (b c : Gaussian) (xs : List Source) (field : Gaussian → ComplexRatio) (old new : ℕ → BoxEnds) → 1 ≤ s → RowsAdd P old (converted P (kernel_entry e) m) new → HoldsMoments P s c xs m → HoldsField P s b field old
-      → HoldsField P s b (λ t. field t +ᶜ sum_terms (pair_cut P s e b c t) xs) new
-  converted_field s b c xs field old new h adds v w = field_added P s b field (λ t. sum_terms (pair_cut P s e b c t) xs) old (converted P (kernel_entry e) m) new h adds w
+  pub converted_field : (old new : ℕ → BoxEnds) → RowsAdd P old (converted P (kernel_entry e) m) new → AddsFieldConverted P e m old new
+  converted_field old new adds s b c xs field h v w = field_added P s b field (λ t. sum_terms (pair_cut P s e b c t) xs) old (converted P (kernel_entry e) m) new h adds w
       (field_converted P s e b c xs m h (omega (arith, ints, norm≥4 e distance)) v)
 
   pub converted_added : (k n : ℕ) (old new : ℕ → BoxEnds) → RowsAdd P old (converted P (kernel_entry e) m) new → RowWithin P (2 * k) m → RowWithin P n old → RowWithin P (n + 3 * k) new

@@ -1,6 +1,6 @@
 -- Powers of a ratio m/zeta, each rounded from the one before.
-use Rattle.std.specs.Prelude.{ℕ, zero, suc}
-use Rattle.exact_math.specs.Ends.{BoxEnds}
+use Rattle.std.specs.Prelude.{ℕ, zero, suc, pos}
+use Rattle.exact_math.specs.Ends.{BoxEnds, neg_box, scale_box}
 use Rattle.exact_math.specs.Gaussian.{Gaussian}
 use Rattle.row_recursions.specs.Rows.{ratio_box}
 
@@ -8,3 +8,11 @@ use Rattle.row_recursions.specs.Rows.{ratio_box}
 unfoldable pub far_powers : BoxEnds → ℕ → Gaussian → ℕ → BoxEnds
 far_powers b m zeta zero = b
 far_powers b m zeta (suc l) = ratio_box m zeta (far_powers b m zeta l)
+
+-- the coefficients of a pole: less the power after each
+abbrev pub far_poles : BoxEnds → ℕ → Gaussian → ℕ → BoxEnds
+far_poles b m zeta l = neg_box (far_powers b m zeta (suc l))
+
+-- those of a dipole: l + 1 times the power l + 2
+abbrev pub far_dipoles : BoxEnds → ℕ → Gaussian → ℕ → BoxEnds
+far_dipoles b m zeta l = scale_box (far_powers b m zeta (suc (suc l))) (pos (suc l))

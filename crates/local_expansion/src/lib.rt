@@ -3,23 +3,18 @@
 //! The coefficient `l` of a local row belongs to `(v/s)^l` in `s` times the field, at the offset `v` from the centre of a cell of side `s`.
 #![tactic(auto)]
 
-ghost use Rattle.std.specs.Prelude.{◌≡◌, ℕ, ◌+◌, ◌*◌, ◌^◌, ◌≤◌, ◌<◌, length, List};
-ghost use Rattle.exact_math.specs.Gaussian.{Gaussian, gaussian};
+ghost use Rattle.std.specs.Prelude.{◌≡◌, ℕ, ◌+◌, ◌*◌, ◌^◌, ◌<◌, length};
+ghost use Rattle.exact_math.specs.Gaussian.{gaussian};
 ghost use Rattle.exact_math.specs.Orders.{IsOrder};
-ghost use Rattle.exact_math.specs.Ratio.{ComplexRatio, ◌+ᶜ◌};
-ghost use Rattle.exact_math.specs.Sums.{sum_terms};
-ghost use Rattle.exact_math.specs.Units.{unit};
-ghost use Rattle.truncation.specs.Entries.{Source, pair_cut, local_cut};
 ghost use Rattle.exact_math.specs.Within.{GaussianBeyond};
-ghost use Rattle.complex_box.specs.Box.{box_ends, number, BoxWithin, BoxContains};
+ghost use Rattle.complex_box.specs.Box.{box_ends, number, BoxWithin};
 ghost use Rattle.kernel_table.specs.Kernel.{IsKernelDistance, kernel_entry};
 ghost use Rattle.cell_name.specs.Cell.{square};
 ghost use Rattle.cell_name.specs.Square.{Holds};
 ghost use Rattle.points.specs.Limits.{InRange, weight64};
 ghost use Rattle.points.specs.Points.{place};
 ghost use Rattle.row_recursions.specs.Cells.{side_of, centre_of, offset_from, far_coefficients_of};
-ghost use Rattle.row_recursions.specs.Fields.{HoldsField};
-ghost use Rattle.row_recursions.specs.Moments.{HoldsMoments};
+ghost use Rattle.row_recursions.specs.Contents.{AddsFieldConverted, AddsFieldOf, IsValueOfField};
 ghost use Rattle.row_recursions.specs.Rows.{row_of, RowsAdd, converted, local_value};
 ghost use Rattle.row_recursions.specs.Sizes.{RowWithin};
 ghost use Rattle.row_recursions.specs.Sources.{source_of};
@@ -59,7 +54,7 @@ pub fn convert<const P: usize>(
     requires room { work.old.translations < 2 ^ 63 }
     ensures len { length into.new ≡ P }
     ensures adds { RowsAdd P (row_of into.old) (converted P (kernel_entry (number e)) (row_of row.entry.cells.now)) (row_of into.new) }
-    ensures contains { (s : ℕ) → (b c : Gaussian) → (xs : List Source) → (field : Gaussian → ComplexRatio) → 1 ≤ s → HoldsMoments P s c xs (row_of row.entry.cells.now) → HoldsField P s b field (row_of into.old) → HoldsField P s b (λ t. field t +ᶜ sum_terms (pair_cut P s (number e) b c t) xs) (row_of into.new) }
+    ensures contains { AddsFieldConverted P (number e) (row_of row.entry.cells.now) (row_of into.old) (row_of into.new) }
     ensures size { (m n : ℕ) → RowWithin P (2 * m) (row_of row.entry.cells.now) → RowWithin P n (row_of into.old) → RowWithin P (n + 3 * m) (row_of into.new) }
     ensures translations { work.new.translations ≡ work.old.translations + 1 }
     ensures pairs { work.new.pairs ≡ work.old.pairs }
@@ -82,7 +77,7 @@ pub fn add_far_source<const P: usize>(into: &mut [CBox], cell: Cell, p: &Point)
     requires size { RowWithin P (2 ^ 110) (row_of into.old) }
     ensures len { length into.new ≡ P }
     ensures adds { RowsAdd P (row_of into.old) (far_coefficients_of cell p.now) (row_of into.new) }
-    ensures contains { (field : Gaussian → ComplexRatio) → HoldsField P (side_of cell) (centre_of cell) field (row_of into.old) → HoldsField P (side_of cell) (centre_of cell) (λ t. field t +ᶜ local_cut P (centre_of cell) t (source_of p.now)) (row_of into.new) }
+    ensures contains { AddsFieldOf P (side_of cell) (centre_of cell) (source_of p.now) (row_of into.old) (row_of into.new) }
     ensures size { (n : ℕ) → RowWithin P n (row_of into.old) → RowWithin P (n + 2 ^ 40 * weight64 p.now) (row_of into.new) }
 {
     add_far(into, cell, p);
@@ -97,7 +92,7 @@ pub fn at_local<const P: usize>(row: Row<P>, cell: Cell, x: i64, y: i64) -> CBox
     requires inside { Holds (square cell) x y }
     requires size { RowWithin P (2 ^ 90) (row_of row.cells.now) }
     ensures ends { box_ends result ≡ local_value P (row_of row.entry.cells.now) (side_of cell) (offset_from cell (gaussian x y)) }
-    ensures contains { (field : Gaussian → ComplexRatio) → HoldsField P (side_of cell) (centre_of cell) field (row_of row.entry.cells.now) → BoxContains unit result (field (gaussian x y)) }
+    ensures contains { IsValueOfField P (side_of cell) (centre_of cell) (gaussian x y) (row_of row.entry.cells.now) result }
     ensures size { (n : ℕ) → RowWithin P n (row_of row.entry.cells.now) → BoxWithin (P * n) result }
 {
     value_at(row, offset(cell, x, y), side_bits(cell))

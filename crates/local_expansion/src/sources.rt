@@ -1,6 +1,5 @@
 //! The contribution of one far source, added to a row.
-ghost use Rattle.std.specs.Prelude.{◌≡◌, suc, ◌*◌, ◌^◌, ◌≤◌, pos, length};
-ghost use Rattle.exact_math.specs.Ends.{neg_box, scale_box};
+ghost use Rattle.std.specs.Prelude.{◌≡◌, ◌*◌, ◌^◌, ◌≤◌, length};
 ghost use Rattle.exact_math.specs.Within.{GaussianWithin, GaussianBeyond};
 ghost use Rattle.complex_box.specs.Box.{box_ends, number, BoxWithin};
 ghost use Rattle.points.specs.Limits.{InRange};
@@ -8,7 +7,7 @@ ghost use Rattle.points.specs.Points.{place};
 ghost use Rattle.row_recursions.specs.Cells.{side_of, offset_from, far_coefficients_of};
 ghost use Rattle.row_recursions.specs.Rows.{row_of, RowsAdd};
 ghost use Rattle.row_recursions.specs.Sizes.{RowWithin};
-ghost use Rattle.local_expansion.specs.FarPowers.{far_powers};
+ghost use Rattle.local_expansion.specs.FarPowers.{far_poles, far_dipoles};
 
 use cell_name::Cell;
 use complex_box::{CBox, Gauss};
@@ -23,7 +22,7 @@ fn add_poles(into: &mut [CBox], first: CBox, zeta: Gauss, bits: u32)
     requires far { GaussianBeyond (3 * 2 ^ bits) (number zeta) }
     requires size { BoxWithin (2 ^ 60) first }
     ensures len { length into.new ≡ length into.old }
-    ensures poles { RowsAdd (length into.old) (row_of into.old) (λ l. neg_box (far_powers (box_ends first) (2 * 2 ^ bits) (number zeta) (suc l))) (row_of into.new) }
+    ensures poles { RowsAdd (length into.old) (row_of into.old) (far_poles (box_ends first) (2 * 2 ^ bits) (number zeta)) (row_of into.new) }
 {
     let ratio = far_ratio(zeta, bits);
     let mut power = first;
@@ -42,7 +41,7 @@ fn add_dipoles(into: &mut [CBox], first: CBox, zeta: Gauss, bits: u32)
     requires far { GaussianBeyond (3 * 2 ^ bits) (number zeta) }
     requires size { BoxWithin (2 ^ 60) first }
     ensures len { length into.new ≡ length into.old }
-    ensures dipoles { RowsAdd (length into.old) (row_of into.old) (λ l. scale_box (far_powers (box_ends first) (2 * 2 ^ bits) (number zeta) (suc (suc l))) (pos (suc l))) (row_of into.new) }
+    ensures dipoles { RowsAdd (length into.old) (row_of into.old) (far_dipoles (box_ends first) (2 * 2 ^ bits) (number zeta)) (row_of into.new) }
 {
     let ratio = far_ratio(zeta, bits);
     let mut power = first.gquot(ratio.factor, ratio.divisor);

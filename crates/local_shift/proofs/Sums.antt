@@ -1,15 +1,14 @@
 -- What a row holds to which a shifted row was added, and how large it is.
-use Rattle.std.proofs.Common.{◌≡◌, sym, ap, ◌∙◌, subst, ℕ, ◌+◌, ◌*◌, ◌^◌, ◌≤◌, ◌<◌, List, length, arith, ℤ, pos, ◌+ℤ◌, All}
+use Rattle.std.proofs.Common.{◌≡◌, sym, ap, ◌∙◌, subst, ℕ, ◌+◌, ◌^◌, ◌<◌, List, length, arith, pos, All}
 use Rattle.std.proofs.lemmas.Int.{ints}
-use Rattle.exact_math.specs.Ends.{BoxEnds, BoxEndsWithin, BoxEndsContain, zero_box, add_box, quot_box}
-use Rattle.exact_math.specs.Gaussian.{Gaussian, add_gaussian, scale_gaussian}
-use Rattle.exact_math.specs.Ratio.{ComplexRatio, ◌+ᶜ◌}
+use Rattle.exact_math.specs.Ends.{BoxEnds, BoxEndsWithin, zero_box, add_box, quot_box}
+use Rattle.exact_math.specs.Gaussian.{add_gaussian, scale_gaussian}
+use Rattle.exact_math.specs.Ratio.{◌+ᶜ◌}
 use Rattle.complex_box.specs.Rows.{zero_cbox, IsZero}
 use Rattle.complex_box.specs.declared.CBox.{CBox}
 use Rattle.complex_box.proofs.Sizes.{box_wider, add_box_within, quot_box_within}
-use Rattle.complex_box.proofs.ZeroBoxes.{zero_left}
 use Rattle.cell_name.specs.declared.cell.Quadrant.{Quadrant}
-use Rattle.row_recursions.specs.Fields.{HoldsField}
+use Rattle.row_recursions.specs.Contents.{AddsFieldDown}
 use Rattle.row_recursions.specs.Rows.{row_of, RowsAdd, down_round, shifted_down}
 use Rattle.row_recursions.specs.Sizes.{RowWithin}
 use Rattle.row_recursions.proofs.DownLaws.{field_down}
@@ -35,17 +34,10 @@ module _ (P : ℕ) (q : Quadrant) (m : ℕ → BoxEnds) where
 
   module _ (old new : ℕ → BoxEnds) (adds : RowsAdd P old (shifted_down P m (quadrant_of q)) new) where
     -- both fields
-    pub holds_both : (s : ℕ) (b : Gaussian) (before field : Gaussian → ComplexRatio) → 1 ≤ s → HoldsField P (2 * s) b field m → HoldsField P s (add_gaussian b (scale_gaussian s (quadrant_of q))) before old
-        → HoldsField P s (add_gaussian b (scale_gaussian s (quadrant_of q))) (λ t. before t +ᶜ field t) new
-    holds_both s b before field s≥1 parent child = field_same P s (add_gaussian b (scale_gaussian s (quadrant_of q))) (λ t. before t +ᶜ field t) (λ k. add_box (old k) (shifted_down P m (quadrant_of q) k)) new adds
-        (sum_of_fields P s (add_gaussian b (scale_gaussian s (quadrant_of q))) before field old (shifted_down P m (quadrant_of q)) s≥1 child (field_down P s (quadrant_of q) b field m s≥1 parent))
-
-    -- the parent's, where the row was nothing
-    pub holds_parent : ((k : ℕ) → k < P → old k ≡ zero_box) → (s : ℕ) (b : Gaussian) (field : Gaussian → ComplexRatio) → 1 ≤ s → HoldsField P (2 * s) b field m
-        → HoldsField P s (add_gaussian b (scale_gaussian s (quadrant_of q))) field new
-    holds_parent nothing s b field s≥1 parent = field_same P s (add_gaussian b (scale_gaussian s (quadrant_of q))) field (shifted_down P m (quadrant_of q)) new
-        (λ k h. adds k h ∙ ap (λ x. add_box x (shifted_down P m (quadrant_of q) k)) (nothing k h) ∙ zero_left _)
-        (field_down P s (quadrant_of q) b field m s≥1 parent)
+    pub holds_both : AddsFieldDown P (quadrant_of q) m old new
+    holds_both s b own field s≥1 parent child =
+        field_same P s (add_gaussian b (scale_gaussian s (quadrant_of q))) (λ t. own t +ᶜ field t) (λ k. add_box (old k) (shifted_down P m (quadrant_of q) k)) new adds
+        (sum_of_fields P s (add_gaussian b (scale_gaussian s (quadrant_of q))) own field old (shifted_down P m (quadrant_of q)) s≥1 child (field_down P s (quadrant_of q) b field m s≥1 parent))
 
     pub sum_within : (k n : ℕ) → RowWithin P k m → RowWithin P n old → RowWithin P (k + n) new
     sum_within k n v w i h = subst (BoxEndsWithin (k + n)) (sym (adds i h)) (box_wider (n + k) (k + n) _ (omega arith)

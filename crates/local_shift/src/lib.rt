@@ -6,12 +6,9 @@
 //! Boxes count units of 2^-40.
 #![tactic(auto)]
 
-ghost use Rattle.std.specs.Prelude.{◌≡◌, ℕ, ◌+◌, ◌*◌, ◌^◌, ◌<◌, ◌≤◌, length, All};
-ghost use Rattle.exact_math.specs.Gaussian.{Gaussian, add_gaussian, scale_gaussian};
-ghost use Rattle.complex_box.specs.Rows.{IsZero};
+ghost use Rattle.std.specs.Prelude.{◌≡◌, ℕ, ◌+◌, ◌^◌, ◌<◌, length};
 ghost use Rattle.exact_math.specs.Orders.{IsOrder};
-ghost use Rattle.exact_math.specs.Ratio.{ComplexRatio, ◌+ᶜ◌};
-ghost use Rattle.row_recursions.specs.Fields.{HoldsField};
+ghost use Rattle.row_recursions.specs.Contents.{AddsFieldDown};
 ghost use Rattle.row_recursions.specs.Rows.{row_of, RowsAdd, shifted_down};
 ghost use Rattle.row_recursions.specs.Sizes.{RowWithin};
 ghost use Rattle.row_recursions.specs.Cells.{quadrant_of};
@@ -34,8 +31,7 @@ pub fn shift_down<const P: usize>(parent: Row<P>, q: Quadrant, into: &mut [CBox]
     requires count { work.old.translations < 2 ^ 63 }
     ensures len { length into.new ≡ P }
     ensures adds { RowsAdd P (row_of into.old) (shifted_down P (row_of parent.entry.cells.now) (quadrant_of q)) (row_of into.new) }
-    ensures contains { (s : ℕ) (b : Gaussian) (before field : Gaussian → ComplexRatio) → 1 ≤ s → HoldsField P (2 * s) b field (row_of parent.entry.cells.now) → HoldsField P s (add_gaussian b (scale_gaussian s (quadrant_of q))) before (row_of into.old) → HoldsField P s (add_gaussian b (scale_gaussian s (quadrant_of q))) (λ t. before t +ᶜ field t) (row_of into.new) }
-    ensures alone { All IsZero into.old → (s : ℕ) (b : Gaussian) (field : Gaussian → ComplexRatio) → 1 ≤ s → HoldsField P (2 * s) b field (row_of parent.entry.cells.now) → HoldsField P s (add_gaussian b (scale_gaussian s (quadrant_of q))) field (row_of into.new) }
+    ensures contains { AddsFieldDown P (quadrant_of q) (row_of parent.entry.cells.now) (row_of into.old) (row_of into.new) }
     ensures size { (m n : ℕ) → RowWithin P m (row_of parent.entry.cells.now) → RowWithin P n (row_of into.old) → RowWithin P (m + n) (row_of into.new) }
     ensures translations { work.new.translations ≡ work.old.translations + 1 }
     ensures pairs { work.new.pairs ≡ work.old.pairs }

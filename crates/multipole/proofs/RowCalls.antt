@@ -16,6 +16,7 @@ use Rattle.points.specs.declared.Point.{Point}
 use Rattle.truncation.specs.Entries.{Source, multipole_cut}
 use Rattle.exact_math.specs.Within.{GaussianBeyond}
 use Rattle.row_recursions.specs.Cells.{side_of, centre_of, offset_from, moments_of}
+use Rattle.row_recursions.specs.Contents.{AddsMomentsOf}
 use Rattle.row_recursions.specs.Moments.{HoldsMoments}
 use Rattle.row_recursions.specs.Rows.{RowsAdd, multipole_value}
 use Rattle.row_recursions.specs.Sizes.{RowWithin}
@@ -41,9 +42,8 @@ point_moments : (P : ℕ) (c : Cell) (p : Point) → HoldsMoments P (side_of c) 
 point_moments P c p = strength_moments P (side_of c) (centre_of c) (place p) (strength p.kind) (side_positive c)
 
 -- a row with the point's moments added contains those of all
-pub added_moments : (P : ℕ) (c : Cell) (p : Point) (xs : List Source) (old new : ℕ → BoxEnds) → RowsAdd P old (moments_of c p) new
-    → HoldsMoments P (side_of c) (centre_of c) xs old → HoldsMoments P (side_of c) (centre_of c) (xs ++ source_of p ∷ []) new
-added_moments P c p xs old new adds h = moments_same P (side_of c) (centre_of c) (xs ++ source_of p ∷ []) (λ k. add_box (old k) (moments_of c p k)) new adds
+pub added_moments : (P : ℕ) (c : Cell) (p : Point) (old new : ℕ → BoxEnds) → RowsAdd P old (moments_of c p) new → AddsMomentsOf P (side_of c) (centre_of c) (source_of p) old new
+added_moments P c p old new adds xs h = moments_same P (side_of c) (centre_of c) (xs ++ source_of p ∷ []) (λ k. add_box (old k) (moments_of c p k)) new adds
     (sum_of_moments P (side_of c) (centre_of c) xs (source_of p ∷ []) old (moments_of c p) (side_positive c) h (point_moments P c p))
 
 -- the value of a row contains the cut terms

@@ -5,19 +5,16 @@
 //! is exact as long as no rounding falls into it, and what is taken away again leaves the row as it was.
 #![tactic(auto)]
 
-ghost use Rattle.std.specs.Prelude.{◌≡◌, ℕ, ◌+◌, ◌*◌, ◌^◌, length, List, [], ◌∷◌, ◌++◌};
+ghost use Rattle.std.specs.Prelude.{◌≡◌, ℕ, ◌+◌, ◌*◌, ◌^◌, length};
 ghost use Rattle.exact_math.specs.Gaussian.{gaussian};
 ghost use Rattle.exact_math.specs.Orders.{IsOrder};
-ghost use Rattle.exact_math.specs.Sums.{sum_terms};
-ghost use Rattle.exact_math.specs.Units.{unit};
-ghost use Rattle.truncation.specs.Entries.{Source, multipole_cut};
 ghost use Rattle.exact_math.specs.Within.{GaussianBeyond};
-ghost use Rattle.complex_box.specs.Box.{box_ends, BoxWithin, BoxContains};
+ghost use Rattle.complex_box.specs.Box.{box_ends, BoxWithin};
 ghost use Rattle.cell_name.specs.Cell.{square};
 ghost use Rattle.cell_name.specs.Square.{Holds};
 ghost use Rattle.points.specs.Limits.{InGrid, InRange, weight64};
 ghost use Rattle.row_recursions.specs.Cells.{side_of, centre_of, offset_from, moments_of};
-ghost use Rattle.row_recursions.specs.Moments.{HoldsMoments};
+ghost use Rattle.row_recursions.specs.Contents.{AddsMomentsOf, IsValueOfMoments};
 ghost use Rattle.row_recursions.specs.Rows.{row_of, RowsAdd, HasPart, multipole_value};
 ghost use Rattle.row_recursions.specs.Sizes.{RowWithin};
 ghost use Rattle.row_recursions.specs.Sources.{source_of};
@@ -42,7 +39,7 @@ pub fn add_source<const P: usize>(row: &mut [CBox], cell: Cell, p: &Point)
     requires size { RowWithin P (2 ^ 80) (row_of row.old) }
     ensures len { length row.new ≡ P }
     ensures adds { RowsAdd P (row_of row.old) (moments_of cell p.now) (row_of row.new) }
-    ensures contains { (xs : List Source) → HoldsMoments P (side_of cell) (centre_of cell) xs (row_of row.old) → HoldsMoments P (side_of cell) (centre_of cell) (xs ++ source_of p.now ∷ []) (row_of row.new) }
+    ensures contains { AddsMomentsOf P (side_of cell) (centre_of cell) (source_of p.now) (row_of row.old) (row_of row.new) }
     ensures size { (n : ℕ) → RowWithin P n (row_of row.old) → RowWithin P (n + 2 ^ 40 * weight64 p.now) (row_of row.new) }
 {
     let mut part = [CBox::zero(); P];
@@ -78,7 +75,7 @@ pub fn at_multipole<const P: usize>(row: Row<P>, cell: Cell, x: i64, y: i64) -> 
     requires far { GaussianBeyond (3 * side_of cell) (offset_from cell (gaussian x y)) }
     requires size { RowWithin P (2 ^ 80) (row_of row.cells.now) }
     ensures ends { box_ends result ≡ multipole_value P (row_of row.entry.cells.now) (side_of cell) (offset_from cell (gaussian x y)) }
-    ensures contains { (xs : List Source) → HoldsMoments P (side_of cell) (centre_of cell) xs (row_of row.entry.cells.now) → BoxContains unit result (sum_terms (multipole_cut P (centre_of cell) (gaussian x y)) xs) }
+    ensures contains { IsValueOfMoments P (side_of cell) (centre_of cell) (gaussian x y) (row_of row.entry.cells.now) result }
     ensures size { (n : ℕ) → RowWithin P n (row_of row.entry.cells.now) → BoxWithin (P * n) result }
 {
     value_at(row, offset(cell, x, y), side_bits(cell))

@@ -1,12 +1,10 @@
 -- What the shift up does to what a row contains and to its size.
-use Rattle.std.proofs.Common.{◌≡◌, sym, subst, ℕ, ◌+◌, ◌*◌, ◌^◌, ◌≤◌, ◌<◌, List, ◌++◌, arith}
+use Rattle.std.proofs.Common.{◌≡◌, sym, subst, ℕ, ◌+◌, ◌*◌, ◌^◌, ◌<◌, ◌++◌, arith}
 use Rattle.exact_math.specs.Ends.{BoxEnds, BoxEndsWithin, add_box}
-use Rattle.exact_math.specs.Gaussian.{Gaussian, add_gaussian, scale_gaussian}
 use Rattle.complex_box.proofs.Sizes.{box_wider, add_box_within}
 use Rattle.cell_name.specs.declared.cell.Quadrant.{Quadrant}
-use Rattle.truncation.specs.Entries.{Source}
 use Rattle.row_recursions.specs.Cells.{quadrant_of}
-use Rattle.row_recursions.specs.Moments.{HoldsMoments}
+use Rattle.row_recursions.specs.Contents.{AddsMomentsUp}
 use Rattle.row_recursions.specs.Rows.{RowsAdd, shifted_up}
 use Rattle.row_recursions.specs.Sizes.{RowWithin}
 use Rattle.row_recursions.proofs.MomentLaws.{sum_of_moments, moments_up, moments_same}
@@ -24,7 +22,6 @@ module _ (P : ℕ) (m : ℕ → BoxEnds) (q : Quadrant) where
       (add_box_within (2 ^ 80) (2 ^ 80) (old k) (part k) (size k h) (subst (BoxEndsWithin (2 ^ 80)) (sym (is k h)) (part_within (2 ^ 80) bounded k h)))
 
   -- the parent's row contains the moments of all
-  pub added_moments : (old new : ℕ → BoxEnds) → RowsAdd P old (shifted_up m (quadrant_of q)) new → (s : ℕ) (c : Gaussian) (xs ys : List Source) → 1 ≤ s → HoldsMoments P (2 * s) c xs old
-      → HoldsMoments P s (add_gaussian c (scale_gaussian s (quadrant_of q))) ys m → HoldsMoments P (2 * s) c (xs ++ ys) new
+  pub added_moments : (old new : ℕ → BoxEnds) → RowsAdd P old (shifted_up m (quadrant_of q)) new → AddsMomentsUp P (quadrant_of q) m old new
   added_moments old new adds s c xs ys h there here = moments_same P (2 * s) c (xs ++ ys) (λ k. add_box (old k) (shifted_up m (quadrant_of q) k)) new adds
       (sum_of_moments P (2 * s) c xs ys old (shifted_up m (quadrant_of q)) (omega arith) there (moments_up P s (quadrant_of q) c ys m h here))

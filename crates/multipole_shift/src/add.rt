@@ -1,10 +1,8 @@
 //! A row into its parent's.
-ghost use Rattle.std.specs.Prelude.{◌≡◌, ℕ, ◌+◌, ◌*◌, ◌^◌, ◌<◌, ◌≤◌, length, List, ◌++◌};
-ghost use Rattle.exact_math.specs.Gaussian.{Gaussian, add_gaussian, scale_gaussian};
+ghost use Rattle.std.specs.Prelude.{◌≡◌, ℕ, ◌+◌, ◌^◌, ◌<◌, length};
 ghost use Rattle.exact_math.specs.Orders.{IsOrder};
-ghost use Rattle.truncation.specs.Entries.{Source};
 ghost use Rattle.row_recursions.specs.Cells.{quadrant_of};
-ghost use Rattle.row_recursions.specs.Moments.{HoldsMoments};
+ghost use Rattle.row_recursions.specs.Contents.{AddsMomentsUp};
 ghost use Rattle.row_recursions.specs.Rows.{row_of, RowsAdd, shifted_up};
 ghost use Rattle.row_recursions.specs.Sizes.{RowWithin};
 
@@ -27,7 +25,7 @@ pub fn shift_up<const P: usize>(child: Row<P>, q: Quadrant, into: &mut [CBox], w
     requires room { work.old.translations < 2 ^ 63 }
     ensures len { length into.new ≡ P }
     ensures adds { RowsAdd P (row_of into.old) (shifted_up (row_of child.entry.cells.now) (quadrant_of q)) (row_of into.new) }
-    ensures contains { (s : ℕ) (c : Gaussian) (xs ys : List Source) → 1 ≤ s → HoldsMoments P (2 * s) c xs (row_of into.old) → HoldsMoments P s (add_gaussian c (scale_gaussian s (quadrant_of q))) ys (row_of child.entry.cells.now) → HoldsMoments P (2 * s) c (xs ++ ys) (row_of into.new) }
+    ensures contains { AddsMomentsUp P (quadrant_of q) (row_of child.entry.cells.now) (row_of into.old) (row_of into.new) }
     ensures size { (m n : ℕ) → RowWithin P m (row_of into.old) → RowWithin P n (row_of child.entry.cells.now) → RowWithin P (m + n) (row_of into.new) }
     ensures translations { work.new.translations ≡ work.old.translations + 1 }
     ensures pairs { work.new.pairs ≡ work.old.pairs }

@@ -34,7 +34,7 @@ pub returns-clause-adds : goal.returns-clause-adds
 returns-clause-adds g c = λ k h. c.loop-l.invariant.written.below k (omega (arith, h))
 
 pub returns-clause-contains : goal.returns-clause-contains
-returns-clause-contains g c = λ s b d xs field h v w. converted_field g.row.P (number c.args.e) (row_of c.args.row.cells.now) c.requires.order c.requires.distance s b d xs field (row_of c.args.into.now) (row_of c.loop-l.into) h (returns-clause-adds g c) v w
+returns-clause-contains g c = converted_field g.row.P (number c.args.e) (row_of c.args.row.cells.now) c.requires.order c.requires.distance (row_of c.args.into.now) (row_of c.loop-l.into) (returns-clause-adds g c)
 
 pub returns-clause-size : goal.returns-clause-size
 returns-clause-size g c = λ m n v w. converted_added g.row.P (number c.args.e) (row_of c.args.row.cells.now) c.requires.order c.requires.distance m n (row_of c.args.into.now) (row_of c.loop-l.into) (returns-clause-adds g c) v w

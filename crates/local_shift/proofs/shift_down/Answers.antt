@@ -1,6 +1,6 @@
 use Rattle.std.proofs.Common.{arith}
 use Rattle.row_recursions.specs.Rows.{row_of}
-use Rattle.local_shift.proofs.Sums.{halves_add, halves_fit, holds_both, holds_parent, sum_within, nothing_at}
+use Rattle.local_shift.proofs.Sums.{halves_add, halves_fit, holds_both, sum_within}
 use Rattle.local_shift.proofs.shift_down.Goals as goal
 
 pub add_halves-requires-clause-fits : goal.add_halves-requires-clause-fits
@@ -12,10 +12,6 @@ returns-clause-adds g c = halves_add g.row.P c.args.q (row_of c.args.parent.cell
 
 pub returns-clause-contains : goal.returns-clause-contains
 returns-clause-contains g c = holds_both g.row.P c.args.q (row_of c.args.parent.cells.now) (row_of c.args.into.now) (row_of c.add_halves.new.into) (returns-clause-adds g c)
-
-pub returns-clause-alone : goal.returns-clause-alone
-returns-clause-alone g c = λ z. holds_parent g.row.P c.args.q (row_of c.args.parent.cells.now) (row_of c.args.into.now) (row_of c.add_halves.new.into) (returns-clause-adds g c)
-    (nothing_at g.row.P c.args.into.now c.requires.len z)
 
 pub returns-clause-size : goal.returns-clause-size
 returns-clause-size g c = sum_within g.row.P c.args.q (row_of c.args.parent.cells.now) (row_of c.args.into.now) (row_of c.add_halves.new.into) (returns-clause-adds g c)

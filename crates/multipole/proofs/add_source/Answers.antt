@@ -15,7 +15,7 @@ pub returns-clause-adds : goal.returns-clause-adds
 returns-clause-adds g c = λ k h. c.add_row.ensures.adds k (omega arith) ∙ ap (add_box (row_of c.args.row.now k)) (c.fill_moments.ensures.moments k (omega arith))
 
 pub returns-clause-contains : goal.returns-clause-contains
-returns-clause-contains g c = λ xs h. added_moments g.row.P c.args.cell c.args.p.now xs (row_of c.args.row.now) (row_of c.add_row.new.into) (returns-clause-adds g c) h
+returns-clause-contains g c = added_moments g.row.P c.args.cell c.args.p.now (row_of c.args.row.now) (row_of c.add_row.new.into) (returns-clause-adds g c)
 
 pub returns-clause-size : goal.returns-clause-size
 returns-clause-size g c = λ n h. added_within g.row.P n (2 ^ 40 * weight64 c.args.p.now) (row_of c.args.row.now) (moments_of c.args.cell c.args.p.now) (row_of c.add_row.new.into) (returns-clause-adds g c) h
