@@ -42,7 +42,10 @@ fn passes_over_a_basis(rt: HostRuntime) -> Result<(), Fail> {
     downward_pass(&basis, &up, &mut local);
     value_pass(&basis, &up, &local, &mut values);
     assert_eq!(rt; (cells, values.len()), (18, 1));
-    assert_eq!(rt; (all_translations::<4>(&up), all_translations::<4>(&local)), (16, 13));
+    assert_eq!(rt;
+        (all_translations::<4>(&up), all_translations::<4>(&local)),
+        (16, 13)
+    );
     assert_eq!(rt; all_pairs(&values), 0);
     for value in &values {
         assert_eq!(rt; ends(value.value()), FAR_TARGET);

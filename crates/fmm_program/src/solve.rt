@@ -77,7 +77,8 @@ pub(crate) fn solve<A: Source, O: Sink>(
     requires order { IsOrder order }
     requires cap { IsCapacity cap }
     ensures ends { IfSome (A.left points.old) (λ input. SolveEnds order cap input result (O.held out.old) (O.held out.new)) }
-    ensures came { (input : List ℕ) × Consumes (A.left points.old) (A.left points.new) input × SolveEnds order cap input result (O.held out.old) (O.held out.new) }
+    ensures came { (input : List ℕ) × Consumes (A.left points.old) (A.left points.new) input
+        × SolveEnds order cap input result (O.held out.old) (O.held out.new) }
     ensures status { IsSolveStatus result }
     ensures read { result ≡ Status.ReadFault → Rose (A.faults points.old) (A.faults points.new) }
     ensures write { result ≡ Status.WriteFault → Rose (O.faults out.old) (O.faults out.new) }

@@ -36,17 +36,21 @@ pub fn run<A: Source, B: Source, O: Sink, C: Sink>(
     ensures certified { (order cap : ℕ) (file : List ℕ) → IsSolve words.now order cap file → result ≡ Status.Done
         → IfSome (A.left points.old) (λ input. (bytes : List ℕ) × IsCertified order cap input bytes × Appends (O.held out.old) (O.held out.new) bytes) }
     ensures certified_came { (order cap : ℕ) (file : List ℕ) → IsSolve words.now order cap file → result ≡ Status.Done
-        → (input : List ℕ) × (bytes : List ℕ) × Consumes (A.left points.old) (A.left points.new) input × IsCertified order cap input bytes × Appends (O.held out.old) (O.held out.new) bytes }
-    ensures whole { (order cap : ℕ) (file : List ℕ) → IsSolve words.now order cap file → result ≡ Status.Done → IfSome (A.left points.old) (λ _. A.left points.new ≡ Some []) }
+        → (input : List ℕ) × (bytes : List ℕ) × Consumes (A.left points.old) (A.left points.new) input
+        × IsCertified order cap input bytes × Appends (O.held out.old) (O.held out.new) bytes }
+    ensures whole { (order cap : ℕ) (file : List ℕ) → IsSolve words.now order cap file → result ≡ Status.Done
+        → IfSome (A.left points.old) (λ _. A.left points.new ≡ Some []) }
 
     // Each answer, and what goes out with it.
     ensures solve { (order cap : ℕ) (file : List ℕ) → IsSolve words.now order cap file
         → IfSome (A.left points.old) (λ input. SolveEnds order cap input result (O.held out.old) (O.held out.new)) }
     ensures came { (order cap : ℕ) (file : List ℕ) → IsSolve words.now order cap file
         → (input : List ℕ) × Consumes (A.left points.old) (A.left points.new) input × SolveEnds order cap input result (O.held out.old) (O.held out.new) }
-    ensures complete { (order cap : ℕ) (file input : List ℕ) → IsSolve words.now order cap file → A.left points.old ≡ Some input → HasDepth cap input
+    ensures complete { (order cap : ℕ) (file input : List ℕ) → IsSolve words.now order cap file
+        → A.left points.old ≡ Some input → HasDepth cap input
         → (Rose (A.faults points.old) (A.faults points.new) → ⊥) → (Rose (O.faults out.old) (O.faults out.new) → ⊥) → (result ≡ Status.Done) ⊎ (result ≡ Status.Memory) }
-    ensures sample { (seed n order cap : ℕ) → IsSample words.now seed n order cap → SampleEnds seed n order cap result (O.held out.old) (O.held out.new) × (points.new ≡ points.old) }
+    ensures sample { (seed n order cap : ℕ) → IsSample words.now seed n order cap
+        → SampleEnds seed n order cap result (O.held out.old) (O.held out.new) × (points.new ≡ points.old) }
     ensures sample_complete { (seed n order cap : ℕ) → IsSample words.now seed n order cap → HasSampleDepth seed n cap
         → (Rose (O.faults out.old) (O.faults out.new) → ⊥) → (result ≡ Status.Done) ⊎ (result ≡ Status.Memory) }
     ensures usage { IsUsage words.now → UsageEnds result (O.held out.old) (O.held out.new) × (points.new ≡ points.old) }

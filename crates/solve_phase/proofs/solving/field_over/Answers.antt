@@ -21,9 +21,17 @@ pub downward_pass-requires : goal.downward_pass-requires
 downward_pass-requires g c =
     let few = order_bounds g.row.P c.requires.order in
     let new : List PlaceModel = c.upward_pass.new.places in
-    let here = c.deref-2.ensures.value ∙ with_items_is c.in_ok-up.up new (c.upward_pass.auto.places ∙ c.deref_mut.ensures.len) in
-    (lit< tt, (omega (arith, few), (subst (λ (l : List PlaceModel). AreAllMultipolePlaces g.row.P c.in_ok-basis.basis.points c.in_ok-basis.basis.tree l) (sym here)
-    (subst (λ (b : BasisModel). AreAllMultipolePlaces g.row.P b.points b.tree new) c.basis.view_is (subst (λ (ps : List Point). AreAllMultipolePlaces g.row.P ps c.basis.inside.tree new) c.deref.ensures.value c.upward_pass.ensures.rows)), search rules)))
+    let here = c.deref-2.ensures.value ∙ with_items_is c.in_ok-up.up new (c.upward_pass.auto.places ∙ c.deref_mut.ensures.len) in (
+      lit< tt,
+      (
+        omega (arith, few),
+        (
+          subst (λ (l : List PlaceModel). AreAllMultipolePlaces g.row.P c.in_ok-basis.basis.points c.in_ok-basis.basis.tree l) (sym here)
+              (subst (λ (b : BasisModel). AreAllMultipolePlaces g.row.P b.points b.tree new) c.basis.view_is (subst (λ (ps : List Point). AreAllMultipolePlaces g.row.P ps c.basis.inside.tree new) c.deref.ensures.value c.upward_pass.ensures.rows)),
+          search rules,
+        ),
+      ),
+    )
 
 pub value_pass-requires : goal.value_pass-requires
 value_pass-requires g c =
@@ -31,10 +39,17 @@ value_pass-requires g c =
     let up : List PlaceModel = c.upward_pass.new.places in
     let local : List PlaceModel = c.downward_pass.new.places in
     let up_here = c.deref-3.ensures.value ∙ with_items_is c.in_ok-up.up up (c.upward_pass.auto.places ∙ c.deref_mut.ensures.len) in
-    let local_here = c.deref-4.ensures.value ∙ with_items_is c.in_ok-local.local local (c.downward_pass.auto.places ∙ c.deref_mut-2.ensures.len) in
-    (lit< tt, (omega (arith, few), (subst (λ (l : List PlaceModel). AreAllMultipolePlaces g.row.P c.in_ok-basis.basis.points c.in_ok-basis.basis.tree l) (sym up_here)
-    (subst (λ (b : BasisModel). AreAllMultipolePlaces g.row.P b.points b.tree up) c.basis.view_is (subst (λ (ps : List Point). AreAllMultipolePlaces g.row.P ps c.basis.inside.tree up) c.deref.ensures.value c.upward_pass.ensures.rows)),
-    (subst (λ (l : List PlaceModel). AreAllLocalPlaces g.row.P c.in_ok-basis.basis l) (sym local_here) c.downward_pass.ensures.local, search rules))))
+    let local_here = c.deref-4.ensures.value ∙ with_items_is c.in_ok-local.local local (c.downward_pass.auto.places ∙ c.deref_mut-2.ensures.len) in (
+      lit< tt,
+      (
+        omega (arith, few),
+        (
+          subst (λ (l : List PlaceModel). AreAllMultipolePlaces g.row.P c.in_ok-basis.basis.points c.in_ok-basis.basis.tree l) (sym up_here)
+              (subst (λ (b : BasisModel). AreAllMultipolePlaces g.row.P b.points b.tree up) c.basis.view_is (subst (λ (ps : List Point). AreAllMultipolePlaces g.row.P ps c.basis.inside.tree up) c.deref.ensures.value c.upward_pass.ensures.rows)),
+          (subst (λ (l : List PlaceModel). AreAllLocalPlaces g.row.P c.in_ok-basis.basis l) (sym local_here) c.downward_pass.ensures.local, search rules),
+        ),
+      ),
+    )
 
 pub all_translations-requires-2 : goal.all_translations-requires-2
 all_translations-requires-2 g c =
