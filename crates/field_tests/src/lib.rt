@@ -2,12 +2,12 @@
 #![tactic(auto)]
 
 #[cfg(test)]
+mod bases;
+#[cfg(test)]
 mod boards;
 #[cfg(test)]
 mod compare;
 #[cfg(test)]
 mod fields;
-#[cfg(test)]
-mod passes;
 #[cfg(test)]
 mod rows;
