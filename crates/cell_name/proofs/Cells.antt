@@ -5,6 +5,7 @@ use Rattle.std.proofs.lemmas.Int.{ints, by_lt_z}
 use Rattle.std.proofs.lemmas.Nat.{pow_pos, pow-add, shr_below}
 use Rattle.std.proofs.lemmas.Bool.{cases_lt}
 use Rattle.std.proofs.Math.Nat.{div-div-eq-div-mul, div-eq_of_lt, pow-succ', mul-le-mul_right}
+use Rattle.limits.proofs.Grids.{grid_positive}
 use Rattle.cell_name.specs.declared.cell.Cell.{Cell}
 use Rattle.cell_name.specs.Cell.{square}
 use Rattle.cell_name.specs.Square.{Square, root, ClosedHolds, side_at, side, half, corner_x, corner_y, IsInGrid, IsName, IsInsideGrid, Holds, Touches, from_border, square_at, parent}
@@ -223,7 +224,7 @@ inside_from_name c positive n =
 
 -- a cell of the program lies inside its grid
 pub cell_inside : (c : Cell) → IsInsideGrid (square c)
-cell_inside c = inside_from_name (square c) (lit< tt) (record { level_in_grid = c.level_in_grid; column = c.column; row = c.row })
+cell_inside c = inside_from_name (square c) (grid_positive c.grid c.known_grid) (record { level_in_grid = c.level_in_grid; column = c.column; row = c.row })
 
 -- the cell of a place has a name of the grid
 pub square_at-name : (grid level : ℕ) (x y : ℤ) → 0 < grid → level ≤ grid → IsInGrid grid x y → IsName (square_at grid level x y)

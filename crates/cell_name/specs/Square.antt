@@ -1,5 +1,6 @@
 -- The cells of the quadtree on a grid of `grid` bits, which has 2 ^ grid whole places in each direction and its origin in the middle.
 use Rattle.std.specs.Prelude.{ℕ, ◌+◌, ◌-◌, ◌*◌, ◌/◌, ◌^◌, ◌≤◌, ◌<◌, Bool, ◌&&◌, ℤ, pos, ◌+ℤ◌, ◌-ℤ◌, ◌≤ℤ◌, ◌<ℤ◌, int_le, int_lt, unsigned_abs, neg_ℤ}
+pub use Rattle.limits.specs.Grid.{half, IsInGrid}
 
 -- A cell by its name, with the bits of its grid: level 0 is the whole grid, and each level halves the side.
 -- Column `i` counts from the west and row `j` from the south.
@@ -13,16 +14,16 @@ pub record Square : Type 0 where
 abbrev pub root : ℕ → Square
 root grid = record { grid = grid; level = 0; i = 0; j = 0 }
 
+-- what stands past the last of some cells
+abbrev pub no_square : Square
+no_square = root 0
+
 -- the side of the cells of a level
 abbrev pub side_at : ℕ → ℕ → ℕ
 side_at grid level = 2 ^ (grid - level)
 
 abbrev pub side : Square → ℕ
 side c = side_at c.grid c.level
-
--- how far the origin is from the west and the south border of the grid
-abbrev pub half : ℕ → ℕ
-half grid = 2 ^ (grid - 1)
 
 abbrev pub corner_x : Square → ℤ
 corner_x c = pos (c.i * side c) -ℤ pos (half c.grid)
@@ -43,13 +44,6 @@ offset_x c x = (x +ℤ x) -ℤ doubled_centre_x c
 
 abbrev pub offset_y : Square → ℤ → ℤ
 offset_y c y = (y +ℤ y) -ℤ doubled_centre_y c
-
--- the place lies in the grid
-pub record IsInGrid (grid : ℕ) (x y : ℤ) : Type 0 where
-  pub west : neg_ℤ (pos (half grid)) ≤ℤ x
-  pub east : x <ℤ pos (half grid)
-  pub south : neg_ℤ (pos (half grid)) ≤ℤ y
-  pub north : y <ℤ pos (half grid)
 
 -- the name of a cell of the grid
 pub record IsName (c : Square) : Type 0 where

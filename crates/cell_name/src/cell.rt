@@ -2,15 +2,13 @@
 
 ghost use Rattle.std.specs.Prelude.{◌≡◌, ◌≤◌, ◌<◌, ◌^◌, IsTrue, ◌↔◌, pos, ◌≤ℤ◌, ◌<ℤ◌, ◌+ℤ◌, FitsSigned};
 ghost use Rattle.std.specs.Int.{w64};
-ghost use Rattle.cell_name.specs.Square.{side, corner_x, corner_y, doubled_centre_x, doubled_centre_y, offset_x, offset_y, Holds, Touches, IsInGrid, parent, ancestor};
+ghost use Rattle.cell_name.specs.Square.{root, side, corner_x, corner_y, doubled_centre_x, doubled_centre_y, offset_x, offset_y, Holds, Touches, parent, ancestor};
+ghost use Rattle.limits.specs.Grid.{IsInGrid};
+ghost use Rattle.limits.specs.Limits.{IsGrid, widest_grid};
 
-/// The bits of the grid: it has 2 ^ 16 places in each direction.
-pub const GRID: u8 = 16;
+use limits::half;
 
-/// How far the origin is from the west and the south border of the grid.
-const HALF: i64 = 32768;
-
-/// A cell of the quadtree, ordered by level, column and row.
+/// A cell of the quadtree on a grid of 16 or 20 bits, ordered by level, column and row.
 ///
 /// Level 0 is the whole grid, and each level halves the side. Column `i` counts from the west and row `j` from the south.
 #[derive(Clone, Copy, PartialEq, Eq, PartialOrd, Ord, Debug)]
@@ -18,7 +16,9 @@ pub struct Cell {
     pub level: u8,
     pub i: u32,
     pub j: u32,
-    pub ghost level_in_grid: { level ≤ 16 },
+    pub grid: u8,
+    pub ghost known_grid: { IsGrid grid },
+    pub ghost level_in_grid: { level ≤ grid },
     pub ghost column: { i < 2 ^ level },
     pub ghost row: { j < 2 ^ level },
 }
@@ -34,18 +34,36 @@ impl Cell {
     ghost use Rattle.cell_name.specs.Cell.{square};
     ghost use Rattle.cell_name.specs.Quarters.{quarter};
 
-    /// The one cell of a level that holds a place of the grid: column `(x + 32768) / s`, row `(y + 32768) / s`, for the side `s`.
-    pub fn of(x: i64, y: i64, level: u8) -> Cell
-        requires in_grid { IsInGrid 16 x y }
-        requires level { level ≤ 16 }
+    /// The cell that is the whole grid.
+    pub fn root(grid: u8) -> Cell
+        requires { IsGrid grid }
+        ensures { square result ≡ root grid }
+    {
+        Cell {
+            level: 0,
+            i: 0,
+            j: 0,
+            grid,
+        }
+    }
+
+    /// The one cell of a level that holds a place of the grid: column `(x + h) / s`, row `(y + h) / s`, for the side `s` and `h` half
+    /// the side of the grid.
+    pub fn of(x: i64, y: i64, level: u8, grid: u8) -> Cell
+        requires known_grid { IsGrid grid }
+        requires in_grid { IsInGrid grid x y }
+        requires level { level ≤ grid }
+        ensures grid { result.grid ≡ grid }
         ensures level { result.level ≡ level }
         ensures holds { Holds (square result) x y }
     {
-        let shift = GRID - level;
+        let shift = grid - level;
+        let half = half(grid);
         Cell {
             level,
-            i: ((x + HALF) as u32) >> shift,
-            j: ((y + HALF) as u32) >> shift,
+            i: ((x + half) as u32) >> shift,
+            j: ((y + half) as u32) >> shift,
+            grid,
         }
     }
 
@@ -58,6 +76,7 @@ impl Cell {
             level: self.level - 1,
             i: self.i / 2,
             j: self.j / 2,
+            grid: self.grid,
         }
     }
 
@@ -71,6 +90,7 @@ impl Cell {
             level,
             i: self.i >> shift,
             j: self.j >> shift,
+            grid: self.grid,
         }
     }
 
@@ -87,32 +107,34 @@ impl Cell {
 
     /// A quarter of the cell, one level below: column `2 i` or `2 i + 1`, row `2 j` or `2 j + 1`.
     pub fn child(self, q: Quadrant) -> Cell
-        requires { self.level ≤ 15 }
+        requires { self.level < self.grid }
         ensures { square result ≡ quarter (square self) q }
     {
         Cell {
             level: self.level + 1,
             i: 2 * self.i + u32::from(q.right),
             j: 2 * self.j + u32::from(q.top),
+            grid: self.grid,
         }
     }
 
-    /// The length of a side, `2^(16 - level)` places.
+    /// The length of a side, `2^(grid - level)` places.
     pub fn side(self) -> i64
         ensures value { result ≡ pos (side (square self)) }
         ensures at_least { pos 1 ≤ℤ result }
-        ensures at_most { result ≤ℤ pos 65536 }
+        ensures at_most { result ≤ℤ pos (2 ^ widest_grid) }
     {
-        1 << (GRID - self.level)
+        1 << (self.grid - self.level)
     }
 
-    /// The corner in the southwest, `(i s - 32768, j s - 32768)` for the side `s`.
+    /// The corner in the southwest, `(i s - h, j s - h)` for the side `s` and `h` half the side of the grid.
     pub fn corner(self) -> (i64, i64)
         ensures x { result.0 ≡ corner_x (square self) }
         ensures y { result.1 ≡ corner_y (square self) }
     {
         let s = self.side();
-        (i64::from(self.i) * s - HALF, i64::from(self.j) * s - HALF)
+        let half = half(self.grid);
+        (i64::from(self.i) * s - half, i64::from(self.j) * s - half)
     }
 
     /// Twice the centre, which is whole: `2 corner + (s, s)` for the side `s`.
@@ -125,9 +147,9 @@ impl Cell {
         (2 * x + s, 2 * y + s)
     }
 
-    /// Twice the offset of a place of the grid from the centre.
+    /// Twice the offset of a place of the cell's grid from the centre.
     pub fn offset(self, x: i64, y: i64) -> (i64, i64)
-        requires { IsInGrid 16 x y }
+        requires { IsInGrid self.grid x y }
         ensures x { result.0 ≡ offset_x (square self) x }
         ensures y { result.1 ≡ offset_y (square self) y }
     {

@@ -1,1 +1,3 @@
+-- Lemmas.
+pub mod Ranges
 pub mod Slices

@@ -1,47 +1,24 @@
 -- Which places, strengths and lists the text allows.
-use Rattle.std.specs.Prelude.{ℕ, ◌+◌, ◌*◌, ◌-◌, ◌^◌, ◌≤◌, ℤ, pos, neg_ℤ, ◌≤ℤ◌, ◌<ℤ◌, List, length, All, sum_by}
+use Rattle.std.specs.Prelude.{ℕ, ◌≤◌, List, length, All, sum_by}
 use Rattle.exact_math.specs.Sizes.{weight_at}
+use Rattle.limits.specs.Grid.{IsInGrid}
+use Rattle.limits.specs.Limits.{IsVersion, grid_of, most_strength, most_points, most_weight}
 use Rattle.points.specs.declared.Kind.{Kind}
 use Rattle.points.specs.declared.Kind.TheVariants.{Charge, Vortex}
 use Rattle.points.specs.declared.Mode.{Mode}
 use Rattle.points.specs.declared.Mode.TheVariants.{Field, Velocity}
 use Rattle.points.specs.declared.Point.{Point}
+use Rattle.points.specs.declared.Points.{Points}
 use Rattle.points.specs.Points.{strength, pole, dipole}
 use Rattle.points.specs.Strength.{StrengthWithin}
-
--- the grid has 2^grid_bits places in a row
-abbrev pub grid_bits : ℕ
-grid_bits = 16
-
--- the greatest size of a strength component
-abbrev pub most_strength : ℕ
-most_strength = 1048576
-
--- the greatest number of points in a list
-abbrev pub most_points : ℕ
-most_points = 65536
-
--- the greatest total weight of a list
-abbrev pub most_weight : ℕ
-most_weight = 2 ^ 32
-
--- a coordinate of a grid of 2^bits places in a row, which has its middle at 0
-pub record IsCoordinate (bits : ℕ) (x : ℤ) : Type 0 where
-  pub above : neg_ℤ (pos (2 ^ (bits - 1))) ≤ℤ x
-  pub below : x <ℤ pos (2 ^ (bits - 1))
-
--- the place (x, y) is in the grid
-pub record InGrid (x y : ℤ) : Type 0 where
-  pub across : IsCoordinate grid_bits x
-  pub up : IsCoordinate grid_bits y
 
 -- each strength component is within its limit
 abbrev pub HasStrength : Kind → Type 0
 HasStrength k = StrengthWithin most_strength (strength k)
 
 -- the place is in the grid and each strength component is within its limit
-pub record InRange (p : Point) : Type 0 where
-  pub grid : InGrid p.x p.y
+pub record InRange (grid : ℕ) (p : Point) : Type 0 where
+  pub place : IsInGrid grid p.x p.y
   pub strength : HasStrength p.kind
 
 -- |a| + 64 |b| of the pole a and the dipole b
@@ -57,9 +34,14 @@ FitsMode Velocity (Charge q) = ⊥
 FitsMode Field (Vortex g) = ⊥
 FitsMode _ _ = Unit {0}
 
--- the list can be written in a text of this mode
-pub record WithinLimits (mode : Mode) (points : List Point) : Type 0 where
-  pub range : All InRange points
-  pub mode_fits : All (λ p. FitsMode mode p.kind) points
-  pub count : length points ≤ most_points
-  pub weight : total_weight points ≤ most_weight
+-- points in the grid, no more and no heavier than its lists may be
+pub record AreWithin (grid : ℕ) (points : List Point) : Type 0 where
+  pub range : All (InRange grid) points
+  pub count : length points ≤ most_points grid
+  pub weight : total_weight points ≤ most_weight grid
+
+-- the list can be written in a text of its version and mode
+pub record WithinLimits (points : Points) : Type 0 where
+  pub version : IsVersion points.version
+  pub mode_fits : All (λ p. FitsMode points.mode p.kind) points.list
+  pub within : AreWithin (grid_of points.version) points.list

@@ -3,15 +3,13 @@
 
 ghost use Rattle.std.specs.Prelude.{◌≡◌, List, [], ◌∷◌, ◌++◌, ◌↔◌, IsTrue, OnOk, OnErr};
 ghost use Rattle.exact_math.specs.Gaussian.{gaussian};
-ghost use Rattle.points.specs.Limits.{InRange, HasStrength, most_strength, weight64};
+ghost use Rattle.limits.specs.Limits.{IsGrid, most_strength, widest_grid};
+ghost use Rattle.points.specs.Limits.{InRange, HasStrength, weight64};
 ghost use Rattle.points.specs.Points.{pole, dipole, strength, is_source};
 ghost use Rattle.points.specs.Strength.{StrengthWithin};
 
-mod limits;
-
 use io_ports::Memory;
-use limits::has_strength;
-pub use limits::{MOST_POINTS, MOST_WEIGHT, in_grid};
+use limits::{MOST_STRENGTH, in_grid};
 use std::alloc::Global;
 use std::marker::Model;
 
@@ -64,6 +62,19 @@ impl Kind {
     }
 }
 
+/// Whether each strength component is within its limit.
+fn has_strength(kind: &Kind) -> bool
+    ensures { IsTrue result ↔ HasStrength kind.now }
+{
+    match *kind {
+        Kind::Charge(q) => q.unsigned_abs() <= MOST_STRENGTH,
+        Kind::Dipole(re, im) => re.unsigned_abs() <= MOST_STRENGTH
+            && im.unsigned_abs() <= MOST_STRENGTH,
+        Kind::Vortex(g) => g.unsigned_abs() <= MOST_STRENGTH,
+        Kind::Target => true,
+    }
+}
+
 /// A particle at a whole place of the grid.
 #[derive(Clone, Copy, PartialEq, Eq, Debug)]
 pub struct Point {
@@ -80,18 +91,19 @@ pub enum Mode {
 }
 
 impl Point {
-    /// Whether the place is in the grid and each strength component is within its limit.
-    pub fn is_in_range(&self) -> bool
-        ensures { IsTrue result ↔ InRange self.now }
+    /// Whether the place is in the grid of so many bits and each strength component is within its limit.
+    pub fn is_in_range(&self, grid: u8) -> bool
+        requires { IsGrid grid }
+        ensures { IsTrue result ↔ InRange grid self.now }
     {
-        in_grid(self.x, self.y) && has_strength(&self.kind)
+        in_grid(grid, self.x, self.y) && has_strength(&self.kind)
     }
 
     /// The pole `a` as its two parts: `(q, 0)` for a charge `q`, `(0, -g)` for a vortex `g`, else zero.
     ///
-    /// The point is in range.
+    /// The point is in range of some version.
     pub fn pole(&self) -> (i64, i64)
-        requires { InRange self.now }
+        requires { InRange widest_grid self.now }
         ensures { gaussian result.0 result.1 ≡ pole self.now.kind }
     {
         match self.kind.strength() {
@@ -112,9 +124,9 @@ impl Point {
 
     /// The weight `abs(a) + 64 abs(b)`, where `abs` of a complex number is `abs(re) + abs(im)`.
     ///
-    /// The point is in range.
+    /// The point is in range of some version.
     pub fn weight64(&self) -> u64
-        requires { InRange self.now }
+        requires { InRange widest_grid self.now }
         ensures { result ≡ weight64 self.now }
     {
         match self.kind.strength() {
@@ -169,9 +181,10 @@ impl PointList {
     }
 }
 
-/// What a text spells: a mode and a list of points.
+/// What a text spells: its version, a mode and a list of points.
 #[derive(Drop)]
 pub struct Points {
+    pub version: u8,
     pub mode: Mode,
     pub list: PointList,
 }

@@ -1,0 +1,54 @@
+-- The limits of each version of the text. Version 1 has a grid of 16 bits and version 2 one of 20, and the grid tells all others.
+use Rattle.std.specs.Prelude.{ℕ, ◌≡◌, ◌^◌, ◌==◌, ◌||◌, IsTrue, cond}
+
+abbrev pub first_grid : ℕ
+first_grid = 16
+
+abbrev pub widest_grid : ℕ
+widest_grid = 20
+
+-- the grid of one of the versions
+abbrev pub IsGrid : ℕ → Type 0
+IsGrid grid = IsTrue ((grid == first_grid) || (grid == widest_grid))
+
+-- the versions that are read: version 2 is to come
+abbrev pub IsVersion : ℕ → Type 0
+IsVersion version = version ≡ 1
+
+-- the bits of the grid of a version
+abbrev pub grid_of : ℕ → ℕ
+grid_of version = cond (version == 2) widest_grid first_grid
+
+-- a limit of version 1 and one of version 2, told by the grid
+abbrev pub by_grid : ℕ → ℕ → ℕ → ℕ
+by_grid grid first widest = cond (grid == first_grid) first widest
+
+-- the greatest size of a strength component
+abbrev pub most_strength : ℕ
+most_strength = 1048576
+
+-- the greatest number of points in a list
+abbrev pub most_points : ℕ → ℕ
+most_points grid = by_grid grid 65536 131072
+
+-- the greatest total weight of a list
+abbrev pub most_weight : ℕ → ℕ
+most_weight grid = by_grid grid (2 ^ 32) (2 ^ 36)
+
+-- the greatest number of cells of a tree
+abbrev pub most_cells : ℕ → ℕ
+most_cells grid = by_grid grid 65536 131072
+
+-- the greatest number of points at one place
+abbrev pub most_at_a_place : ℕ
+most_at_a_place = 4096
+
+-- the greatest sizes of the ends of multipole rows, local rows and target boxes
+abbrev pub most_multipole : ℕ → ℕ
+most_multipole grid = by_grid grid (2 ^ 74) (2 ^ 78)
+
+abbrev pub most_local : ℕ → ℕ
+most_local grid = by_grid grid (2 ^ 82) (2 ^ 86)
+
+abbrev pub most_box : ℕ → ℕ
+most_box grid = by_grid grid (2 ^ 84) (2 ^ 94)
