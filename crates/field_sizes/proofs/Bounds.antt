@@ -1,9 +1,17 @@
 -- The sizes of rows, radii and boxes, since no source lies in two entries.
-use Rattle.field_sizes.specs.Sizes.{RowSizes, RadiusSizes, BoxSizes}
+use Rattle.std.specs.Prelude.{ℕ, ◌*◌, ◌^◌, ◌≤◌, List, sum_by}
+use Rattle.cell_name.specs.Square.{Square, side}
+use Rattle.letters.specs.declared.Letter.TheVariants.{W}
+use Rattle.points.specs.Limits.{total_weight}
+use Rattle.points.specs.declared.Point.{Point}
+use Rattle.quadtree.specs.Tree.{IsTreeCell}
+use Rattle.tree_field.specs.Field.{single_radius_in}
+use Rattle.tree_field.specs.Lists.{TreeLists}
+use Rattle.field_sizes.specs.Sizes.{IsLimited, RowSizes, RadiusSizes, BoxSizes}
 use Rattle.field_sizes.proofs.BoxSizes.{box_sizes}
 use Rattle.field_sizes.proofs.Disjoint.{entries_share_no_source}
 use Rattle.field_sizes.proofs.LocalSizes.{row_sizes}
-use Rattle.field_sizes.proofs.Radii.{radius_sizes}
+use Rattle.field_sizes.proofs.Radii.{radius_sizes, multipoles_lose}
 
 pub rows_within : RowSizes
 rows_within = row_sizes entries_share_no_source
@@ -13,3 +21,8 @@ radii_within = radius_sizes entries_share_no_source
 
 pub boxes_within : BoxSizes
 boxes_within = box_sizes entries_share_no_source
+
+-- what the W entries of a cell can lose together
+pub losses_within : (points : List Point) (cap P : ℕ) (lists : TreeLists) → P ≤ 32 → IsLimited points cap lists → (b : Square) → IsTreeCell lists.grid points cap b
+    → sum_by (λ c. single_radius_in points P (side c) c) (lists.entries W b) ≤ 2 ^ 40 * total_weight points
+losses_within = multipoles_lose entries_share_no_source

@@ -14,6 +14,8 @@ use Rattle.cell_lists.specs.Entries.{IsWPair}
 use Rattle.letters.specs.declared.Letter.TheVariants.{U, W}
 use Rattle.near_field.specs.Pair.{pair_box}
 use Rattle.near_field.proofs.PairSizes.{pair_box-within}
+use Rattle.limits.specs.Limits.{most_box}
+use Rattle.limits.proofs.Grids.{grid_positive}
 use Rattle.points.specs.declared.Point.{Point}
 use Rattle.points.specs.Limits.{weight64, total_weight}
 use Rattle.points.specs.Points.{place}
@@ -24,16 +26,17 @@ use Rattle.row_recursions.proofs.Geometry.{held_places, far_places}
 use Rattle.row_recursions.proofs.RowSizes.{local_value_within, multipole_value_within, power_positive}
 use Rattle.soundness.specs.Computed.{total_box}
 use Rattle.soundness.specs.Squares.{offset}
-use Rattle.tree_field.specs.Field.{sources_in, targets, multipole_row, leaf_at, local_row, single_radius_in, local_value_at, multipole_values_at, pairs_at, radius_in, box_in, target_box}
+use Rattle.tree_field.specs.Field.{sources_in, targets, multipole_row, leaf_at, local_row, local_value_at, multipole_values_at, pairs_at, radius_in, box_in, target_box}
 use Rattle.tree_field.specs.Lists.{TreeLists}
 use Rattle.tree_field.proofs.Leaves.{leaf_is, leaf_holds}
 use Rattle.quadtree.proofs.Lists.{All-from_members}
 use Rattle.field_sizes.proofs.CellSources.{IsHeld}
 use Rattle.field_sizes.proofs.CellWeights.{weight64_in}
-use Rattle.field_sizes.proofs.EntrySums.{total_box-entries, sum_by-entries}
-use Rattle.field_sizes.proofs.LocalSizes.{local_row-light}
+use Rattle.field_sizes.proofs.EntrySums.{total_box-entries}
+use Rattle.field_sizes.proofs.GridLimits.{box_limit}
+use Rattle.field_sizes.proofs.LocalSizes.{local_row-within}
 use Rattle.field_sizes.proofs.MultipoleSizes.{multipole_row-within}
-use Rattle.field_sizes.proofs.Radii.{single_radius-within, local_radius-light}
+use Rattle.field_sizes.proofs.Radii.{local_radius-within, multipoles_lose}
 use Rattle.field_sizes.proofs.RowTotals.{total_box-within, sum_by-times}
 use Rattle.field_sizes.specs.Sizes.{EntriesShareNoSource, IsLimited, BoxSizes}
 
@@ -45,27 +48,29 @@ values_of : (P w : ℕ) → P * (2 ^ 40 * w) ≤ P * 2 ^ 40 * w
 values_of P w = omega arith
 
 -- all parts of a box together
-all_parts : (P w : ℕ) → P ≤ 32 → w ≤ 2 ^ 32 → P * 2 ^ 78 + (P * 2 ^ 40 * w + 2 ^ 40 * w) + (2 ^ 78 + 2 ^ 40 * w) ≤ 2 ^ 84
-all_parts P w h light =
+all_parts : (P w : ℕ) → P ≤ 32 → P * (2 ^ 46 * w) + (P * 2 ^ 40 * w + 2 ^ 40 * w) + (2 ^ 46 * w + 2 ^ 40 * w) ≤ 2 ^ 52 * w
+all_parts P w h =
     let a = mul-le-mul_right (2 ^ 40 * w) h in
-    omega (arith, a, h, light)
+    let b = mul-le-mul_right (2 ^ 46 * w) h in
+    omega (arith, a, b)
 
 number_within : (m n : ℕ) → m ≤ n → Within n (pos m)
 number_within m n h = record { above = omega (arith, ints); below = omega (arith, ints) }
 
 module _ (apart : EntriesShareNoSource) (points : List Point) (cap P : ℕ) (lists : TreeLists) (few : P ≤ 32) (limited : IsLimited points cap lists) where
   -- at a place in a leaf
-  module _ (b : Square) (t : Point) (leaf : IsLeaf 16 points cap b) (held : IsHeld b t) where
+  module _ (b : Square) (t : Point) (leaf : IsLeaf lists.grid points cap b) (held : IsHeld b t) where
     abbrev z : Gaussian
     z = place t
 
-    local_value-light : BoxEndsWithin (P * 2 ^ 78) (local_value_at points cap P lists b z)
-    local_value-light = local_value_within P (2 ^ 78) (side b) (offset b z) (local_row points cap P lists b) (power_positive (b.grid - b.level)) (held_places b t.x t.y held) (local_row-light apart points cap P lists few limited b leaf.in_tree)
+    local_value-within : BoxEndsWithin (P * (2 ^ 46 * total_weight points)) (local_value_at points cap P lists b z)
+    local_value-within = local_value_within P (2 ^ 46 * total_weight points) (side b) (offset b z) (local_row points cap P lists b) (power_positive (b.grid - b.level)) (held_places b t.x t.y held)
+        (local_row-within apart points cap P lists few limited b leaf.in_tree)
 
     multipole_values-within : BoxEndsWithin (P * 2 ^ 40 * total_weight points) (multipole_values_at points cap P lists b z)
     multipole_values-within = total_box-entries apart points cap lists limited W b leaf.in_tree (P * 2 ^ 40) (λ c. multipole_value P (multipole_row points cap c) (side c) (offset c z)) (λ c e. one c e.pair)
       where
-        one : (c : Square) → IsWPair 16 points cap b c → BoxEndsWithin (P * 2 ^ 40 * weight64_in points c) (multipole_value P (multipole_row points cap c) (side c) (offset c z))
+        one : (c : Square) → IsWPair lists.grid points cap b c → BoxEndsWithin (P * 2 ^ 40 * weight64_in points c) (multipole_value P (multipole_row points cap c) (side c) (offset c z))
         one c pair =
             let other = pair.second_in_tree in
             let low : c.level ≤ c.grid = omega (arith, other.level_in_grid, other.of_grid) in
@@ -77,25 +82,33 @@ module _ (apart : EntriesShareNoSource) (points : List Point) (cap P : ℕ) (lis
     pairs-within : BoxEndsWithin (2 ^ 40 * total_weight points) (pairs_at points cap P lists b z)
     pairs-within = total_box-entries apart points cap lists limited U b leaf.in_tree (2 ^ 40) (λ c. total_box (pair_box z) (sources_in points c)) (λ c e. pairs_within z (sources_in points c))
 
-    radius-within : radius_in points cap P lists b ≤ 2 ^ 78 + 2 ^ 40 * total_weight points
+    radius-within : radius_in points cap P lists b ≤ 2 ^ 46 * total_weight points + 2 ^ 40 * total_weight points
     radius-within =
-        let a = local_radius-light apart points cap P lists few limited b leaf.in_tree in
-        let s = sum_by-entries apart points cap lists limited W b leaf.in_tree P (2 ^ 40) (λ c. single_radius_in points P (side c) c) few (λ c. single_radius-within points P c c) in
+        let a = local_radius-within apart points cap P lists few limited b leaf.in_tree in
+        let s = multipoles_lose apart points cap P lists few limited b leaf.in_tree in
         omega (arith, a, s)
 
-    pub box_in-light : BoxEndsWithin (2 ^ 84) (box_in points cap P lists b z)
-    box_in-light = box_wider (P * 2 ^ 78 + (P * 2 ^ 40 * total_weight points + 2 ^ 40 * total_weight points) + (2 ^ 78 + 2 ^ 40 * total_weight points)) (2 ^ 84) _ (all_parts P (total_weight points) few limited.light)
-        (widen_box_within (P * 2 ^ 78 + (P * 2 ^ 40 * total_weight points + 2 ^ 40 * total_weight points)) (2 ^ 78 + 2 ^ 40 * total_weight points)
+    abbrev in_rows : ℕ
+    in_rows = P * (2 ^ 46 * total_weight points) + (P * 2 ^ 40 * total_weight points + 2 ^ 40 * total_weight points)
+
+    abbrev in_radius : ℕ
+    in_radius = 2 ^ 46 * total_weight points + 2 ^ 40 * total_weight points
+
+    pub box_in-within : BoxEndsWithin (2 ^ 52 * total_weight points) (box_in points cap P lists b z)
+    box_in-within = box_wider (in_rows + in_radius) (2 ^ 52 * total_weight points) _ (all_parts P (total_weight points) few)
+        (widen_box_within in_rows in_radius
         (add_box (local_value_at points cap P lists b z) (add_box (multipole_values_at points cap P lists b z) (pairs_at points cap P lists b z))) (pos (radius_in points cap P lists b))
-        (add_box_within (P * 2 ^ 78) (P * 2 ^ 40 * total_weight points + 2 ^ 40 * total_weight points) (local_value_at points cap P lists b z) (add_box (multipole_values_at points cap P lists b z) (pairs_at points cap P lists b z)) local_value-light
+        (add_box_within (P * (2 ^ 46 * total_weight points)) (P * 2 ^ 40 * total_weight points + 2 ^ 40 * total_weight points) (local_value_at points cap P lists b z) (add_box (multipole_values_at points cap P lists b z) (pairs_at points cap P lists b z)) local_value-within
         (add_box_within (P * 2 ^ 40 * total_weight points) (2 ^ 40 * total_weight points) (multipole_values_at points cap P lists b z) (pairs_at points cap P lists b z) multipole_values-within pairs-within))
-        (number_within (radius_in points cap P lists b) (2 ^ 78 + 2 ^ 40 * total_weight points) radius-within))
+        (number_within (radius_in points cap P lists b) in_radius radius-within))
 
 pub box_sizes : EntriesShareNoSource → BoxSizes
 box_sizes apart points cap P lists order limited =
     let few = order_bounds P order in
-    All-from_members (λ t. BoxEndsWithin (2 ^ 84) (target_box points cap P lists 16 (place t))) (targets points) (λ t h.
+    let positive = grid_positive lists.grid limited.known_grid in
+    All-from_members (λ t. BoxEndsWithin (most_box lists.grid) (target_box points cap P lists (place t))) (targets points) (λ t h.
     let listed = (Contains-filter _ points t h).0 in
     let are = limited.lists_are.cells_are in
-    box_in-light apart points cap P lists (omega arith) limited (leaf_at points cap 16 (place t)) t
-    (leaf_is 16 points cap lists.cells (omega arith) limited.in_grid are t listed) (leaf_holds 16 points cap lists.cells (omega arith) limited.in_grid are t listed))
+    box_wider (2 ^ 52 * total_weight points) (most_box lists.grid) (target_box points cap P lists (place t)) (box_limit lists.grid (total_weight points) limited.known_grid limited.light)
+    (box_in-within apart points cap P lists (omega arith) limited (leaf_at points cap lists.grid (place t)) t
+    (leaf_is lists.grid points cap lists.cells positive limited.in_grid are t listed) (leaf_holds lists.grid points cap lists.cells positive limited.in_grid are t listed)))

@@ -5,6 +5,7 @@ pub mod CellSources
 pub mod CellWeights
 pub mod Disjoint
 pub mod EntrySums
+pub mod GridLimits
 pub mod LocalSizes
 pub mod MultipoleSizes
 pub mod Radii

@@ -10,6 +10,8 @@ use Rattle.cell_name.specs.Square.{Square, side, parent}
 use Rattle.cell_name.proofs.Cells.{Touches-sym}
 use Rattle.cell_lists.specs.Entries.{IsVPair, IsWPair}
 use Rattle.letters.specs.declared.Letter.TheVariants.{V, X}
+use Rattle.limits.specs.Limits.{widest_grid, most_multipole, most_local}
+use Rattle.limits.proofs.Grids.{grid_positive, within_widest}
 use Rattle.points.specs.declared.Point.{Point}
 use Rattle.points.specs.Limits.{weight64, total_weight}
 use Rattle.exact_math.specs.Sizes.{abs_gaussian}
@@ -28,9 +30,10 @@ use Rattle.tree_field.specs.Field.{sources_in, multipole_row, converted_rows, fa
 use Rattle.tree_field.specs.Lists.{TreeLists}
 use Rattle.tree_field.proofs.LocalRows.{local_row-root, local_row-below}
 use Rattle.field_sizes.proofs.CellSources.{IsHeld, sources_held}
-use Rattle.field_sizes.proofs.CellWeights.{weight64_in}
+use Rattle.field_sizes.proofs.CellWeights.{weight64_in, weight64_in-light}
 use Rattle.field_sizes.proofs.EntrySums.{total_row-entries}
-use Rattle.field_sizes.proofs.MultipoleSizes.{heavier, unit_square, multipole_row-within, multipole_row-light}
+use Rattle.field_sizes.proofs.MultipoleSizes.{heavier, unit_square, multipole_row-within}
+use Rattle.field_sizes.proofs.GridLimits.{multipole_limit, local_limit}
 use Rattle.field_sizes.proofs.RowTotals.{total_row-within, wider, sum_by-times}
 use Rattle.field_sizes.specs.Sizes.{EntriesShareNoSource, IsLimited, RowSizes}
 
@@ -53,8 +56,8 @@ converted_by P w b c cap points few distance h = wider P (3 * (2 ^ 39 * w)) (3 *
 one_level_more : (n v x : ℕ) → n * (v + x) + (v + x) ≤ suc n * (v + x)
 one_level_more n v x = omega arith
 
-all_levels : (n w : ℕ) → n ≤ 16 → w ≤ 2 ^ 32 → n * (3 * 2 ^ 39 * w + 2 ^ 40 * w) ≤ 2 ^ 78
-all_levels n w h light = let m = mul-le-mul_right (3 * 2 ^ 39 * w + 2 ^ 40 * w) h in omega (arith, m, light)
+all_levels : (n w : ℕ) → n ≤ widest_grid → n * (3 * 2 ^ 39 * w + 2 ^ 40 * w) ≤ 2 ^ 46 * w
+all_levels n w h = let m = mul-le-mul_right (3 * 2 ^ 39 * w + 2 ^ 40 * w) h in omega (arith, m)
 
 module _ (apart : EntriesShareNoSource) (points : List Point) (cap P : ℕ) (lists : TreeLists) (few : P ≤ 32) (limited : IsLimited points cap lists) where
   abbrev from_pairs : ℕ
@@ -63,20 +66,20 @@ module _ (apart : EntriesShareNoSource) (points : List Point) (cap P : ℕ) (lis
   abbrev from_far : ℕ
   from_far = 2 ^ 40 * total_weight points
 
-  converted_rows-within : (b : Square) → IsTreeCell 16 points cap b → RowWithin P from_pairs (converted_rows points cap P lists b)
+  converted_rows-within : (b : Square) → IsTreeCell lists.grid points cap b → RowWithin P from_pairs (converted_rows points cap P lists b)
   converted_rows-within b in_tree = total_row-entries apart points cap lists limited V b in_tree P (3 * 2 ^ 39) (λ c. converted P (kernel_entry (sides_between b c)) (multipole_row points cap c)) (λ c e. one c e.pair)
     where
-      one : (c : Square) → IsVPair 16 points cap b c → RowWithin P (3 * 2 ^ 39 * weight64_in points c) (converted P (kernel_entry (sides_between b c)) (multipole_row points cap c))
+      one : (c : Square) → IsVPair lists.grid points cap b c → RowWithin P (3 * 2 ^ 39 * weight64_in points c) (converted P (kernel_entry (sides_between b c)) (multipole_row points cap c))
       one c pair =
           let other = pair.second_in_tree in
           converted_by P (weight64_in points c) b c cap points few
           (pairs_of_cells b c (in_tree.of_grid ∙ sym other.of_grid) pair.come_apart.same_level pair.come_apart.apart pair.come_apart.parents_touch).kernel
           (multipole_row-within P points cap c (omega arith) (omega (arith, other.level_in_grid, other.of_grid)))
 
-  far_rows-within : (b : Square) → IsTreeCell 16 points cap b → RowWithin P from_far (far_rows points cap P lists b)
+  far_rows-within : (b : Square) → IsTreeCell lists.grid points cap b → RowWithin P from_far (far_rows points cap P lists b)
   far_rows-within b in_tree = total_row-entries apart points cap lists limited X b in_tree P (2 ^ 40) (λ c. total_row (far_coefficients_in b) (sources_in points c)) (λ c e. one c e.pair)
     where
-      one : (c : Square) → IsWPair 16 points cap c b → RowWithin P (2 ^ 40 * weight64_in points c) (total_row (far_coefficients_in b) (sources_in points c))
+      one : (c : Square) → IsWPair lists.grid points cap c b → RowWithin P (2 ^ 40 * weight64_in points c) (total_row (far_coefficients_in b) (sources_in points c))
       one c pair =
           let other = pair.first_leaf.in_tree in
           far_total P b (sources_in points c) few (All-weaker (IsHeld c) (λ p. IsFarFrom b (place p))
@@ -84,23 +87,28 @@ module _ (apart : EntriesShareNoSource) (points : List Point) (cap P : ℕ) (lis
           (sources_in points c) (sources_held points c))
 
   -- a row of the level n
-  level_within : (n : ℕ) (b : Square) → b.level ≡ n → IsTreeCell 16 points cap b → RowWithin P (n * (from_pairs + from_far)) (local_row points cap P lists b)
+  level_within : (n : ℕ) (b : Square) → b.level ≡ n → IsTreeCell lists.grid points cap b → RowWithin P (n * (from_pairs + from_far)) (local_row points cap P lists b)
   level_within zero b e in_tree k lt = subst (BoxEndsWithin (0 * (from_pairs + from_far))) (sym (local_row-root points cap P lists b e k)) (zero_within (0 * (from_pairs + from_far)))
   level_within (suc n) b e in_tree k lt =
-      let up = IsTreeCell-parent 16 points cap b (omega arith) limited.in_grid in_tree (omega arith) in
+      let up = IsTreeCell-parent lists.grid points cap b (grid_positive lists.grid limited.known_grid) limited.in_grid in_tree (omega arith) in
       subst (BoxEndsWithin (suc n * (from_pairs + from_far))) (sym (local_row-below points cap P lists b (omega arith) k))
       (box_wider (n * (from_pairs + from_far) + (from_pairs + from_far)) (suc n * (from_pairs + from_far)) _ (one_level_more n from_pairs from_far)
       (add_box_within (n * (from_pairs + from_far)) (from_pairs + from_far) (shifted_down P (local_row points cap P lists (parent b)) (quadrant b) k) (add_box (converted_rows points cap P lists b k) (far_rows points cap P lists b k))
       (shifted_down_within P (n * (from_pairs + from_far)) (quadrant b) (local_row points cap P lists (parent b)) (unit_square b) (level_within n (parent b) (omega arith) up) k lt)
       (add_box_within from_pairs from_far (converted_rows points cap P lists b k) (far_rows points cap P lists b k) (converted_rows-within b in_tree k lt) (far_rows-within b in_tree k lt))))
 
-  pub local_row-light : (b : Square) → IsTreeCell 16 points cap b → RowWithin P (2 ^ 78) (local_row points cap P lists b)
-  local_row-light b in_tree = wider P (b.level * (from_pairs + from_far)) (2 ^ 78) (local_row points cap P lists b) (all_levels b.level (total_weight points) in_tree.level_in_grid limited.light) (level_within b.level b refl in_tree)
+  pub local_row-within : (b : Square) → IsTreeCell lists.grid points cap b → RowWithin P (2 ^ 46 * total_weight points) (local_row points cap P lists b)
+  local_row-within b in_tree =
+      wider P (b.level * (from_pairs + from_far)) (2 ^ 46 * total_weight points) (local_row points cap P lists b)
+      (all_levels b.level (total_weight points) (omega (arith, in_tree.level_in_grid, (within_widest lists.grid limited.known_grid).bits))) (level_within b.level b refl in_tree)
 
 pub row_sizes : EntriesShareNoSource → RowSizes
 row_sizes apart points cap P lists order limited c in_tree =
     let few = order_bounds P order in
     record {
-      multipole = wider P (2 ^ 72) (2 ^ 74) (multipole_row points cap c) (omega arith) (multipole_row-light P points cap c (omega arith) (omega (arith, in_tree.level_in_grid, in_tree.of_grid)) limited.light);
-      local = wider P (2 ^ 78) (2 ^ 82) (local_row points cap P lists c) (omega arith) (local_row-light apart points cap P lists (omega arith) limited c in_tree);
+      multipole = wider P (2 ^ 40 * weight64_in points c) (most_multipole lists.grid) (multipole_row points cap c)
+          (multipole_limit lists.grid (weight64_in points c) limited.known_grid (omega (arith, weight64_in-light points c, limited.light)))
+          (multipole_row-within P points cap c (omega arith) (omega (arith, in_tree.level_in_grid, in_tree.of_grid)));
+      local = wider P (2 ^ 46 * total_weight points) (most_local lists.grid) (local_row points cap P lists c) (local_limit lists.grid (total_weight points) limited.known_grid limited.light)
+          (local_row-within apart points cap P lists (omega arith) limited c in_tree);
     }

@@ -7,8 +7,9 @@ pub fn entries_share_no_source()
     ensures { EntriesShareNoSource }
 {}
 
-/// How large the field is where the points weigh at most 2^32 together, in units of 2^-40: ends of multipole rows are at most 2^74 in size,
-/// those of local rows 2^82, radii 2^80, and ends of boxes 2^84. The weight of a cell is at most that of all points.
+/// How large the field is where the points weigh no more together than the limit of their grid, in units of 2^-40: ends of multipole rows, of
+/// local rows and of boxes are at most the limits of the grid in size, and radii at most 2^48 times the limit of the weight. The weight of
+/// a cell is at most that of all points.
 pub fn field_is_bounded()
     ensures weights { WeightSizes }
     ensures rows { RowSizes }

@@ -28,7 +28,7 @@ module _ (grid : ℕ) (points : List Point) (cap P : ℕ) where
   held_with : (lists : TreeLists) (c : Square) → 0 < grid → AreInGrid grid points → AreTreeLists grid points cap lists → IsTreeCell grid points cap c → Held c
   held_with lists c positive inside are in_tree =
       let n : ℕ = number lists.cells c in
-      let d : Square = cell_at grid lists.cells n in
+      let d : Square = cell_at lists.cells n in
       let lt = number_below grid points cap lists.cells positive inside are.cells_are c in_tree in
       subst Held (cell_of_number grid points cap lists.cells positive inside are.cells_are c in_tree)
       (subst (λ xs. HoldsMoments P (side d) (doubled_centre d) xs (multipole_row points cap d))

@@ -4,7 +4,7 @@ use Rattle.std.specs.Prelude.{◌==◌, All, Contains, sum_by}
 use Rattle.std.proofs.lemmas.Bool.{and_right, and_from, and_left, ne_eqb, eq-eqb}
 use Rattle.std.proofs.lemmas.List.Elements.{All-append, All-map, All-contains, Contains-get_or, filter-append}
 use Rattle.exact_math.specs.Ends.{BoxEnds}
-use Rattle.cell_name.specs.Square.{Square, root}
+use Rattle.cell_name.specs.Square.{Square, no_square}
 use Rattle.cell_lists.proofs.OneEntry.{in_tree_of}
 use Rattle.letters.specs.declared.Entry.{Entry}
 use Rattle.letters.specs.declared.Letter.{Letter}
@@ -37,16 +37,16 @@ module _ (grid : ℕ) (points : List Point) (cap P : ℕ) (lists : TreeLists) (p
   given = accounting grid points cap P lists
 
   abbrev cell : ℕ → Square
-  cell n = cell_at grid lists.cells n
+  cell n = cell_at lists.cells n
 
   -- ---- the sources under a node are those in its cell
   pub sources_under-cell : (n : ℕ) → n < length lists.cells → sources_under given n ≡ map (leaf_source grid points cap lists) (sources_in points (cell n))
   sources_under-cell n lt =
-      filter-map (λ (x : LeafSource). under (above grid lists.cells) x.leaf n) (leaf_source grid points cap lists) (sources points)
+      filter-map (λ (x : LeafSource). under (above lists.cells) x.leaf n) (leaf_source grid points cap lists) (sources points)
       ∙ ap (map (leaf_source grid points cap lists))
-      (filter-filter (λ p. under (above grid lists.cells) (leaf_number grid points cap lists p) n) (λ p. is_source p.kind) points
-      ∙ filter_same (λ p. is_source p.kind && under (above grid lists.cells) (leaf_number grid points cap lists p) n) (is_source_in (cell n)) points
-      (All-from_members (λ p. (is_source p.kind && under (above grid lists.cells) (leaf_number grid points cap lists p) n) ≡ is_source_in (cell n) p) points
+      (filter-filter (λ p. under (above lists.cells) (leaf_number grid points cap lists p) n) (λ p. is_source p.kind) points
+      ∙ filter_same (λ p. is_source p.kind && under (above lists.cells) (leaf_number grid points cap lists p) n) (is_source_in (cell n)) points
+      (All-from_members (λ p. (is_source p.kind && under (above lists.cells) (leaf_number grid points cap lists p) n) ≡ is_source_in (cell n) p) points
       (λ p h. ap (λ b. is_source p.kind && b) (under_is_holding grid points cap lists.cells positive inside are.cells_are p h n lt))))
 
   pub over_sources : (g : Point → BoxEnds) (n : ℕ) → n < length lists.cells → total_box (λ (x : LeafSource). g x.point) (sources_under given n) ≡ total_box g (sources_in points (cell n))
@@ -88,7 +88,7 @@ module _ (grid : ℕ) (points : List Point) (cap P : ℕ) (lists : TreeLists) (p
 
   pub entries_of-cell : (letter : Letter) (n : ℕ) → n < length lists.cells → entries_of given letter n ≡ entries_from lists letter (cell n)
   entries_of-cell letter n lt =
-      filter_piece (of_node letter n) (of_cell lists) lists.cells (cell n) (ascending_differ lists.cells are.cells_are.ascending) (Contains-get_or lists.cells n (root grid) lt) (λ b h other. other_cell letter n b lt h other)
+      filter_piece (of_node letter n) (of_cell lists) lists.cells (cell n) (ascending_differ lists.cells are.cells_are.ascending) (Contains-get_or lists.cells n no_square lt) (λ b h other. other_cell letter n b lt h other)
       ∙ filter-append (of_node letter n) (from n U) (from n V ++ (from n W ++ from n X))
       ∙ ap₂ (λ k l. k ++ l) (piece letter U n lt) (filter-append (of_node letter n) (from n V) (from n W ++ from n X)
       ∙ ap₂ (λ k l. k ++ l) (piece letter V n lt) (filter-append (of_node letter n) (from n W) (from n X)

@@ -131,7 +131,7 @@ module _ (grid : ℕ) (points : List Point) (cap : ℕ) (cells : List Square) (a
   }
 
   pub lists_with : (lists : TreeLists) × AreTreeLists grid points cap lists
-  lists_with = (record { cells = cells; entries = passing }, record { cells_are = are; entries_are = λ letter b h. passing_are letter b })
+  lists_with = (record { grid = grid; cells = cells; entries = passing }, record { of_grid = refl; cells_are = are; entries_are = λ letter b h. passing_are letter b })
 
 pub each_list_has_tree : EachListHasTree
 each_list_has_tree grid points cap positive inside = lists_with grid points cap (sorted_cells (cells_to_level grid points cap grid)) (tree_cells grid points cap positive inside)

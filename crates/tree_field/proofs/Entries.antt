@@ -41,7 +41,7 @@ module _ (grid : ℕ) (points : List Point) (cap P : ℕ) (lists : TreeLists) (p
   given = accounting grid points cap P lists
 
   abbrev cell : ℕ → Square
-  cell n = cell_at grid lists.cells n
+  cell n = cell_at lists.cells n
 
   below : (c : Square) → IsTreeCell grid points cap c → number lists.cells c < length lists.cells
   below c h = number_below grid points cap lists.cells positive inside are.cells_are c h
@@ -61,18 +61,18 @@ module _ (grid : ℕ) (points : List Point) (cap P : ℕ) (lists : TreeLists) (p
   entries_in_range = All-entries (λ e. e.c < length lists.cells) (λ letter b c tb tc e. below c tc)
 
   -- a node above a point's leaf has it in its cell
-  held_under : (p : Point) → Contains points p → (c : Square) → IsTreeCell grid points cap c → under (above grid lists.cells) (leaf_number grid points cap lists p) (number lists.cells c) ≡ true → Holds c p.x p.y
+  held_under : (p : Point) → Contains points p → (c : Square) → IsTreeCell grid points cap c → under (above lists.cells) (leaf_number grid points cap lists p) (number lists.cells c) ≡ true → Holds c p.x p.y
   held_under p h c tc u =
       subst (λ s. Holds s p.x p.y) (is c tc) (Holds-from_test (cell (number lists.cells c)) p.x p.y (sym (under_is_holding grid points cap lists.cells positive inside are.cells_are p h (number lists.cells c) (below c tc)) ∙ u))
 
-  under_held : (p : Point) → Contains points p → (c : Square) → IsTreeCell grid points cap c → Holds c p.x p.y → under (above grid lists.cells) (leaf_number grid points cap lists p) (number lists.cells c) ≡ true
+  under_held : (p : Point) → Contains points p → (c : Square) → IsTreeCell grid points cap c → Holds c p.x p.y → under (above lists.cells) (leaf_number grid points cap lists p) (number lists.cells c) ≡ true
   under_held p h c tc held =
       under_is_holding grid points cap lists.cells positive inside are.cells_are p h (number lists.cells c) (below c tc)
       ∙ test-from_Holds (cell (number lists.cells c)) p.x p.y (subst (λ s. Holds s p.x p.y) (sym (is c tc)) held)
 
   -- ---- their places are apart
   far_at : (b c : Square) → IsTreeCell grid points cap b → IsTreeCell grid points cap c → b.level ≤ c.level → (Touches b c → ⊥) → (p : Point) → Contains points p
-      → under (above grid lists.cells) (leaf_number grid points cap lists p) (number lists.cells b) ≡ true → IsFarFrom (cell (number lists.cells c)) (place p)
+      → under (above lists.cells) (leaf_number grid points cap lists p) (number lists.cells b) ≡ true → IsFarFrom (cell (number lists.cells c)) (place p)
   far_at b c tb tc le apart p h u =
       subst (λ s. IsFarFrom s (place p)) (sym (is c tc)) (far_places b c p.x p.y (tb.of_grid ∙ sym tc.of_grid) le (omega (arith, tc.level_in_grid, tc.of_grid)) apart (held_under p h b tb u))
 
@@ -85,13 +85,13 @@ module _ (grid : ℕ) (points : List Point) (cap P : ℕ) (lists : TreeLists) (p
       (record { grid = grids; level = a.same_level; apart = (pairs_of_cells b c grids a.same_level a.apart a.parents_touch).kernel.apart }))
   apart_of W b c tb tc e =
       let a = e.comes_apart in
-      All-map (λ (t : LeafTarget). under (above grid lists.cells) t.leaf (number lists.cells b) ≡ true → IsFarFrom (cell (number lists.cells c)) t.place) (leaf_target grid points cap P lists) (targets points)
-      (All-from_members (λ t. under (above grid lists.cells) (leaf_number grid points cap lists t) (number lists.cells b) ≡ true → IsFarFrom (cell (number lists.cells c)) (place t)) (targets points)
+      All-map (λ (t : LeafTarget). under (above lists.cells) t.leaf (number lists.cells b) ≡ true → IsFarFrom (cell (number lists.cells c)) t.place) (leaf_target grid points cap P lists) (targets points)
+      (All-from_members (λ t. under (above lists.cells) (leaf_number grid points cap lists t) (number lists.cells b) ≡ true → IsFarFrom (cell (number lists.cells c)) (place t)) (targets points)
       (λ t h u. far_at b c tb tc (omega (arith, a.deeper)) (λ w. a.apart (Touches-sym b c w)) t (Contains-filter _ points t h).0 u))
   apart_of X b c tb tc e =
       let a = e.comes_apart in
-      All-map (λ (x : LeafSource). under (above grid lists.cells) x.leaf (number lists.cells c) ≡ true → IsFarFrom (cell (number lists.cells b)) (place x.point)) (leaf_source grid points cap lists) (sources points)
-      (All-from_members (λ p. under (above grid lists.cells) (leaf_number grid points cap lists p) (number lists.cells c) ≡ true → IsFarFrom (cell (number lists.cells b)) (place p)) (sources points)
+      All-map (λ (x : LeafSource). under (above lists.cells) x.leaf (number lists.cells c) ≡ true → IsFarFrom (cell (number lists.cells b)) (place x.point)) (leaf_source grid points cap lists) (sources points)
+      (All-from_members (λ p. under (above lists.cells) (leaf_number grid points cap lists p) (number lists.cells c) ≡ true → IsFarFrom (cell (number lists.cells b)) (place p)) (sources points)
       (λ p h u. far_at c b tc tb (omega (arith, a.deeper)) (λ w. a.apart (Touches-sym c b w)) p (Contains-filter _ points p h).0 u))
 
   pub entries_apart : All (λ e. Apart given e.letter e.b e.c) given.entries
@@ -175,9 +175,9 @@ module _ (grid : ℕ) (points : List Point) (cap P : ℕ) (lists : TreeLists) (p
       let test : Entry → Bool = accounts given (leaf_number grid points cap lists t) (leaf_source grid points cap lists p) in
       let the : Entry = entry lists o.letter o.b o.c in
       count_one test given.entries the entries_differ (has_entry o.letter o.b o.c o.entry)
-      (and_from (reaches given o.letter (number lists.cells o.b) (leaf_number grid points cap lists t)) (under (above grid lists.cells) (leaf_number grid points cap lists p) (number lists.cells o.c))
+      (and_from (reaches given o.letter (number lists.cells o.b) (leaf_number grid points cap lists t)) (under (above lists.cells) (leaf_number grid points cap lists p) (number lists.cells o.c))
       (reaches_from_holds o.letter t kt.0 o.b o.c o.entry.pair o.accounts.target_held) (under_held p kp.0 o.c tc o.accounts.source_held))
       (λ y h. All-contains (λ y. test y ≡ true → y ≡ the) given.entries y (All-entries (λ y. test y ≡ true → y ≡ the) (λ letter b c tb tc e passes.
-      let parts = and_parts (reaches given letter (number lists.cells b) (leaf_number grid points cap lists t)) (under (above grid lists.cells) (leaf_number grid points cap lists p) (number lists.cells c)) passes in
+      let parts = and_parts (reaches given letter (number lists.cells b) (leaf_number grid points cap lists t)) (under (above lists.cells) (leaf_number grid points cap lists p) (number lists.cells c)) passes in
       let one = o.no_other letter b c e (record { target_held = holds_from_reaches letter t kt.0 b tb parts.0; source_held = held_under p kp.0 c tc parts.1 }) in
       λ i. entry lists (one.0 i) (one.1 i) (one.2 i))) h)

@@ -80,39 +80,39 @@ module _ (grid : ℕ) (points : List Point) (cap : ℕ) (cells : List Square) (p
   pub leaf_number_below : (p : Point) → Contains points p → leaf_number p < length cells
   leaf_number_below p h = number_below grid points cap cells positive inside are _ (leaf_is p h).in_tree
 
-  pub cell_of_leaf : (p : Point) → Contains points p → cell_at grid cells (leaf_number p) ≡ leaf_at points cap grid (place p)
+  pub cell_of_leaf : (p : Point) → Contains points p → cell_at cells (leaf_number p) ≡ leaf_at points cap grid (place p)
   cell_of_leaf p h = cell_of_number grid points cap cells positive inside are _ (leaf_is p h).in_tree
 
   -- what is above a cell that holds a place holds it
-  holds_above : (p : Point) (m n : ℕ) → m < length cells → under (above grid cells) m n ≡ true → Holds (cell_at grid cells m) p.x p.y → Holds (cell_at grid cells n) p.x p.y
-  holds_above p m n = strong (λ m. m < length cells → under (above grid cells) m n ≡ true → Holds (cell_at grid cells m) p.x p.y → Holds (cell_at grid cells n) p.x p.y) step m
+  holds_above : (p : Point) (m n : ℕ) → m < length cells → under (above cells) m n ≡ true → Holds (cell_at cells m) p.x p.y → Holds (cell_at cells n) p.x p.y
+  holds_above p m n = strong (λ m. m < length cells → under (above cells) m n ≡ true → Holds (cell_at cells m) p.x p.y → Holds (cell_at cells n) p.x p.y) step m
     where
-      root_is : above grid cells 0 ≡ 0
+      root_is : above cells 0 ≡ 0
       root_is = above_root grid points cap cells positive inside are
 
-      first : (k : ℕ) → 0 < k → above grid cells k < k
+      first : (k : ℕ) → 0 < k → above cells k < k
       first = above_first grid points cap cells positive inside are
 
-      step : (m : ℕ) → ((k : ℕ) → k < m → k < length cells → under (above grid cells) k n ≡ true → Holds (cell_at grid cells k) p.x p.y → Holds (cell_at grid cells n) p.x p.y)
-          → m < length cells → under (above grid cells) m n ≡ true → Holds (cell_at grid cells m) p.x p.y → Holds (cell_at grid cells n) p.x p.y
-      step zero ih lt e held = subst (λ k. Holds (cell_at grid cells k) p.x p.y) (eqb-true 0 n (sym (under-root (above grid cells) root_is first n) ∙ e)) held
+      step : (m : ℕ) → ((k : ℕ) → k < m → k < length cells → under (above cells) k n ≡ true → Holds (cell_at cells k) p.x p.y → Holds (cell_at cells n) p.x p.y)
+          → m < length cells → under (above cells) m n ≡ true → Holds (cell_at cells m) p.x p.y → Holds (cell_at cells n) p.x p.y
+      step zero ih lt e held = subst (λ k. Holds (cell_at cells k) p.x p.y) (eqb-true 0 n (sym (under-root (above cells) root_is first n) ∙ e)) held
       step (suc m) ih lt e held = ⊎_elim
-          (λ t. subst (λ k. Holds (cell_at grid cells k) p.x p.y) (eqb-true (suc m) n t) held)
+          (λ t. subst (λ k. Holds (cell_at cells k) p.x p.y) (eqb-true (suc m) n t) held)
           (λ t.
-          let c : Square = cell_at grid cells (suc m) in
+          let c : Square = cell_at cells (suc m) in
           let in_tree = tree_cell grid points cap cells positive inside are (suc m) lt in
           let before = first (suc m) (omega arith) in
-          ih (above grid cells (suc m)) before (omega arith) t
+          ih (above cells (suc m)) before (omega arith) t
           (subst (λ d. Holds d p.x p.y) (sym (cell_above grid points cap cells positive inside are (suc m) (omega arith) lt))
           (Holds-parent c p.x p.y (level_positive grid points cap cells positive inside are (suc m) (omega arith) lt) (omega (arith, in_tree.level_in_grid, in_tree.of_grid)) held)))
-          (or_cases (suc m == n) (under (above grid cells) (above grid cells (suc m)) n) (sym (under-parent (above grid cells) root_is first (suc m) n (omega arith)) ∙ e))
+          (or_cases (suc m == n) (under (above cells) (above cells (suc m)) n) (sym (under-parent (above cells) root_is first (suc m) n (omega arith)) ∙ e))
 
   -- a point's cell of a level is above its leaf
   above_leaf : (p : Point) → Contains points p → (j m k : ℕ) → m ≡ j + k → ((l : ℕ) → l ≤ m → IsTreeCell grid points cap (cell_of grid p l))
-      → under (above grid cells) (number cells (cell_of grid p m)) (number cells (cell_of grid p k)) ≡ true
+      → under (above cells) (number cells (cell_of grid p m)) (number cells (cell_of grid p k)) ≡ true
   above_leaf p h zero m k e all =
-      ap (λ l. under (above grid cells) (number cells (cell_of grid p l)) (number cells (cell_of grid p k))) (omega arith)
-      ∙ under-self (above grid cells) (above_root grid points cap cells positive inside are) (above_first grid points cap cells positive inside are) (number cells (cell_of grid p k))
+      ap (λ l. under (above cells) (number cells (cell_of grid p l)) (number cells (cell_of grid p k))) (omega arith)
+      ∙ under-self (above cells) (above_root grid points cap cells positive inside are) (above_first grid points cap cells positive inside are) (number cells (cell_of grid p k))
   above_leaf p h (suc j) m k e all =
       let root_is = above_root grid points cap cells positive inside are in
       let first = above_first grid points cap cells positive inside are in
@@ -122,28 +122,28 @@ module _ (grid : ℕ) (points : List Point) (cap : ℕ) (cells : List Square) (p
       let next : m - 1 + 1 ≡ m = omega arith in
       let whole : parent (cell_of grid p (m - 1 + 1)) ≡ cell_of grid p (m - 1) = parent-square_at grid (m - 1) p.x p.y (omega (arith, here.level_in_grid)) in
       let up : parent c ≡ cell_of grid p (m - 1) = rw next at whole in
-      let above_is : above grid cells n ≡ number cells (cell_of grid p (m - 1)) = above_number grid points cap cells positive inside are c here ∙ ap (number cells) up in
+      let above_is : above cells n ≡ number cells (cell_of grid p (m - 1)) = above_number grid points cap cells positive inside are c here ∙ ap (number cells) up in
       let ih = above_leaf p h j (m - 1) k (omega arith) (λ l le. all l (omega arith)) in
       elim (cases_lt 0 n) [
-        | inl lo ↦ under-parent (above grid cells) root_is first n (number cells (cell_of grid p k)) lo ∙ or_right _ _ (ap (λ m. under (above grid cells) m (number cells (cell_of grid p k))) above_is ∙ ih)
-        | inr le ↦ ap (λ m. under (above grid cells) m (number cells (cell_of grid p k))) (zero_is n le ∙ sym (ap (above grid cells) (zero_is n le) ∙ root_is) ∙ above_is) ∙ ih
+        | inl lo ↦ under-parent (above cells) root_is first n (number cells (cell_of grid p k)) lo ∙ or_right _ _ (ap (λ m. under (above cells) m (number cells (cell_of grid p k))) above_is ∙ ih)
+        | inr le ↦ ap (λ m. under (above cells) m (number cells (cell_of grid p k))) (zero_is n le ∙ sym (ap (above cells) (zero_is n le) ∙ root_is) ∙ above_is) ∙ ih
       ]
     where
       zero_is : (n : ℕ) → n ≤ 0 → n ≡ 0
       zero_is n le = omega arith
 
   -- a node is above a point's leaf exactly where its cell holds the point
-  pub under_is_holding : (p : Point) → Contains points p → (n : ℕ) → n < length cells → under (above grid cells) (leaf_number p) n ≡ holds_test (cell_at grid cells n) p.x p.y
+  pub under_is_holding : (p : Point) → Contains points p → (n : ℕ) → n < length cells → under (above cells) (leaf_number p) n ≡ holds_test (cell_at cells n) p.x p.y
   under_is_holding p h n lt = same_test _ _
-      (λ e. test-from_Holds (cell_at grid cells n) p.x p.y (holds_above p (leaf_number p) n (leaf_number_below p h) e (subst (λ c. Holds c p.x p.y) (sym (cell_of_leaf p h)) (leaf_holds p h))))
+      (λ e. test-from_Holds (cell_at cells n) p.x p.y (holds_above p (leaf_number p) n (leaf_number_below p h) e (subst (λ c. Holds c p.x p.y) (sym (cell_of_leaf p h)) (leaf_holds p h))))
       (λ e.
       let given = listed grid points p inside h in
       let l = has_leaf grid points cap p positive given in
-      let c : Square = cell_at grid cells n in
+      let c : Square = cell_at cells n in
       let here = tree_cell grid points cap cells positive inside are n lt in
       let is : c ≡ cell_of grid p c.level = cell_is grid c p here.of_grid given.in_grid (Holds-from_test c p.x p.y e) in
       let le : c.level ≤ l.level = l.leaf_level.no_deeper c.level (subst (IsTreeCell grid points cap) is here) in
       let u = above_leaf p h (l.level - c.level) l.level c.level (omega arith) l.leaf_level.in_tree in
-      ap (λ m. under (above grid cells) m n) (ap (number cells) l.is_cell)
-      ∙ ap (under (above grid cells) (number cells (cell_of grid p l.level))) (sym (number_of_cell grid points cap cells positive inside are n lt) ∙ ap (number cells) is)
+      ap (λ m. under (above cells) m n) (ap (number cells) l.is_cell)
+      ∙ ap (under (above cells) (number cells (cell_of grid p l.level))) (sym (number_of_cell grid points cap cells positive inside are n lt) ∙ ap (number cells) is)
       ∙ u)

@@ -70,7 +70,7 @@ module _ (grid : ℕ) (points : List Point) (cap P : ℕ) (lists : TreeLists) (p
   given = accounting grid points cap P lists
 
   abbrev cell : ℕ → Square
-  cell n = cell_at grid lists.cells n
+  cell n = cell_at lists.cells n
 
   -- ---- the root has no entries of V and X
   root_cell : 0 < length lists.cells → (cell 0).level ≡ 0
@@ -113,7 +113,7 @@ module _ (grid : ℕ) (points : List Point) (cap P : ℕ) (lists : TreeLists) (p
   radius_given n t = ap (λ (b : Bool). cond b (local_radius points cap P lists (cell n)) 0) t
 
   -- the cell of its parent has one too
-  target_above : (n : ℕ) → 0 < n → n < length lists.cells → has_target points (cell n) ≡ true → has_target points (cell (above grid lists.cells n)) ≡ true
+  target_above : (n : ℕ) → 0 < n → n < length lists.cells → has_target points (cell n) ≡ true → has_target points (cell (above lists.cells n)) ≡ true
   target_above n lo lt t =
       let here = tree_cell grid points cap lists.cells positive inside are.cells_are n lt in
       ap (has_target points) (cell_above grid points cap lists.cells positive inside are.cells_are n lo lt)
@@ -130,8 +130,8 @@ module _ (grid : ℕ) (points : List Point) (cap P : ℕ) (lists : TreeLists) (p
       ∙ sym (local_row-root points cap P lists (cell 0) (root_cell lt) k)
       ∙ sym (ap (λ (r : ℕ → BoxEnds). r k) (row_given 0 t))
   local_rows_same (suc m) lt t k =
-      let from : given.local (above grid lists.cells (suc m)) ≡ local_row points cap P lists (parent (cell (suc m))) =
-      row_given (above grid lists.cells (suc m)) (target_above (suc m) (omega arith) lt t)
+      let from : given.local (above lists.cells (suc m)) ≡ local_row points cap P lists (parent (cell (suc m))) =
+      row_given (above lists.cells (suc m)) (target_above (suc m) (omega arith) lt t)
       ∙ ap (λ c. local_row points cap P lists c) (cell_above grid points cap lists.cells positive inside are.cells_are (suc m) (omega arith) lt) in
       ap₂ add_box
       (ap (λ (r : ℕ → BoxEnds). shifted_down P r (quadrant (cell (suc m))) k) from)
@@ -164,7 +164,7 @@ module _ (grid : ℕ) (points : List Point) (cap P : ℕ) (lists : TreeLists) (p
       ∙ sym (radius_given 0 t)
   radii_same (suc m) lt t =
       ap₂ (λ a b. a + b)
-      (radius_given (above grid lists.cells (suc m)) (target_above (suc m) (omega arith) lt t)
+      (radius_given (above lists.cells (suc m)) (target_above (suc m) (omega arith) lt t)
       ∙ ap (local_radius points cap P lists) (cell_above grid points cap lists.cells positive inside are.cells_are (suc m) (omega arith) lt))
       (ap₂ (λ a b. a + b) (pairs_lose (suc m) lt) (singles_lose (suc m) lt))
       ∙ sym (local_radius-below points cap P lists (cell (suc m)) (level_positive grid points cap lists.cells positive inside are.cells_are (suc m) (omega arith) lt))

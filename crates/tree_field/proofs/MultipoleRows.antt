@@ -10,7 +10,7 @@ use mathlib.Core.Logic.{⊎_elim}
 use Rattle.exact_math.specs.Ends.{BoxEnds, zero_box, add_box, scale_box, gscale_box, quot_box}
 use Rattle.exact_math.specs.Gaussian.{Gaussian}
 use Rattle.cell_name.specs.Order.{IsBefore}
-use Rattle.cell_name.specs.Square.{Square, root, parent, holds_test}
+use Rattle.cell_name.specs.Square.{Square, no_square, parent, holds_test}
 use Rattle.cell_name.proofs.Cells.{Holds-parent, parent-square_at}
 use Rattle.cell_name.proofs.HoldsTest.{Holds-from_test, test-from_Holds}
 use Rattle.points.specs.Points.{is_source}
@@ -112,7 +112,7 @@ module _ (grid : ℕ) (points : List Point) (cap P : ℕ) (lists : TreeLists) (p
   given = accounting grid points cap P lists
 
   abbrev cell : ℕ → Square
-  cell n = cell_at grid lists.cells n
+  cell n = cell_at lists.cells n
 
   -- ---- leaves
   -- a cell that is split has a child
@@ -127,10 +127,10 @@ module _ (grid : ℕ) (points : List Point) (cap P : ℕ) (lists : TreeLists) (p
       let up : parent d ≡ cell_of grid p c.level = rw add-one at (parent-square_at grid c.level p.x p.y room) in
       let m : ℕ = number lists.cells d in
       let in_range = number_below grid points cap lists.cells positive inside are.cells_are d below in
-      let e : above grid lists.cells m ≡ n = above_number grid points cap lists.cells positive inside are.cells_are d below ∙ ap (number lists.cells) (up ∙ sym o.is_cell) ∙ number_of_cell grid points cap lists.cells positive inside are.cells_are n lt in
+      let e : above lists.cells m ≡ n = above_number grid points cap lists.cells positive inside are.cells_are d below ∙ ap (number lists.cells) (up ∙ sym o.is_cell) ∙ number_of_cell grid points cap lists.cells positive inside are.cells_are n lt in
       let level : (cell m).level ≡ suc c.level = ap (λ (s : Square). s.level) (cell_of_number grid points cap lists.cells positive inside are.cells_are d below) in
       let some = list_any-member (is_child given n) (range_with_len 0 (length lists.cells)) m (Contains-range (length lists.cells) m in_range)
-      (and_from (nat_lt 0 m) (above grid lists.cells m == n) (lt-ltb 0 m (not_first m in_range level)) (eq-eqb (above grid lists.cells m) n e)) in
+      (and_from (nat_lt 0 m) (above lists.cells m == n) (lt-ltb 0 m (not_first m in_range level)) (eq-eqb (above lists.cells m) n e)) in
       ap not some
     where
       not_first : (m : ℕ) → m < length lists.cells → (cell m).level ≡ suc (cell n).level → 0 < m
@@ -154,13 +154,13 @@ module _ (grid : ℕ) (points : List Point) (cap P : ℕ) (lists : TreeLists) (p
 
   child_is : (n d : ℕ) → Contains (range_with_len 0 (length lists.cells)) d → is_child given n d ≡ true → IsChildOf n d
   child_is n d h e =
-      let parts = and_parts (nat_lt 0 d) (above grid lists.cells d == n) e in
+      let parts = and_parts (nat_lt 0 d) (above lists.cells d == n) e in
       let lo : 0 < d = ltb-true 0 d parts.0 in
       let lt = range_below (length lists.cells) d h in
       record {
         in_range = lt;
         positive_number = lo;
-        parent_is = sym (cell_above grid points cap lists.cells positive inside are.cells_are d lo lt) ∙ ap cell (eqb-true (above grid lists.cells d) n parts.1);
+        parent_is = sym (cell_above grid points cap lists.cells positive inside are.cells_are d lo lt) ∙ ap cell (eqb-true (above lists.cells d) n parts.1);
       }
 
   -- a node with a child is split
@@ -192,7 +192,7 @@ module _ (grid : ℕ) (points : List Point) (cap P : ℕ) (lists : TreeLists) (p
   children_are : (n : ℕ) → n < length lists.cells → IsSplit points cap (cell n) → (cell n).level < grid → map cell (children given n) ≡ filter is_occupied (quarters (cell n))
   children_are n lt split room = same_list (map cell (children given n)) (filter is_occupied (quarters (cell n)))
       (AllPairs-map IsBefore cell (children given n) (AllPairs-filter (λ a b. IsBefore (cell a) (cell b)) (is_child given n) (range_with_len 0 (length lists.cells))
-      (λ i j d l in_range. let r = AllPairs-range (length lists.cells) i j d l in_range in are.cells_are.ascending _ _ (root grid) r.0 r.1)))
+      (λ i j d l in_range. let r = AllPairs-range (length lists.cells) i j d l in_range in are.cells_are.ascending _ _ no_square r.0 r.1)))
       (AllPairs-filter IsBefore is_occupied (quarters (cell n)) (quarters_ascend (cell n)))
       down
       up
@@ -217,10 +217,10 @@ module _ (grid : ℕ) (points : List Point) (cap P : ℕ) (lists : TreeLists) (p
           let m : ℕ = number lists.cells q in
           let in_range = number_below grid points cap lists.cells positive inside are.cells_are q in_tree in
           let is = cell_of_number grid points cap lists.cells positive inside are.cells_are q in_tree in
-          let e : above grid lists.cells m ≡ n = above_number grid points cap lists.cells positive inside are.cells_are q in_tree ∙ ap (number lists.cells) quarter.parent_is ∙ number_of_cell grid points cap lists.cells positive inside are.cells_are n lt in
+          let e : above lists.cells m ≡ n = above_number grid points cap lists.cells positive inside are.cells_are q in_tree ∙ ap (number lists.cells) quarter.parent_is ∙ number_of_cell grid points cap lists.cells positive inside are.cells_are n lt in
           subst (Contains (map cell (children given n))) is
           (Contains-into_map cell (children given n) m (Contains-into_filter (is_child given n) (range_with_len 0 (length lists.cells)) m (Contains-range (length lists.cells) m in_range)
-          (and_from (nat_lt 0 m) (above grid lists.cells m == n) (lt-ltb 0 m (not_first m in_range (ap (λ (s : Square). s.level) is) quarter.level)) (eq-eqb (above grid lists.cells m) n e))))
+          (and_from (nat_lt 0 m) (above lists.cells m == n) (lt-ltb 0 m (not_first m in_range (ap (λ (s : Square). s.level) is) quarter.level)) (eq-eqb (above lists.cells m) n e))))
         where
           not_first : (m : ℕ) → m < length lists.cells → (cell m).level ≡ q.level → q.level ≡ (cell n).level + 1 → 0 < m
           not_first m lm level next =

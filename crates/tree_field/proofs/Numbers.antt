@@ -4,7 +4,7 @@ use Rattle.std.specs.Prelude.{◌==◌, Contains, slice_index_or}
 use Rattle.std.proofs.lemmas.Bool.{false≢true, cases_lt, and_parts, and_from, eqb-true, eq-eqb, lt-ltb, le-ltb}
 use Rattle.points.specs.declared.Point.{Point}
 use Rattle.cell_name.specs.Order.{IsBefore}
-use Rattle.cell_name.specs.Square.{Square, root, parent}
+use Rattle.cell_name.specs.Square.{Square, root, no_square, parent}
 use Rattle.cell_name.proofs.Cells.{same_square}
 use Rattle.cell_name.proofs.Order.{IsBefore-irrefl}
 use Rattle.quadtree.specs.Tree.{AreInGrid, IsTreeCell, AreTreeCells}
@@ -37,78 +37,78 @@ number_is (d ∷ ds) c h = step (same_cell d c) refl h (number_is ds c)
     step false e (suc k, lt, f) rest = let r = rest (k, omega arith, f) in record { in_range = omega (arith, r.in_range); is = r.is }
 
 module _ (grid : ℕ) (points : List Point) (cap : ℕ) (cells : List Square) (positive : 0 < grid) (inside : AreInGrid grid points) (are : AreTreeCells grid points cap cells) where
-  pub tree_cell : (n : ℕ) → n < length cells → IsTreeCell grid points cap (cell_at grid cells n)
-  tree_cell n lt = are.in_tree n (root grid) lt
+  pub tree_cell : (n : ℕ) → n < length cells → IsTreeCell grid points cap (cell_at cells n)
+  tree_cell n lt = are.in_tree n no_square lt
 
   pub number_below : (c : Square) → IsTreeCell grid points cap c → number cells c < length cells
   number_below c h = (number_is cells c (are.whole c h)).in_range
 
-  pub cell_of_number : (c : Square) → IsTreeCell grid points cap c → cell_at grid cells (number cells c) ≡ c
-  cell_of_number c h = (number_is cells c (are.whole c h)).is (root grid)
+  pub cell_of_number : (c : Square) → IsTreeCell grid points cap c → cell_at cells (number cells c) ≡ c
+  cell_of_number c h = (number_is cells c (are.whole c h)).is no_square
 
   -- a cell has one number
-  pub same_number : (m n : ℕ) → m < length cells → n < length cells → cell_at grid cells m ≡ cell_at grid cells n → m ≡ n
+  pub same_number : (m n : ℕ) → m < length cells → n < length cells → cell_at cells m ≡ cell_at cells n → m ≡ n
   same_number m n lm ln e =
       elim (cases_lt m n) [
-        | inl lt ↦ absurd (IsBefore-irrefl (cell_at grid cells m) (cell_at grid cells n) e (are.ascending m n (root grid) lt ln))
+        | inl lt ↦ absurd (IsBefore-irrefl (cell_at cells m) (cell_at cells n) e (are.ascending m n no_square lt ln))
         | inr le ↦ elim (cases_lt n m) [
-          | inl lt ↦ absurd (IsBefore-irrefl (cell_at grid cells n) (cell_at grid cells m) (sym e) (are.ascending n m (root grid) lt lm))
+          | inl lt ↦ absurd (IsBefore-irrefl (cell_at cells n) (cell_at cells m) (sym e) (are.ascending n m no_square lt lm))
           | inr ge ↦ omega arith
         ]
       ]
 
-  pub number_of_cell : (n : ℕ) → n < length cells → number cells (cell_at grid cells n) ≡ n
+  pub number_of_cell : (n : ℕ) → n < length cells → number cells (cell_at cells n) ≡ n
   number_of_cell n lt = same_number _ n (number_below _ (tree_cell n lt)) lt (cell_of_number _ (tree_cell n lt))
 
   -- a cell stands after its parent
-  parent_first : (n : ℕ) → n < length cells → 0 < (cell_at grid cells n).level → number cells (parent (cell_at grid cells n)) < n
+  parent_first : (n : ℕ) → n < length cells → 0 < (cell_at cells n).level → number cells (parent (cell_at cells n)) < n
   parent_first n lt lo =
-      let c : Square = cell_at grid cells n in
+      let c : Square = cell_at cells n in
       let up = IsTreeCell-parent grid points cap c positive inside (tree_cell n lt) lo in
       let m : ℕ = number cells (parent c) in
-      let level : (cell_at grid cells m).level ≡ c.level - 1 = ap (λ (s : Square). s.level) (cell_of_number (parent c) up) in
+      let level : (cell_at cells m).level ≡ c.level - 1 = ap (λ (s : Square). s.level) (cell_of_number (parent c) up) in
       elim (cases_lt m n) [
         | inl before ↦ before
         | inr le ↦ elim (cases_lt n m) [
-          | inl after ↦ absurd (no (cell_at grid cells m) level (are.ascending n m (root grid) after (number_below (parent c) up)))
-          | inr ge ↦ absurd (let same : (cell_at grid cells m).level ≡ c.level = ap (λ k. (cell_at grid cells k).level) (omega arith) in omega arith)
+          | inl after ↦ absurd (no (cell_at cells m) level (are.ascending n m no_square after (number_below (parent c) up)))
+          | inr ge ↦ absurd (let same : (cell_at cells m).level ≡ c.level = ap (λ k. (cell_at cells k).level) (omega arith) in omega arith)
         ]
       ]
     where
-      no : (d : Square) → d.level ≡ (cell_at grid cells n).level - 1 → IsBefore (cell_at grid cells n) d → ⊥
+      no : (d : Square) → d.level ≡ (cell_at cells n).level - 1 → IsBefore (cell_at cells n) d → ⊥
       no d e b = elim b.before [ inl deep ↦ omega arith | inr same ↦ absurd (omega (arith, same.0)) ]
 
-  root_from_level : (n : ℕ) → n < length cells → (cell_at grid cells n).level ≤ 0 → cell_at grid cells n ≡ root grid
+  root_from_level : (n : ℕ) → n < length cells → (cell_at cells n).level ≤ 0 → cell_at cells n ≡ root grid
   root_from_level n lt e = elim (tree_cell n lt).reached [ inl is_root ↦ is_root | inr below ↦ absurd (omega (arith, below.0)) ]
 
-  pub first_is_root : 0 < length cells → cell_at grid cells 0 ≡ root grid
+  pub first_is_root : 0 < length cells → cell_at cells 0 ≡ root grid
   first_is_root lt =
-      elim (cases_lt 0 (cell_at grid cells 0).level) [
+      elim (cases_lt 0 (cell_at cells 0).level) [
         | inl lo ↦ absurd (let h = parent_first 0 lt lo in omega arith)
         | inr le ↦ root_from_level 0 lt le
       ]
 
-  pub level_positive : (n : ℕ) → 0 < n → n < length cells → 0 < (cell_at grid cells n).level
+  pub level_positive : (n : ℕ) → 0 < n → n < length cells → 0 < (cell_at cells n).level
   level_positive n lo lt =
-      elim (cases_lt 0 (cell_at grid cells n).level) [
+      elim (cases_lt 0 (cell_at cells n).level) [
         | inl h ↦ h
         | inr le ↦ absurd (let e : n ≡ 0 = same_number n 0 lt (omega arith) (root_from_level n lt le ∙ sym (first_is_root (omega arith))) in omega arith)
       ]
 
-  above-inside : (n : ℕ) → n < length cells → above grid cells n ≡ number cells (parent (cell_at grid cells n))
-  above-inside n lt = ap (λ (b : Bool). cond b (number cells (parent (cell_at grid cells n))) 0) (lt-ltb n (length cells) lt)
+  above-inside : (n : ℕ) → n < length cells → above cells n ≡ number cells (parent (cell_at cells n))
+  above-inside n lt = ap (λ (b : Bool). cond b (number cells (parent (cell_at cells n))) 0) (lt-ltb n (length cells) lt)
 
-  above-outside : (n : ℕ) → length cells ≤ n → above grid cells n ≡ 0
-  above-outside n le = ap (λ (b : Bool). cond b (number cells (parent (cell_at grid cells n))) 0) (le-ltb n (length cells) le)
+  above-outside : (n : ℕ) → length cells ≤ n → above cells n ≡ 0
+  above-outside n le = ap (λ (b : Bool). cond b (number cells (parent (cell_at cells n))) 0) (le-ltb n (length cells) le)
 
-  pub above_root : above grid cells 0 ≡ 0
+  pub above_root : above cells 0 ≡ 0
   above_root =
       elim (cases_lt 0 (length cells)) [
         | inl lt ↦ above-inside 0 lt ∙ ap (λ c. number cells (parent c)) (first_is_root lt) ∙ ap (number cells) (sym (first_is_root lt)) ∙ number_of_cell 0 lt
         | inr le ↦ above-outside 0 le
       ]
 
-  pub above_first : (n : ℕ) → 0 < n → above grid cells n < n
+  pub above_first : (n : ℕ) → 0 < n → above cells n < n
   above_first n lo =
       elim (cases_lt n (length cells)) [
         | inl lt ↦ omega (arith, above-inside n lt, parent_first n lt (level_positive n lo lt))
@@ -116,10 +116,10 @@ module _ (grid : ℕ) (points : List Point) (cap : ℕ) (cells : List Square) (p
       ]
 
   -- the cell of the parent's number is the parent
-  pub cell_above : (n : ℕ) → 0 < n → n < length cells → cell_at grid cells (above grid cells n) ≡ parent (cell_at grid cells n)
+  pub cell_above : (n : ℕ) → 0 < n → n < length cells → cell_at cells (above cells n) ≡ parent (cell_at cells n)
   cell_above n lo lt =
-      ap (cell_at grid cells) (above-inside n lt) ∙ cell_of_number _ (IsTreeCell-parent grid points cap (cell_at grid cells n) positive inside (tree_cell n lt) (level_positive n lo lt))
+      ap (cell_at cells) (above-inside n lt) ∙ cell_of_number _ (IsTreeCell-parent grid points cap (cell_at cells n) positive inside (tree_cell n lt) (level_positive n lo lt))
 
   -- the number of a cell that has another as its parent
-  pub above_number : (c : Square) → IsTreeCell grid points cap c → above grid cells (number cells c) ≡ number cells (parent c)
+  pub above_number : (c : Square) → IsTreeCell grid points cap c → above cells (number cells c) ≡ number cells (parent c)
   above_number c h = above-inside _ (number_below c h) ∙ ap (λ d. number cells (parent d)) (cell_of_number c h)

@@ -1,5 +1,5 @@
 -- A tree of the program and its lists, in the words of the field.
-use Rattle.std.proofs.Common.{ℕ, ◌≡◌, ◌+◌, ◌<◌, List, [], ◌∷◌, ◌++◌, length, map, get_or, Bool, true, false, cond, ◌&&◌, filter, Some, refl, sym, ap, ap₂, ◌∙◌, subst, arith, lit<, append_assoc, length-append}
+use Rattle.std.proofs.Common.{ℕ, ◌≡◌, ◌+◌, ◌<◌, List, [], ◌∷◌, ◌++◌, length, map, get_or, Bool, true, false, cond, ◌&&◌, filter, Some, refl, sym, ap, ap₂, ◌∙◌, subst, arith, append_assoc, length-append}
 use Rattle.std.specs.Prelude.{nat_lt, All, Contains}
 use Rattle.std.specs.List.{range_with_len}
 use Rattle.std.proofs.lemmas.Bool.{false≢true, and_from, lt-ltb}
@@ -16,6 +16,7 @@ use Rattle.cell_lists.specs.EntryLists.{lists_of}
 use Rattle.cell_lists.specs.ListAt.{list_at}
 use Rattle.cell_lists.proofs.CellNumbers.{number_listed, number_before}
 use Rattle.cell_lists.proofs.OneEntry.{in_tree_of}
+use Rattle.limits.proofs.Grids.{grid_positive}
 use Rattle.points.specs.Points.{is_source}
 use Rattle.points.specs.declared.Point.{Point}
 use Rattle.quadtree.specs.Members.{holds_point, holds_position, members_of}
@@ -39,8 +40,8 @@ use Rattle.tree_field.proofs.Occupants.{HasTarget-from_test, test-from_HasTarget
 pub lists_of_tree : ListsOfTree
 lists_of_tree tree lists points cap these inside h are a = record {
   cells = same_list these.cells (squares tree) a.cells_are.ascending h.cells_are.ascending
-      (λ c m. h.cells_are.whole c (All-contains (IsTreeCell 16 points cap) these.cells c a.cells_are.in_tree m))
-      (λ c m. a.cells_are.whole c (All-contains (IsTreeCell 16 points cap) (squares tree) c h.cells_are.in_tree m));
+      (λ c m. h.cells_are.whole c (All-contains (IsTreeCell tree.grid points cap) these.cells c a.cells_are.in_tree m))
+      (λ c m. a.cells_are.whole c (All-contains (IsTreeCell tree.grid points cap) (squares tree) c h.cells_are.in_tree m));
   entries = λ letter n lt.
       let b : Square = square_of tree n in
       let rows : List ℕ = list_at (lists_of lists letter) n in
@@ -50,12 +51,12 @@ lists_of_tree tree lists points cap these inside h are a = record {
       (AllPairs-map IsBefore (square_of tree) rows (AllPairs-both (λ c. c < size tree) (λ x y. x < y) (λ c d. IsBefore (square_of tree c) (square_of tree d)) rows is.numbers (AllPairs-from_increasing rows is.ascending)
       (λ c d lc ld before. number_before tree h.cells_are.ascending c d before ld)))
       (λ c m.
-      let e = All-contains (IsEntry 16 points cap letter b) (these.entries letter b) c es.entries m in
-      let k = number_listed tree c (h.cells_are.whole c (in_tree_of 16 points cap letter b c e.pair).1) in
-      subst (Contains (map (square_of tree) rows)) k.2 (Contains-into_map (square_of tree) rows k.0 ((is.exact k.0 k.1).1 (subst (IsEntry 16 points cap letter b) (sym k.2) e))))
+      let e = All-contains (IsEntry tree.grid points cap letter b) (these.entries letter b) c es.entries m in
+      let k = number_listed tree c (h.cells_are.whole c (in_tree_of tree.grid points cap letter b c e.pair).1) in
+      subst (Contains (map (square_of tree) rows)) k.2 (Contains-into_map (square_of tree) rows k.0 ((is.exact k.0 k.1).1 (subst (IsEntry tree.grid points cap letter b) (sym k.2) e))))
       (λ c m.
       let i = image_of (square_of tree) rows c m in
-      es.whole c (subst (IsEntry 16 points cap letter b) i.gives ((is.exact i.source (All-contains (λ c. c < size tree) rows i.source is.numbers i.listed)).0 i.listed)));
+      es.whole c (subst (IsEntry tree.grid points cap letter b) i.gives ((is.exact i.source (All-contains (λ c. c < size tree) rows i.source is.numbers i.listed)).0 i.listed)));
 }
 
 -- ---- the points of a cell
@@ -95,10 +96,7 @@ members_are points c d =
     ∙ filter_agree (λ p. holds_test c p.x p.y && is_source p.kind) (is_source_in c) (λ p. and_turned (holds_test c p.x p.y) (is_source p.kind)) points
 
 -- ---- nodes
-module _ (tree : TreeModel) (points : List Point) (cap : ℕ) (inside : AreInGrid 16 points) (h : IsTreeOf 16 tree points cap) where
-  positive : 0 < 16
-  positive = lit< tt
-
+module _ (tree : TreeModel) (points : List Point) (cap : ℕ) (inside : AreInGrid tree.grid points) (h : IsTreeOf tree points cap) where
   as_many : length (squares tree) ≡ size tree
   as_many = length-map tree.cells square
 
@@ -110,10 +108,10 @@ module _ (tree : TreeModel) (points : List Point) (cap : ℕ) (inside : AreInGri
 
   -- a node that is no leaf is split
   split_is : (n : ℕ) → n < size tree → (node_of tree n).is_leaf ≡ false → IsSplit points cap (square_of tree n)
-  split_is n lt e = ⊎_elim (λ leaf. absurd (false≢true (sym e ∙ (h.nodes_are n lt).leaf.1 leaf))) (λ split. split.0) (leaf_or_split 16 points cap (square_of tree n) (tree_cell_at tree points cap n h lt))
+  split_is n lt e = ⊎_elim (λ leaf. absurd (false≢true (sym e ∙ (h.nodes_are n lt).leaf.1 leaf))) (λ split. split.0) (leaf_or_split tree.grid points cap (square_of tree n) (tree_cell_at tree points cap n h lt))
 
-  room_is : (n : ℕ) → n < size tree → (node_of tree n).is_leaf ≡ false → (square_of tree n).level < 16
-  room_is n lt e = ⊎_elim (λ leaf. absurd (false≢true (sym e ∙ (h.nodes_are n lt).leaf.1 leaf))) (λ split. split.1) (leaf_or_split 16 points cap (square_of tree n) (tree_cell_at tree points cap n h lt))
+  room_is : (n : ℕ) → n < size tree → (node_of tree n).is_leaf ≡ false → (square_of tree n).level < tree.grid
+  room_is n lt e = ⊎_elim (λ leaf. absurd (false≢true (sym e ∙ (h.nodes_are n lt).leaf.1 leaf))) (λ split. split.1) (leaf_or_split tree.grid points cap (square_of tree n) (tree_cell_at tree points cap n h lt))
 
   -- a quarter with a source has a point
   with_point : (q : Square) → (nat_lt 0 (count_in points q) && has_source points q) ≡ has_source points q
@@ -151,4 +149,4 @@ pub leaves_of_tree : LeavesOfTree
 leaves_of_tree tree points cap inside h k p e =
     let leaf = h.leaves_are k p e in
     let at = point_at points k p e in
-    sym (only_leaf 16 points cap (squares tree) (lit< tt) inside h.cells_are p (k, at.inside, at.here) (square_of tree (leaf_of tree k)) leaf.leaf leaf.held)
+    sym (only_leaf tree.grid points cap (squares tree) (grid_positive tree.grid h.known_grid) inside h.cells_are p (k, at.inside, at.here) (square_of tree (leaf_of tree k)) leaf.leaf leaf.held)

@@ -23,5 +23,5 @@ source_child tree n c listed =
     record { in_range = range_below (size tree) c child.0; positive = ltb-true 0 c parts.0; number_is = eqb-true (node_of tree c).parent n parts.1; source = kept.1 }
 
 -- they are those with a source among the children that the tree keeps
-pub source_children_are : (tree : TreeModel) (points : List Point) (cap : ℕ) → IsTreeOf 16 tree points cap → (n : ℕ) → n < size tree → with_source tree (node_of tree n).children ≡ source_children tree n
+pub source_children_are : (tree : TreeModel) (points : List Point) (cap : ℕ) → IsTreeOf tree points cap → (n : ℕ) → n < size tree → with_source tree (node_of tree n).children ≡ source_children tree n
 source_children_are tree points cap h n lt = ap (with_source tree) (h.nodes_are n lt).children_are

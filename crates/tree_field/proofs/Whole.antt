@@ -25,7 +25,7 @@ use Rattle.soundness.proofs.Nodes.{under-self}
 use Rattle.soundness.proofs.Targets.{boxes_contain}
 use Rattle.tree_field.specs.Contains.{FieldContains}
 use Rattle.tree_field.specs.Lists.{TreeLists, AreTreeLists}
-use Rattle.tree_field.specs.Field.{targets, box_in, target_box}
+use Rattle.tree_field.specs.Field.{targets, leaf_at, box_in, target_box}
 use Rattle.tree_field.specs.Work.{is_target_in, has_target}
 use Rattle.tree_field.proofs.Accounts.{leaf_number, leaf_source, leaf_target, sources, accounting}
 use Rattle.tree_field.proofs.Entries.{entries_in_range, entries_apart, accounted_once}
@@ -41,7 +41,7 @@ module _ (grid : ℕ) (points : List Point) (cap P : ℕ) (lists : TreeLists) (p
   given = accounting grid points cap P lists
 
   abbrev cell : ℕ → Square
-  cell n = cell_at grid lists.cells n
+  cell n = cell_at lists.cells n
 
   listed_source : (p : Point) → Contains (sources points) p → Contains points p
   listed_source p h = (Contains-filter _ points p h).0
@@ -80,7 +80,7 @@ module _ (grid : ℕ) (points : List Point) (cap P : ℕ) (lists : TreeLists) (p
   All-sources Q h = All-map Q (leaf_source grid points cap lists) (sources points) (All-from_members (λ p. Q (leaf_source grid points cap lists p)) (sources points) h)
 
   -- the cell of a node above a target has it
-  target_here : (t : Point) → Contains (targets points) t → (n : ℕ) → n < length lists.cells → under (above grid lists.cells) (leaf_number grid points cap lists t) n ≡ true → has_target points (cell n) ≡ true
+  target_here : (t : Point) → Contains (targets points) t → (n : ℕ) → n < length lists.cells → under (above lists.cells) (leaf_number grid points cap lists t) n ≡ true → has_target points (cell n) ≡ true
   target_here t h n lt u =
       let l = Contains-filter _ points t h in
       list_any-member (is_target_in (cell n)) points t l.0 (and_from (not (is_source t.kind)) (holds_test (cell n) t.x t.y) l.1
@@ -90,7 +90,7 @@ module _ (grid : ℕ) (points : List Point) (cap P : ℕ) (lists : TreeLists) (p
   target_under n lt e =
       let f = found (λ (x : LeafTarget). under given.parent x.leaf n) given.targets e in
       let i = image_of (leaf_target grid points cap P lists) (targets points) f.member f.listed in
-      target_here i.source i.listed n lt (ap (λ (x : LeafTarget). under (above grid lists.cells) x.leaf n) i.gives ∙ f.passes)
+      target_here i.source i.listed n lt (ap (λ (x : LeafTarget). under (above lists.cells) x.leaf n) i.gives ∙ f.passes)
 
   at_most : (m n : ℕ) → m ≡ n → m ≤ n
   at_most m n e = omega arith
@@ -124,8 +124,8 @@ module _ (grid : ℕ) (points : List Point) (cap P : ℕ) (lists : TreeLists) (p
     boxes = All-targets (BoxHolds P given)
         (λ t h. BoxEndsInside-same (boxes_same grid points cap P lists positive inside are (leaf_target grid points cap P lists t) (in_range t (listed_target t h))
         (target_here t h (leaf_number grid points cap lists t) (in_range t (listed_target t h))
-        (under-self (above grid lists.cells) (above_root grid points cap lists.cells positive inside are.cells_are) (above_first grid points cap lists.cells positive inside are.cells_are) (leaf_number grid points cap lists t)))
-        ∙ ap (λ c. box_in points cap P lists c (place t)) (cell_of_leaf grid points cap lists.cells positive inside are.cells_are t (listed_target t h))));
+        (under-self (above lists.cells) (above_root grid points cap lists.cells positive inside are.cells_are) (above_first grid points cap lists.cells positive inside are.cells_are) (leaf_number grid points cap lists t)))
+        ∙ ap (λ c. box_in points cap P lists c (place t)) (cell_of_leaf grid points cap lists.cells positive inside are.cells_are t (listed_target t h) ∙ ap (λ g. leaf_at points cap g (place t)) (sym are.of_grid))));
   }
 
 -- ---- the sources alone have the direct sum of the list
@@ -151,7 +151,7 @@ field_contains grid points cap P lists positive orders inside are = λ k d lt.
     let same : get_or (map f (targets points)) k (f d) ≡ f t = get_or-map f (targets points) k d (f d) lt in
     let sums : direct_sum (place t) (points_of (map (leaf_source grid points cap lists) (sources points))) ≡ direct_sum (place t) points =
     ap (direct_sum (place t)) (points_back grid points cap lists (sources points)) ∙ sum_of_sources (place t) points in
-    subst (BoxEndsContain (pos (2 ^ 40)) (target_box points cap P lists grid (place t))) sums
+    subst (BoxEndsContain (pos (2 ^ 40)) (target_box points cap P lists (place t))) sums
     (subst (λ (x : LeafTarget). BoxEndsContain (pos (2 ^ 40)) x.box (direct_sum x.place (points_of (accounting grid points cap P lists).sources))) same here)
   where
     images : (f : Point → LeafTarget) (xs : List Point) → length (map f xs) ≡ length xs

@@ -42,7 +42,7 @@ abbrev v_points : List Point
 v_points = nine (charge (pos 0)) (nine (target (pos 2)) [])
 
 abbrev v_lists : TreeLists
-v_lists = record { cells = down_to_origin (cell 4 9 8 ∷ cell 5 16 16 ∷ cell 5 18 16 ∷ []); entries = given }
+v_lists = record { grid = 5; cells = down_to_origin (cell 4 9 8 ∷ cell 5 16 16 ∷ cell 5 18 16 ∷ []); entries = given }
   where
     given : Letter → Square → List Square
     given U b = []
@@ -53,7 +53,7 @@ v_lists = record { cells = down_to_origin (cell 4 9 8 ∷ cell 5 16 16 ∷ cell 
 v_cells : sorted_cells (cells_to_level 5 v_points 8 5) ≡ v_lists.cells
 v_cells = refl
 
-v_box : target_box v_points 8 4 v_lists 5 (gaussian (pos 2) (pos 0)) ≡ box (pos 3312552165840) (pos 6892290129456) (neg_ℤ (pos 1596595453488)) (pos 1983142510128)
+v_box : target_box v_points 8 4 v_lists (gaussian (pos 2) (pos 0)) ≡ box (pos 3312552165840) (pos 6892290129456) (neg_ℤ (pos 1596595453488)) (pos 1983142510128)
 unfolding leaf_below local_at_level radius_at_level multipole_above local_value local_round shifted_down down_round converted kernel_entry kernel_power source_moment pole_moment dipole_moment pair_tail
 v_box = refl
 
@@ -65,7 +65,7 @@ abbrev u_points : List Point
 u_points = nine (charge (pos 0)) (nine (target (pos 1)) [])
 
 abbrev u_lists : TreeLists
-u_lists = record { cells = down_to_origin (cell 5 16 16 ∷ cell 5 17 16 ∷ []); entries = given }
+u_lists = record { grid = 5; cells = down_to_origin (cell 5 16 16 ∷ cell 5 17 16 ∷ []); entries = given }
   where
     given : Letter → Square → List Square
     given U b = cond (is_cell b 5 17 16) (cell 5 16 16 ∷ []) []
@@ -76,7 +76,7 @@ u_lists = record { cells = down_to_origin (cell 5 16 16 ∷ cell 5 17 16 ∷ [])
 u_cells : sorted_cells (cells_to_level 5 u_points 8 5) ≡ u_lists.cells
 u_cells = refl
 
-u_box : target_box u_points 8 4 u_lists 5 (gaussian (pos 1) (pos 0)) ≡ box (pos 9895604649984) (pos 9895604649984) (pos 0) (pos 0)
+u_box : target_box u_points 8 4 u_lists (gaussian (pos 1) (pos 0)) ≡ box (pos 9895604649984) (pos 9895604649984) (pos 0) (pos 0)
 unfolding leaf_below local_at_level radius_at_level local_value local_round shifted_down down_round
 u_box = refl
 
@@ -88,7 +88,7 @@ abbrev w_points : List Point
 w_points = nine (charge (pos 0)) (target (pos 8) ∷ [])
 
 abbrev w_lists : TreeLists
-w_lists = record { cells = cell 0 0 0 ∷ cell 1 1 1 ∷ cell 2 2 2 ∷ cell 2 3 2 ∷ cell 3 4 4 ∷ cell 4 8 8 ∷ cell 5 16 16 ∷ []; entries = given }
+w_lists = record { grid = 5; cells = cell 0 0 0 ∷ cell 1 1 1 ∷ cell 2 2 2 ∷ cell 2 3 2 ∷ cell 3 4 4 ∷ cell 4 8 8 ∷ cell 5 16 16 ∷ []; entries = given }
   where
     given : Letter → Square → List Square
     given U b = []
@@ -99,7 +99,7 @@ w_lists = record { cells = cell 0 0 0 ∷ cell 1 1 1 ∷ cell 2 2 2 ∷ cell 2 3
 w_cells : sorted_cells (cells_to_level 5 w_points 8 5) ≡ w_lists.cells
 w_cells = refl
 
-w_box : target_box w_points 8 4 w_lists 5 (gaussian (pos 8) (pos 0)) ≡ box (pos 1127786607614) (pos 1373822247902) (neg_ℤ (pos 75518917824)) (pos 170516722464)
+w_box : target_box w_points 8 4 w_lists (gaussian (pos 8) (pos 0)) ≡ box (pos 1127786607614) (pos 1373822247902) (neg_ℤ (pos 75518917824)) (pos 170516722464)
 unfolding leaf_below local_at_level radius_at_level multipole_above local_value local_round shifted_down down_round multipole_value multipole_round shifted_up up_round source_moment pole_moment dipole_moment single_tail
 w_box = refl
 
@@ -111,7 +111,7 @@ abbrev x_points : List Point
 x_points = charge (pos 8) ∷ nine (target (pos 0)) []
 
 abbrev x_lists : TreeLists
-x_lists = record { cells = w_lists.cells; entries = given }
+x_lists = record { grid = 5; cells = w_lists.cells; entries = given }
   where
     given : Letter → Square → List Square
     given U b = []
@@ -122,7 +122,7 @@ x_lists = record { cells = w_lists.cells; entries = given }
 x_cells : sorted_cells (cells_to_level 5 x_points 8 5) ≡ x_lists.cells
 x_cells = refl
 
-x_box : target_box x_points 8 4 x_lists 5 (gaussian (pos 0) (pos 0)) ≡ box (neg_ℤ (pos 152646916439)) (neg_ℤ (pos 125309623062)) (neg_ℤ (pos 18946302502)) (pos 8390990876)
+x_box : target_box x_points 8 4 x_lists (gaussian (pos 0) (pos 0)) ≡ box (neg_ℤ (pos 152646916439)) (neg_ℤ (pos 125309623062)) (neg_ℤ (pos 18946302502)) (pos 8390990876)
 unfolding leaf_below local_at_level radius_at_level local_value local_round shifted_down down_round far_source far_pole far_dipole single_tail
 x_box = refl
 

@@ -3,7 +3,7 @@
 use Rattle.std.specs.Prelude.{ℕ, suc, Bool, cond, ◌&&◌, ◌==◌, nat_lt, List, [], ◌∷◌, ◌++◌, length, map, filter, slice_index_or}
 use Rattle.std.specs.List.{flat_map}
 use Rattle.exact_math.specs.Ends.{BoxEnds, zero_box}
-use Rattle.cell_name.specs.Square.{Square, root, parent}
+use Rattle.cell_name.specs.Square.{Square, no_square, parent}
 use Rattle.letters.specs.declared.Entry.{Entry}
 use Rattle.letters.specs.declared.Letter.{Letter}
 use Rattle.letters.specs.declared.Letter.TheVariants.{U, V, W, X}
@@ -24,12 +24,12 @@ number [] c = 0
 number (d ∷ ds) c = cond (same_cell d c) 0 (suc (number ds c))
 
 -- the cell of a number
-abbrev pub cell_at : ℕ → List Square → ℕ → Square
-cell_at grid cells n = slice_index_or cells n (root grid)
+abbrev pub cell_at : List Square → ℕ → Square
+cell_at cells n = slice_index_or cells n no_square
 
 -- the number of the parent
-abbrev pub above : ℕ → List Square → ℕ → ℕ
-above grid cells n = cond (nat_lt n (length cells)) (number cells (parent (cell_at grid cells n))) 0
+abbrev pub above : List Square → ℕ → ℕ
+above cells n = cond (nat_lt n (length cells)) (number cells (parent (cell_at cells n))) 0
 
 -- the points that are sources
 abbrev pub sources : List Point → List Point
@@ -59,7 +59,7 @@ module _ (grid : ℕ) (points : List Point) (cap : ℕ) where
   -- ---- the accounting
   module _ (P : ℕ) (lists : TreeLists) where
     abbrev pub leaf_target : Point → LeafTarget
-    leaf_target t = record { place = place t; leaf = leaf_number lists t; box = target_box points cap P lists grid (place t) }
+    leaf_target t = record { place = place t; leaf = leaf_number lists t; box = target_box points cap P lists (place t) }
 
     -- the local row and the radius of a cell with a target; a cell without one has the zero row and the radius 0
     abbrev pub row_for_targets : Square → ℕ → BoxEnds
@@ -72,12 +72,12 @@ module _ (grid : ℕ) (points : List Point) (cap : ℕ) where
     abbrev pub accounting : Accounting
     accounting = record {
       nodes = length lists.cells;
-      parent = above grid lists.cells;
-      cell = cell_at grid lists.cells;
+      parent = above lists.cells;
+      cell = cell_at lists.cells;
       sources = map (leaf_source lists) (sources points);
       targets = map leaf_target (targets points);
       entries = flat_map (of_cell lists) lists.cells;
-      multipole = λ n. multipole_row points cap (cell_at grid lists.cells n);
-      local = λ n. row_for_targets (cell_at grid lists.cells n);
-      radius = λ n. radius_for_targets (cell_at grid lists.cells n);
+      multipole = λ n. multipole_row points cap (cell_at lists.cells n);
+      local = λ n. row_for_targets (cell_at lists.cells n);
+      radius = λ n. radius_for_targets (cell_at lists.cells n);
     }

@@ -14,7 +14,7 @@ use Rattle.tree_field.specs.Lists.{TreeLists, AreTreeLists}
 -- for each list within a grid, each capacity of the leaves and each order from 2 on, at each target
 abbrev pub FieldContains : Type 0
 FieldContains = (grid : ℕ) (points : List Point) (cap P : ℕ) (lists : TreeLists) → 0 < grid → 2 ≤ P → AreInGrid grid points → AreTreeLists grid points cap lists
-    → All (λ t. BoxEndsContain unit (target_box points cap P lists grid (place t)) (direct_sum (place t) points)) (targets points)
+    → All (λ t. BoxEndsContain unit (target_box points cap P lists (place t)) (direct_sum (place t) points)) (targets points)
 
 -- the field's accounting meets the rules, at each order
 abbrev pub FieldMeetsRules : Type 0

@@ -112,9 +112,9 @@ module _ (points : List Point) where
       abbrev pub box_in : Square → Gaussian → BoxEnds
       box_in b z = box_of (local_value_at b z) (multipole_values_at b z) (pairs_at b z) (radius_in b)
 
-      abbrev pub target_box : ℕ → Gaussian → BoxEnds
-      target_box grid z = box_in (leaf_at grid z) z
+      abbrev pub target_box : Gaussian → BoxEnds
+      target_box z = box_in (leaf_at lists.grid z) z
 
       -- the boxes of the targets, in the order of the list
-      abbrev pub target_boxes : ℕ → List BoxEnds
-      target_boxes grid = map (λ p. target_box grid (place p)) targets
+      abbrev pub target_boxes : List BoxEnds
+      target_boxes = map (λ p. target_box (place p)) targets

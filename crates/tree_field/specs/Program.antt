@@ -20,7 +20,7 @@ pub record AreListsOf (tree : TreeModel) (lists : EntryListsModel) (these : Tree
   pub entries : (letter : Letter) (n : ℕ) → n < size tree → these.entries letter (square_of tree n) ≡ map (square_of tree) (list_at (lists_of lists letter) n)
 
 abbrev pub ListsOfTree : Type 0
-ListsOfTree = (tree : TreeModel) (lists : EntryListsModel) (points : List Point) (cap : ℕ) (these : TreeLists) → AreInGrid 16 points → IsTreeOf 16 tree points cap → AreLists tree lists → AreTreeLists 16 points cap these
+ListsOfTree = (tree : TreeModel) (lists : EntryListsModel) (points : List Point) (cap : ℕ) (these : TreeLists) → AreInGrid tree.grid points → IsTreeOf tree points cap → AreLists tree lists → AreTreeLists tree.grid points cap these
     → AreListsOf tree lists these
 
 -- of some cells those that have a source
@@ -39,12 +39,12 @@ pub record IsNodeOfField (tree : TreeModel) (points : List Point) (n : ℕ) : Ty
   pub children : (node_of tree n).is_leaf ≡ false → map (square_of tree) (source_children tree n) ≡ filter (has_source points) (quarters (square_of tree n))
 
 abbrev pub NodesOfTree : Type 0
-NodesOfTree = (tree : TreeModel) (points : List Point) (cap : ℕ) → AreInGrid 16 points → IsTreeOf 16 tree points cap → (n : ℕ) → n < size tree → IsNodeOfField tree points n
+NodesOfTree = (tree : TreeModel) (points : List Point) (cap : ℕ) → AreInGrid tree.grid points → IsTreeOf tree points cap → (n : ℕ) → n < size tree → IsNodeOfField tree points n
 
 -- the leaf of each point
 abbrev pub LeavesOfTree : Type 0
-LeavesOfTree = (tree : TreeModel) (points : List Point) (cap : ℕ) → AreInGrid 16 points → IsTreeOf 16 tree points cap → (k : ℕ) (p : Point) → slice_get points k ≡ Some p
-    → leaf_at points cap 16 (place p) ≡ square_of tree (leaf_of tree k)
+LeavesOfTree = (tree : TreeModel) (points : List Point) (cap : ℕ) → AreInGrid tree.grid points → IsTreeOf tree points cap → (k : ℕ) (p : Point) → slice_get points k ≡ Some p
+    → leaf_at points cap tree.grid (place p) ≡ square_of tree (leaf_of tree k)
 
 -- the counts, by the numbers of the cells
 pub record IsWorkOf (tree : TreeModel) (lists : EntryListsModel) (points : List Point) (these : TreeLists) : Type 0 where
@@ -53,5 +53,5 @@ pub record IsWorkOf (tree : TreeModel) (lists : EntryListsModel) (points : List 
   pub pairs_are : pairs points these ≡ sum_by (λ n. sum_by (λ m. pairs_between points (square_of tree n) (square_of tree m)) (list_at lists.u n)) (range_with_len 0 (size tree))
 
 abbrev pub WorkOfTree : Type 0
-WorkOfTree = (tree : TreeModel) (lists : EntryListsModel) (points : List Point) (cap : ℕ) (these : TreeLists) → AreInGrid 16 points → IsTreeOf 16 tree points cap → AreLists tree lists → AreTreeLists 16 points cap these
+WorkOfTree = (tree : TreeModel) (lists : EntryListsModel) (points : List Point) (cap : ℕ) (these : TreeLists) → AreInGrid tree.grid points → IsTreeOf tree points cap → AreLists tree lists → AreTreeLists tree.grid points cap these
     → IsWorkOf tree lists points these
