@@ -1,5 +1,5 @@
 -- What the weight of points that are not too heavy for their grid bounds, in the limits of the grid.
-use Rattle.std.proofs.Common.{ℕ, ◌≡◌, ◌*◌, ◌^◌, ◌≤◌, inl, inr, sym, subst, arith}
+use Rattle.std.proofs.Common.{ℕ, ◌*◌, ◌^◌, ◌≤◌, inl, inr, sym, subst, arith}
 use Rattle.limits.specs.Limits.{IsGrid, first_grid, widest_grid, most_weight, most_multipole, most_local, most_box}
 use Rattle.limits.proofs.Grids.{grid_cases}
 
