@@ -12,7 +12,7 @@ use Rattle.std.proofs.lemmas.List.Sorted.{searchable_from_sorted}
 use Rattle.cell_name.specs.declared.cell.Cell.{Cell}
 use Rattle.cell_name.specs.Cell.{square}
 use Rattle.cell_name.specs.Order.{IsBefore}
-use Rattle.cell_name.specs.Square.{Square, root}
+use Rattle.cell_name.specs.Square.{Square, no_square}
 use Rattle.cell_name.proofs.Order.{square_cmp, square_cmp_total, not_less-from_IsBefore, same-from_Equal, Equal-from_same}
 
 -- the comparison of two cells of the program
@@ -26,9 +26,9 @@ square_at_number cells n d e lt = get_or-map square cells n d e lt
 -- ascending cells are sorted
 sorted : (cells : List Cell) → AllPairs IsBefore (map square cells) → IsSortedBy (λ a b. is_lt (cell_cmp a b)) cells
 sorted cells up k d low high =
-    let at : IsBefore (get_or (map square cells) k (root 16)) (get_or (map square cells) (k + 1) (root 16)) = up k (k + 1) (root 16) (omega arith) (omega (arith, length-map cells square)) in
-    let here : get_or (map square cells) k (root 16) ≡ square (get_or cells k d) = square_at_number cells k d (root 16) (omega arith) in
-    let next : get_or (map square cells) (k + 1) (root 16) ≡ square (get_or cells (k + 1) d) = square_at_number cells (k + 1) d (root 16) high in
+    let at : IsBefore (get_or (map square cells) k no_square) (get_or (map square cells) (k + 1) no_square) = up k (k + 1) no_square (omega arith) (omega (arith, length-map cells square)) in
+    let here : get_or (map square cells) k no_square ≡ square (get_or cells k d) = square_at_number cells k d no_square (omega arith) in
+    let next : get_or (map square cells) (k + 1) no_square ≡ square (get_or cells (k + 1) d) = square_at_number cells (k + 1) d no_square high in
     not_less-from_IsBefore (square (get_or cells k d)) (square (get_or cells (k + 1) d)) refl (rw (here, next) at at)
 
 -- where the search found no place
@@ -44,12 +44,12 @@ not_found cells x i below above h =
     ]
 
 -- the number that a search of ascending cells finds, or that the cell isn't among them
-pub found : (cells : List Cell) (x : Cell) → AllPairs IsBefore (map square cells) → (r : Result ℕ ℕ) (o : Option ℕ) → o ≡ result_ok r → IsSearchInRange r (length cells) → IsBinarySearchResult (λ y. cell_cmp y x) cells r → MatchOption o (Contains (map square cells) (square x) → ⊥) (λ n. (n < length cells) × (get_or (map square cells) n (root 16) ≡ square x))
+pub found : (cells : List Cell) (x : Cell) → AllPairs IsBefore (map square cells) → (r : Result ℕ ℕ) (o : Option ℕ) → o ≡ result_ok r → IsSearchInRange r (length cells) → IsBinarySearchResult (λ y. cell_cmp y x) cells r → MatchOption o (Contains (map square cells) (square x) → ⊥) (λ n. (n < length cells) × (get_or (map square cells) n no_square ≡ square x))
 found cells x up (Ok n) o e bound h =
-    let P : Option ℕ → Type 0 = λ v. MatchOption v (Contains (map square cells) (square x) → ⊥) (λ n. (n < length cells) × (get_or (map square cells) n (root 16) ≡ square x)) in
-    subst P (sym e) (bound, square_at_number cells n x (root 16) bound ∙ same-from_Equal (square (get_or cells n x)) (square x) refl (h x))
+    let P : Option ℕ → Type 0 = λ v. MatchOption v (Contains (map square cells) (square x) → ⊥) (λ n. (n < length cells) × (get_or (map square cells) n no_square ≡ square x)) in
+    subst P (sym e) (bound, square_at_number cells n x no_square bound ∙ same-from_Equal (square (get_or cells n x)) (square x) (h x))
 found cells x up (Err i) o e bound h =
-    let P : Option ℕ → Type 0 = λ v. MatchOption v (Contains (map square cells) (square x) → ⊥) (λ n. (n < length cells) × (get_or (map square cells) n (root 16) ≡ square x)) in
+    let P : Option ℕ → Type 0 = λ v. MatchOption v (Contains (map square cells) (square x) → ⊥) (λ n. (n < length cells) × (get_or (map square cells) n no_square ≡ square x)) in
     let rising : IsNonDecreasingBy (λ y. ordering_index (cell_cmp y x)) cells = searchable_from_sorted (on_total square square_cmp_total) (λ y. y) cells x (sorted cells up) in
     let parts = h rising in
     subst P (sym e) (not_found cells x i parts.0 parts.1)
