@@ -1,12 +1,12 @@
 -- The parts that the code makes of the runs are those of the tree.
-use Rattle.std.proofs.Common.{ℕ, ◌≡◌, ◌≤◌, List, length, get_or, map, sym, ap, ◌∙◌, subst, arith}
+use Rattle.std.proofs.Common.{ℕ, ◌≡◌, ◌<◌, ◌≤◌, List, length, get_or, map, sym, ap, ◌∙◌, subst, arith}
 use Rattle.std.proofs.lemmas.List.{length-map}
 use Rattle.exact_math.specs.Orders.{IsCapacity}
+use Rattle.limits.specs.Limits.{IsGrid, most_points, most_cells}
 use Rattle.points.specs.declared.Point.{Point}
 use Rattle.cell_name.specs.declared.cell.Cell.{Cell}
 use Rattle.cell_name.specs.Cell.{square}
 use Rattle.cell_name.specs.Square.{Square, no_square}
-use Rattle.limits.specs.Limits.{IsGrid, most_points, most_cells}
 use Rattle.quadtree.specs.declared.children.Children.{Children}
 use Rattle.quadtree.specs.declared.split.Run.{Run}
 use Rattle.quadtree.specs.declared.tree.Node.{Node}

@@ -6,13 +6,13 @@ use Rattle.std.proofs.lemmas.List.{get_or-map, get_or_default, length-map}
 use Rattle.std.proofs.lemmas.List.Edits.{length-between}
 use Rattle.std.proofs.lemmas.List.Elements.{All-contains, All-from_get_or}
 use Rattle.exact_math.specs.Orders.{IsCapacity}
+use Rattle.limits.specs.Limits.{IsGrid, most_points, most_cells}
+use Rattle.limits.proofs.Grids.{grid_positive}
 use Rattle.points.specs.declared.Point.{Point}
 use Rattle.cell_name.specs.declared.cell.Cell.{Cell}
 use Rattle.cell_name.specs.Cell.{square}
 use Rattle.cell_name.specs.Square.{Square, no_square, square_at, IsInGrid, Holds}
 use Rattle.cell_name.proofs.Cells.{Holds-square_at, square_at-unique}
-use Rattle.limits.specs.Limits.{IsGrid, most_points, most_cells}
-use Rattle.limits.proofs.Grids.{grid_positive}
 use Rattle.quadtree.specs.declared.children.Children.{Children}
 use Rattle.quadtree.specs.declared.split.Run.{Run}
 use Rattle.quadtree.specs.declared.tree.Node.{Node}

@@ -1,10 +1,10 @@
 -- Why a list has no tree: too many points at one place, or too many cells.
 use Rattle.std.specs.Prelude.{ℕ, ◌≡◌, ◌≢◌, ◌<◌, List, length, All, AllPairs}
+use Rattle.limits.specs.Limits.{most_at_a_place, most_cells}
 use Rattle.points.specs.declared.Point.{Point}
 use Rattle.cell_name.specs.Cell.{square}
 use Rattle.cell_name.specs.Square.{Square}
 use Rattle.cell_name.specs.Order.{IsBefore}
-use Rattle.limits.specs.Limits.{most_at_a_place, most_cells}
 use Rattle.quadtree.specs.declared.fault.TreeFault.{TreeFault}
 use Rattle.quadtree.specs.declared.fault.TreeFault.TheVariants.{Crowded, Cells, Memory}
 use Rattle.quadtree.specs.Tree.{count_in, IsTreeCell}

@@ -1,13 +1,13 @@
 -- The steps by which a tree is built: what splitting the cells of one level makes. No public contract cites them.
 use Rattle.std.specs.Prelude.{ℕ, ◌≡◌, ◌≢◌, ◌-◌, ◌+◌, ◌<◌, ◌≤◌, zero, suc, cond, nat_lt, List, [], ◌∷◌, ◌++◌, length, map, filter, drop, slice_range, slice_index_or, All, AllPairs, Contains}
 use Rattle.std.specs.List.{flat_map}
+use Rattle.limits.specs.Limits.{most_at_a_place}
 use Rattle.points.specs.declared.Point.{Point}
 use Rattle.cell_name.specs.declared.cell.Cell.{Cell}
 use Rattle.cell_name.specs.Cell.{square}
 use Rattle.cell_name.specs.Order.{IsBefore}
 use Rattle.cell_name.specs.Quarters.{quarters}
 use Rattle.cell_name.specs.Square.{Square, root, no_square, parent}
-use Rattle.limits.specs.Limits.{most_at_a_place}
 use Rattle.quadtree.specs.declared.split.Run.{Run}
 use Rattle.quadtree.specs.Members.{members_of}
 use Rattle.quadtree.specs.Tree.{count_in, is_over, IsTreeCell}

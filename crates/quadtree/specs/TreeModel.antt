@@ -2,11 +2,11 @@
 use Rattle.std.specs.Prelude.{ℕ, ◌≡◌, ◌<◌, ◌≤◌, ◌↔◌, ◌==◌, ◌&&◌, nat_lt, Bool, false, IsTrue, List, [], length, map, filter, Some, slice_get, slice_index, slice_index_or}
 use Rattle.std.specs.List.{range_with_len}
 use Rattle.exact_math.specs.Orders.{IsCapacity}
+use Rattle.limits.specs.Limits.{IsGrid, most_points, most_cells}
 use Rattle.points.specs.declared.Point.{Point}
 use Rattle.cell_name.specs.declared.cell.Cell.{Cell}
 use Rattle.cell_name.specs.Cell.{square}
 use Rattle.cell_name.specs.Square.{Square, no_square, parent, Holds}
-use Rattle.limits.specs.Limits.{IsGrid, most_points, most_cells}
 use Rattle.quadtree.specs.Members.{members_of}
 use Rattle.quadtree.specs.Tree.{AreInGrid, count_in, AreTreeCells, IsLeaf, HasSource, HasTarget}
 

@@ -15,8 +15,8 @@ returns-in-Some-clause-fault c =
     let P : List Run → Type 0 = λ l. IsFirstCrowdedRun l c.in-Some.run' in
     first_crowded_is c.args.grid c.args.points.now c.args.cap c.in_ok-splits.splits.positions.items c.in_ok-splits.splits.runs.items c.in-Some.run' (grid_positive c.args.grid c.requires.known_grid) (omega arith) c.in_ok-splits.ensures.cells c.in_ok-splits.ensures.runs (subst P c.deref.ensures.value c.in-Some.ensures.found)
 
-pub returns-then-len-gt-most_cells-clause-fault : goal.returns-then-len-gt-most_cells-clause-fault
-returns-then-len-gt-most_cells-clause-fault c =
+pub returns-then-len-most_cells-clause-fault : goal.returns-then-len-most_cells-clause-fault
+returns-then-len-most_cells-clause-fault c =
     record {
       none_crowded = none_crowded_is c.args.grid c.args.points.now c.args.cap c.in_ok-splits.splits.positions.items c.in_ok-splits.splits.runs.items (grid_positive c.args.grid c.requires.known_grid) (omega arith) c.in_ok-splits.ensures.cells c.in_ok-splits.ensures.runs (subst NoRunIsCrowded c.deref.ensures.value c.in_default.ensures.none);
       too_many = has_more_cells c.args.grid c.args.points.now c.args.cap c.in_ok-splits.splits.runs.items c.in_ok-splits.ensures.cells (omega arith);

@@ -2,8 +2,8 @@
 use Rattle.std.proofs.Common.{ℕ, List, length, map, sym, ap, ◌∙◌, subst}
 use Rattle.std.specs.Prelude.{All}
 use Rattle.std.proofs.lemmas.List.Elements.{All-weaker}
-use Rattle.cell_name.specs.Square.{Square}
 use Rattle.limits.proofs.Grids.{grid_positive}
+use Rattle.cell_name.specs.Square.{Square}
 use Rattle.quadtree.specs.declared.split.Run.{Run}
 use Rattle.quadtree.specs.declared.tree.Node.{Node}
 use Rattle.quadtree.specs.Fields.{IsRange}

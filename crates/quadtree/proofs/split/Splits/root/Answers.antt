@@ -12,7 +12,7 @@ begun c =
     elim c.if-count-gt0.branch [
       | then-count-gt0+in_ok-push w ↦
           let e : c.if-count-gt0.runs.items ≡ w.push.new.self.items = rw w.runs-is refl in
-          begun_pushed c.args.grid _ points xs c.new-runs.result.items c.if-count-gt0.runs.items (e ∙ w.in_ok-push.ensures.items) c.new-runs.ensures.items (grid_positive c.args.grid c.requires.known_grid) c.requires.in_grid c.in_ok-positions.ensures c.root.ensures refl refl refl (omega (arith, w.if-count-gt0.true))
+          begun_pushed c.args.grid _ points xs c.new-runs.result.items c.if-count-gt0.runs.items (e ∙ w.in_ok-push.ensures.items) c.new-runs.ensures.items (grid_positive c.args.grid c.requires.known_grid) c.requires.in_grid c.in_ok-positions.ensures w.root.ensures refl refl refl (omega (arith, w.if-count-gt0.true))
       | else-count-gt0 w ↦
           let e : c.if-count-gt0.runs.items ≡ c.new-runs.result.items = rw w.runs-is refl in
           begun_not c.args.grid points xs c.if-count-gt0.runs.items (e ∙ c.new-runs.ensures.items) (grid_positive c.args.grid c.requires.known_grid) c.requires.in_grid c.in_ok-positions.ensures (omega (arith, w.if-count-gt0.false))
