@@ -2,7 +2,7 @@
 ghost use Rattle.std.specs.Prelude.{◌≡◌, ◌+◌, ◌*◌, ◌^◌, ℤ, pos, ◌+ℤ◌, ◌-ℤ◌, ◌*ℤ◌, ◌≤ℤ◌};
 ghost use Rattle.exact_math.specs.Gaussian.{gaussian, norm_gaussian};
 ghost use Rattle.exact_math.specs.Within.{Within};
-ghost use Rattle.limits.specs.Limits.{widest_grid};
+ghost use Rattle.limits.specs.Limits.{most_strength, widest_grid};
 ghost use Rattle.points.specs.Limits.{InRange};
 ghost use Rattle.points.specs.Points.{strength};
 ghost use Rattle.exact_math.specs.Terms.{pole_term, dipole_term};
@@ -52,7 +52,7 @@ fn norm(dx: i64, dy: i64) -> i64
 
 /// `a conj(d)` over `norm(d)`, for the pole `a = (re, im)` and the distance `d = (dx, dy)`.
 fn pole_over(re: i64, im: i64, dx: i64, dy: i64) -> Term
-    requires pole { Within (2 ^ 20) re × Within (2 ^ 20) im }
+    requires pole { Within most_strength re × Within most_strength im }
     requires distance { Within (2 ^ widest_grid) dx × Within (2 ^ widest_grid) dy }
     ensures { ratio_of result ≡ pole_term (gaussian re im) (gaussian dx dy) }
 {
@@ -65,7 +65,7 @@ fn pole_over(re: i64, im: i64, dx: i64, dy: i64) -> Term
 
 /// `b conj(d)^2` over `norm(d)^2`, for the dipole `b = (re, im)` and the distance `d = (dx, dy)`.
 fn dipole_over(re: i64, im: i64, dx: i64, dy: i64) -> Term
-    requires dipole { Within (2 ^ 20) re × Within (2 ^ 20) im }
+    requires dipole { Within most_strength re × Within most_strength im }
     requires distance { Within (2 ^ widest_grid) dx × Within (2 ^ widest_grid) dy }
     ensures { ratio_of result ≡ dipole_term (gaussian re im) (gaussian dx dy) }
 {

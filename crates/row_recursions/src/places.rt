@@ -4,7 +4,7 @@ ghost use Rattle.exact_math.specs.Gaussian.{gaussian, norm_gaussian, conj, scale
 ghost use Rattle.exact_math.specs.Within.{Within, GaussianWithin, GaussianBeyond};
 ghost use Rattle.complex_box.specs.Box.{box_ends, number, BoxWithin};
 ghost use Rattle.limits.specs.Grid.{IsInGrid};
-ghost use Rattle.limits.specs.Limits.{widest_grid};
+ghost use Rattle.limits.specs.Limits.{most_strength, widest_grid};
 ghost use Rattle.row_recursions.specs.Cells.{side_of, offset_from};
 ghost use Rattle.row_recursions.specs.Rows.{units_box};
 
@@ -29,10 +29,10 @@ pub fn offset(cell: Cell, x: i64, y: i64) -> Gauss
     Gauss { re, im }
 }
 
-/// The box of a strength, in units. Condition: both parts are at most 2^20 in size.
+/// The box of a strength, in units. Condition: both parts are within their limit.
 pub fn units(re: i64, im: i64) -> CBox
-    requires re { Within (2 ^ 20) re }
-    requires im { Within (2 ^ 20) im }
+    requires re { Within most_strength re }
+    requires im { Within most_strength im }
     ensures ends { box_ends result ≡ units_box (gaussian re im) }
     ensures size { BoxWithin (2 ^ 60) result }
 {
