@@ -19,8 +19,8 @@ unfolding far_powers
 far_powers-next b m zeta l = refl
 
 -- the product of a power with the factor
-pub turn_fits : (b : BoxEnds) (g : Gaussian) → BoxEndsWithin (2 ^ 60) b → GaussianWithin (2 ^ 34) g → GscaleFits b g
-turn_fits b g w h = gscale_fits (2 ^ 60) (2 ^ 34) b g w h.re h.im (omega arith)
+pub turn_fits : (b : BoxEnds) (g : Gaussian) → BoxEndsWithin (2 ^ 60) b → GaussianWithin (2 ^ 42) g → GscaleFits b g
+turn_fits b g w h = gscale_fits (2 ^ 60) (2 ^ 42) b g w h.re h.im (omega arith)
 
 module _ (bits : ℕ) (zeta : Gaussian) where
   -- a power and the next one

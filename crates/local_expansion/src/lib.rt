@@ -67,12 +67,12 @@ pub fn convert<const P: usize>(
 }
 
 /// Adds the contribution of a point far from the cell to the cell's local row; a target adds nothing. Conditions: `P` is one of the orders
-/// and the row's length, the point is in range, twice its offset from the cell's centre has a part of at least 3 sides, and all ends of the
-/// row are at most 2^110 in size.
+/// and the row's length, the point is in range on the cell's grid, twice its offset from the cell's centre has a part of at least 3 sides,
+/// and all ends of the row are at most 2^110 in size.
 pub fn add_far_source<const P: usize>(into: &mut [CBox], cell: Cell, p: &Point)
     requires order { IsOrder P }
     requires len { length into.old ≡ P }
-    requires range { InRange p.now }
+    requires range { InRange cell.grid p.now }
     requires far { GaussianBeyond (3 * side_of cell) (offset_from cell (place p.now)) }
     requires size { RowWithin P (2 ^ 110) (row_of into.old) }
     ensures len { length into.new ≡ P }
