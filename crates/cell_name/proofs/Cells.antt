@@ -3,9 +3,11 @@ use Rattle.std.proofs.Common.{ℕ, ◌≡◌, ◌+◌, ◌-◌, ◌*◌, ◌/◌
 use Rattle.std.specs.Prelude.{ℤ, pos, negsuc, ◌+ℤ◌, ◌≤ℤ◌, ◌<ℤ◌, neg_ℤ, unsigned_abs}
 use Rattle.std.proofs.lemmas.Int.{ints, by_lt_z}
 use Rattle.std.proofs.lemmas.Nat.{pow_pos, pow-add, shr_below}
+use Rattle.std.proofs.Math.Pow.{pow_mono}
 use Rattle.std.proofs.lemmas.Bool.{cases_lt}
 use Rattle.std.proofs.Math.Nat.{div-div-eq-div-mul, div-eq_of_lt, pow-succ', mul-le-mul_right}
-use Rattle.limits.proofs.Grids.{grid_positive}
+use Rattle.limits.proofs.Grids.{grid_positive, within_widest}
+use Rattle.limits.specs.Limits.{IsGrid}
 use Rattle.cell_name.specs.declared.cell.Cell.{Cell}
 use Rattle.cell_name.specs.Cell.{square}
 use Rattle.cell_name.specs.Square.{Square, root, ClosedHolds, side_at, side, half, corner_x, corner_y, IsInGrid, IsName, IsInsideGrid, Holds, Touches, from_border, square_at, parent}
@@ -225,6 +227,16 @@ inside_from_name c positive n =
 -- a cell of the program lies inside its grid
 pub cell_inside : (c : Cell) → IsInsideGrid (square c)
 cell_inside c = inside_from_name (square c) (grid_positive c.grid c.known_grid) (record { level_in_grid = c.level_in_grid; column = c.column; row = c.row })
+
+-- half the side of a grid is small
+pub half_at_most : (grid : ℕ) → IsGrid grid → half grid ≤ 2 ^ 19
+half_at_most grid is =
+    let few = (within_widest grid is).bits in
+    let le : grid - 1 ≤ 19 = omega (arith, few) in
+    pow_mono le
+
+pub half_small : (c : Cell) → half c.grid ≤ 2 ^ 19
+half_small c = half_at_most c.grid c.known_grid
 
 -- the cell of a place has a name of the grid
 pub square_at-name : (grid level : ℕ) (x y : ℤ) → 0 < grid → level ≤ grid → IsInGrid grid x y → IsName (square_at grid level x y)
