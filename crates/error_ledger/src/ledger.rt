@@ -1,6 +1,7 @@
 //! The radius of a row or of a target.
 ghost use Rattle.std.specs.Int.{div_ceil};
 ghost use Rattle.std.specs.Prelude.{◌≡◌, ℕ, ◌+◌, ◌-◌, ◌*◌, ◌^◌, ◌≤◌, ◌<◌, pos, ◌≤ℤ◌, ◌<ℤ◌, unsigned_abs};
+ghost use Rattle.limits.specs.Limits.{widest_grid};
 ghost use Rattle.truncation.specs.Tails.{pair_tail as tail_of_pairs, single_tail as tail_of_singles, pair_radius, single_radius};
 ghost use Rattle.truncation.specs.Truncation.{MakesUp};
 
@@ -42,12 +43,12 @@ impl Ledger {
     }
 
     /// Adds `ceil(weight TV/side)`, what an entry of two cells of one side can lose: `weight` is the total weight of its
-    /// sources, and `TV` the tail of pairs at the order. Conditions: `weight >= 0`, `side` is 1 to 2^20, `order` is 1 to 32,
-    /// and the sum stays below 2^100.
+    /// sources, and `TV` the tail of pairs at the order. Conditions: `weight >= 0`, `side` is at least 1 and at
+    /// most that of the widest grid, `order` is 1 to 32, and the sum stays below 2^100.
     pub fn add_pair(&mut self, weight: i128, side: i64, order: u32)
         requires weight { pos 0 ≤ℤ weight }
         requires least_side { pos 1 ≤ℤ side }
-        requires most_side { side ≤ℤ pos (2 ^ 20) }
+        requires most_side { side ≤ℤ pos (2 ^ widest_grid) }
         requires least { 1 ≤ order }
         requires most { order ≤ 32 }
         requires room { self.old + pair_radius order (unsigned_abs weight) (unsigned_abs side) < 2 ^ 100 }
@@ -64,7 +65,7 @@ impl Ledger {
     pub fn add_single(&mut self, weight: i128, side: i64, order: u32)
         requires weight { pos 0 ≤ℤ weight }
         requires least_side { pos 1 ≤ℤ side }
-        requires most_side { side ≤ℤ pos (2 ^ 20) }
+        requires most_side { side ≤ℤ pos (2 ^ widest_grid) }
         requires least { 1 ≤ order }
         requires most { order ≤ 32 }
         requires room { self.old + single_radius order (unsigned_abs weight) (unsigned_abs side) < 2 ^ 100 }
@@ -78,7 +79,7 @@ impl Ledger {
     /// Adds `ceil(weight tail/side)`.
     fn add(&mut self, weight: u128, tail: u128, side: u64)
         requires least { 1 ≤ side }
-        requires most { side ≤ 2 ^ 20 }
+        requires most { side ≤ 2 ^ widest_grid }
         requires room { self.old + div_ceil (weight * tail) side < 2 ^ 100 }
         ensures { self.new ≡ self.old + div_ceil (weight * tail) side }
     {

@@ -5,6 +5,7 @@ use Rattle.exact_math.specs.Gaussian.{Gaussian, norm_gaussian, conj, scale_gauss
 use Rattle.complex_box.specs.Box.{GscaleFits}
 use Rattle.complex_box.proofs.Sizes.{box_wider, add_box_within, gscale_fits}
 use Rattle.exact_math.specs.Within.{GaussianWithin, GaussianBeyond}
+use Rattle.limits.specs.Limits.{widest_grid}
 use Rattle.row_recursions.specs.Rows.{ratio_box}
 use Rattle.row_recursions.specs.Sizes.{RowWithin}
 use Rattle.row_recursions.proofs.RowSizes.{ratio_within, power_positive}
@@ -19,8 +20,8 @@ unfolding far_powers
 far_powers-next b m zeta l = refl
 
 -- the product of a power with the factor
-pub turn_fits : (b : BoxEnds) (g : Gaussian) → BoxEndsWithin (2 ^ 60) b → GaussianWithin (2 ^ 34) g → GscaleFits b g
-turn_fits b g w h = gscale_fits (2 ^ 60) (2 ^ 34) b g w h.re h.im (omega arith)
+pub turn_fits : (b : BoxEnds) (g : Gaussian) → BoxEndsWithin (2 ^ 60) b → GaussianWithin (2 ^ (2 * widest_grid + 2)) g → GscaleFits b g
+turn_fits b g w h = gscale_fits (2 ^ 60) (2 ^ (2 * widest_grid + 2)) b g w h.re h.im (omega arith)
 
 module _ (bits : ℕ) (zeta : Gaussian) where
   -- a power and the next one

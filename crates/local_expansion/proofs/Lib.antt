@@ -2,7 +2,6 @@ pub mod ConvertCalls
 pub mod FarSources
 pub mod FarSteps
 pub mod NarrowEnds
-pub mod Places
 pub mod ProductSums
 pub mod RowCalls
 pub mod ValueSteps

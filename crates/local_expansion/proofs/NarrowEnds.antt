@@ -2,13 +2,9 @@
 use Rattle.std.proofs.Common.{◌≡◌, sym, subst, ◌^◌, arith, lit≤, ℤ, pos, ◌*ℤ◌, ◌≤ℤ◌, ◌<ℤ◌, SFits, to_z, of_z, to_z-of_z}
 use Rattle.std.proofs.lemmas.Int.{ints, clamps}
 use Rattle.std.specs.Int.{w128, int_min, int_max}
-use Rattle.exact_math.specs.Ends.{times_ends}
 use Rattle.exact_math.specs.Within.{Within}
 use Rattle.exact_math.proofs.WholeSizes.{within-mul, within-weaker}
-use Rattle.fixed_interval.specs.Interval.{ends_of}
-use Rattle.fixed_interval.specs.declared.Interval.{Interval}
-use Rattle.fixed_interval.proofs.Ends.{ends-same}
-use Rattle.fixed_interval.proofs.Order.{mul_right_up, mul_right_down, least_product, greatest_product}
+use Rattle.fixed_interval.proofs.Order.{mul_right_up, mul_right_down}
 
 -- which end gives the lower and the upper product, by the factor's sign
 pub below_down : (lo hi k : ℤ) → lo ≤ℤ hi → k <ℤ pos 0 → hi *ℤ k ≡ int_min (lo *ℤ k) (hi *ℤ k)

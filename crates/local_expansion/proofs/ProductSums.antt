@@ -1,5 +1,5 @@
 -- Sums of products of a column with a row.
-use Rattle.std.proofs.Common.{◌≡◌, refl, sym, ap, ap₂, ◌∙◌, subst, ℕ, zero, suc, ◌+◌, ◌*◌, ◌^◌, ◌≤◌, ◌<◌, arith, pos}
+use Rattle.std.proofs.Common.{◌≡◌, sym, ap, ap₂, ◌∙◌, subst, ℕ, zero, suc, ◌+◌, ◌*◌, ◌^◌, ◌≤◌, ◌<◌, arith, pos}
 use Rattle.exact_math.specs.Ends.{BoxEnds, BoxEndsWithin, add_box, times_box, quot_box}
 use Rattle.exact_math.specs.Gaussian.{Gaussian}
 use Rattle.complex_box.specs.Box.{TimesFits}

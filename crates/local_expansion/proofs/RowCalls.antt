@@ -1,8 +1,8 @@
 -- What the calls on local rows do to what a row contains and to its size.
-use Rattle.std.proofs.Common.{◌≡◌, sym, ap₂, subst, ℕ, suc, ◌+◌, ◌*◌, ◌^◌, ◌≤◌, ◌<◌, arith, pos}
+use Rattle.std.proofs.Common.{ℕ, suc, ◌+◌, ◌*◌, ◌^◌, ◌≤◌, ◌<◌, arith}
 use Rattle.std.proofs.lemmas.Int.{ints}
 use Rattle.std.proofs.Math.Nat.{mul-le-mul_right}
-use Rattle.exact_math.specs.Ends.{BoxEnds, BoxEndsContain, add_box}
+use Rattle.exact_math.specs.Ends.{BoxEnds, add_box}
 use Rattle.exact_math.specs.Gaussian.{Gaussian}
 use Rattle.exact_math.specs.Orders.{IsOrder}
 use Rattle.exact_math.specs.Ratio.{ComplexRatio, ◌+ᶜ◌}
@@ -17,10 +17,9 @@ use Rattle.truncation.specs.Entries.{local_cut}
 use Rattle.exact_math.specs.Within.{GaussianBeyond}
 use Rattle.row_recursions.specs.Cells.{side_of, centre_of, offset_from, far_coefficients_of}
 use Rattle.row_recursions.specs.Fields.{HoldsField}
-use Rattle.row_recursions.specs.Rows.{RowsAdd, far_source}
+use Rattle.row_recursions.specs.Rows.{RowsAdd}
 use Rattle.row_recursions.specs.Sizes.{RowWithin}
 use Rattle.row_recursions.specs.Sources.{source_of}
-use Rattle.row_recursions.proofs.FarLaws.{field_of_source}
 use Rattle.row_recursions.proofs.FieldLaws.{sum_of_fields, field_same}
 use Rattle.row_recursions.proofs.Points.{side_positive, strength_field}
 use Rattle.row_recursions.proofs.RowSizes.{far_norm_positive, far_source_within}

@@ -9,6 +9,7 @@ use Rattle.exact_math.proofs.Orders.{order_bounds}
 use Rattle.complex_box.specs.Box.{GscaleFits}
 use Rattle.complex_box.proofs.Sizes.{box_wider, add_box_within, gscale_fits}
 use Rattle.exact_math.specs.Within.{GaussianWithin}
+use Rattle.limits.specs.Limits.{widest_grid}
 use Rattle.row_recursions.specs.Rows.{local_round}
 use Rattle.row_recursions.specs.Sizes.{RowWithin}
 use Rattle.row_recursions.proofs.Equations.{local_round-next}
@@ -17,7 +18,7 @@ use Rattle.row_recursions.proofs.RowSizes.{box_gquot_within, local_round_within,
 pub doubled : (bits : ℕ) → 2 ^ (bits + 1) ≡ 2 * 2 ^ bits
 doubled bits = let e : 2 ^ (bits + 1) ≡ 2 ^ suc bits = ap (λ n. 2 ^ n) {x = bits + 1} {y = suc bits} (omega arith) in let f : 2 ^ suc bits ≡ 2 * 2 ^ bits = omega arith in e ∙ f
 
-module _ (P bits : ℕ) (m : ℕ → BoxEnds) (o : Gaussian) (order : IsOrder P) (small : bits ≤ 16) (near : GaussianWithin (2 ^ bits) o) (bounded : RowWithin P (2 ^ 90) m) where
+module _ (P bits : ℕ) (m : ℕ → BoxEnds) (o : Gaussian) (order : IsOrder P) (small : bits ≤ widest_grid) (near : GaussianWithin (2 ^ bits) o) (bounded : RowWithin P (2 ^ 90) m) where
   -- the value so far
   pub value_within : (n : ℕ) (v : BoxEnds) → n < P → v ≡ local_round P m (2 ^ bits) o n → BoxEndsWithin (2 ^ 95) v
   value_within n v h e =
@@ -28,8 +29,8 @@ module _ (P bits : ℕ) (m : ℕ → BoxEnds) (o : Gaussian) (order : IsOrder P)
   -- its product with the offset
   pub product_fits : (n : ℕ) (v : BoxEnds) → n < P → v ≡ local_round P m (2 ^ bits) o n → GscaleFits v o
   product_fits n v h e =
-      let l : 2 ^ bits ≤ 2 ^ 16 = pow_mono small in
-      gscale_fits (2 ^ 95) (2 ^ 16) v o (value_within n v h e) (within-weaker l near.re) (within-weaker l near.im) (omega arith)
+      let l : 2 ^ bits ≤ 2 ^ widest_grid = pow_mono small in
+      gscale_fits (2 ^ 95) (2 ^ widest_grid) v o (value_within n v h e) (within-weaker l near.re) (within-weaker l near.im) (omega arith)
 
   -- what it makes in sides
   step_is : (v w q : BoxEnds) → w ≡ gscale_box v o → q ≡ quot_box w (pos (2 ^ (bits + 1))) → q ≡ gquot_box v o (pos (2 * 2 ^ bits))

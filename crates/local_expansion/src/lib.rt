@@ -8,6 +8,7 @@ ghost use Rattle.exact_math.specs.Gaussian.{gaussian};
 ghost use Rattle.exact_math.specs.Orders.{IsOrder};
 ghost use Rattle.exact_math.specs.Within.{GaussianBeyond};
 ghost use Rattle.complex_box.specs.Box.{box_ends, number, BoxWithin};
+ghost use Rattle.complex_box.specs.Counts.{AddsTranslations};
 ghost use Rattle.kernel_table.specs.Kernel.{IsKernelDistance, kernel_entry};
 ghost use Rattle.cell_name.specs.Cell.{square};
 ghost use Rattle.cell_name.specs.Square.{Holds};
@@ -52,12 +53,10 @@ pub fn convert<const P: usize>(
     requires row { RowWithin P (2 ^ 80) (row_of row.cells.now) }
     requires size { RowWithin P (2 ^ 110) (row_of into.old) }
     requires room { work.old.translations < 2 ^ 63 }
-    ensures len { length into.new ≡ P }
     ensures adds { RowsAdd P (row_of into.old) (converted P (kernel_entry (number e)) (row_of row.entry.cells.now)) (row_of into.new) }
     ensures contains { AddsFieldConverted P (number e) (row_of row.entry.cells.now) (row_of into.old) (row_of into.new) }
     ensures size { (m n : ℕ) → RowWithin P (2 * m) (row_of row.entry.cells.now) → RowWithin P n (row_of into.old) → RowWithin P (n + 3 * m) (row_of into.new) }
-    ensures translations { work.new.translations ≡ work.old.translations + 1 }
-    ensures pairs { work.new.pairs ≡ work.old.pairs }
+    ensures work { AddsTranslations 1 work.old work.new }
 {
     let narrow = is_narrow(row);
     for l in 0..P {
@@ -67,12 +66,12 @@ pub fn convert<const P: usize>(
 }
 
 /// Adds the contribution of a point far from the cell to the cell's local row; a target adds nothing. Conditions: `P` is one of the orders
-/// and the row's length, the point is in range, twice its offset from the cell's centre has a part of at least 3 sides, and all ends of the
-/// row are at most 2^110 in size.
+/// and the row's length, the point is in range of the cell's grid, twice its offset from the cell's centre has a part of at least 3 sides,
+/// and all ends of the row are at most 2^110 in size.
 pub fn add_far_source<const P: usize>(into: &mut [CBox], cell: Cell, p: &Point)
     requires order { IsOrder P }
     requires len { length into.old ≡ P }
-    requires range { InRange p.now }
+    requires range { InRange cell.grid p.now }
     requires far { GaussianBeyond (3 * side_of cell) (offset_from cell (place p.now)) }
     requires size { RowWithin P (2 ^ 110) (row_of into.old) }
     ensures len { length into.new ≡ P }

@@ -1,7 +1,8 @@
 //! The contribution of one far source, added to a row.
-ghost use Rattle.std.specs.Prelude.{◌≡◌, ◌*◌, ◌^◌, ◌≤◌, length};
+ghost use Rattle.std.specs.Prelude.{◌≡◌, ◌+◌, ◌*◌, ◌^◌, ◌≤◌, length};
 ghost use Rattle.exact_math.specs.Within.{GaussianWithin, GaussianBeyond};
 ghost use Rattle.complex_box.specs.Box.{box_ends, number, BoxWithin};
+ghost use Rattle.limits.specs.Limits.{widest_grid};
 ghost use Rattle.points.specs.Limits.{InRange};
 ghost use Rattle.points.specs.Points.{place};
 ghost use Rattle.row_recursions.specs.Cells.{side_of, offset_from, far_coefficients_of};
@@ -17,8 +18,8 @@ use row_recursions::{far_ratio, offset, side_bits, units};
 /// Adds the negatives of the powers after `first`.
 fn add_poles(into: &mut [CBox], first: CBox, zeta: Gauss, bits: u32)
     requires row { RowWithin (length into.old) (2 ^ 110) (row_of into.old) }
-    requires bits { bits ≤ 16 }
-    requires near { GaussianWithin (2 ^ 17) (number zeta) }
+    requires bits { bits ≤ widest_grid }
+    requires near { GaussianWithin (2 ^ (widest_grid + 1)) (number zeta) }
     requires far { GaussianBeyond (3 * 2 ^ bits) (number zeta) }
     requires size { BoxWithin (2 ^ 60) first }
     ensures len { length into.new ≡ length into.old }
@@ -36,8 +37,8 @@ fn add_poles(into: &mut [CBox], first: CBox, zeta: Gauss, bits: u32)
 fn add_dipoles(into: &mut [CBox], first: CBox, zeta: Gauss, bits: u32)
     requires len { length into.old ≤ 32 }
     requires row { RowWithin (length into.old) (2 ^ 110) (row_of into.old) }
-    requires bits { bits ≤ 16 }
-    requires near { GaussianWithin (2 ^ 17) (number zeta) }
+    requires bits { bits ≤ widest_grid }
+    requires near { GaussianWithin (2 ^ (widest_grid + 1)) (number zeta) }
     requires far { GaussianBeyond (3 * 2 ^ bits) (number zeta) }
     requires size { BoxWithin (2 ^ 60) first }
     ensures len { length into.new ≡ length into.old }
@@ -55,7 +56,7 @@ fn add_dipoles(into: &mut [CBox], first: CBox, zeta: Gauss, bits: u32)
 pub(crate) fn add_far(into: &mut [CBox], cell: Cell, p: &Point)
     requires len { length into.old ≤ 32 }
     requires row { RowWithin (length into.old) (2 ^ 110) (row_of into.old) }
-    requires range { InRange p.now }
+    requires range { InRange cell.grid p.now }
     requires far { GaussianBeyond (3 * side_of cell) (offset_from cell (place p.now)) }
     ensures len { length into.new ≡ length into.old }
     ensures adds { RowsAdd (length into.old) (row_of into.old) (far_coefficients_of cell p.now) (row_of into.new) }

@@ -3,6 +3,7 @@ ghost use Rattle.std.specs.Prelude.{◌≡◌, ◌^◌, ◌≤◌};
 ghost use Rattle.exact_math.specs.Orders.{IsOrder};
 ghost use Rattle.exact_math.specs.Within.{GaussianWithin};
 ghost use Rattle.complex_box.specs.Box.{box_ends, number};
+ghost use Rattle.limits.specs.Limits.{widest_grid};
 ghost use Rattle.row_recursions.specs.Rows.{row_of, local_value};
 ghost use Rattle.row_recursions.specs.Sizes.{RowWithin};
 
@@ -11,7 +12,7 @@ use complex_box::{CBox, Gauss, Row};
 /// The value of a row at twice the offset `o` from the centre of a cell of side `2^bits`.
 pub(crate) fn value_at<const P: usize>(row: Row<P>, o: Gauss, bits: u32) -> CBox
     requires order { IsOrder P }
-    requires bits { bits ≤ 16 }
+    requires bits { bits ≤ widest_grid }
     requires near { GaussianWithin (2 ^ bits) (number o) }
     requires size { RowWithin P (2 ^ 90) (row_of row.cells.now) }
     ensures { box_ends result ≡ local_value P (row_of row.entry.cells.now) (2 ^ bits) (number o) }

@@ -5,7 +5,6 @@ use Rattle.std.proofs.lemmas.Bool.{cases_lt}
 use Rattle.std.proofs.lemmas.Int.{ints}
 use Rattle.exact_math.specs.Ends.{BoxEnds, BoxEndsWithin, zero_box, add_box, scale_box, gscale_box, quot_box}
 use Rattle.exact_math.specs.Gaussian.{Gaussian, gaussian}
-use Rattle.exact_math.specs.Within.{Within, GaussianWithin}
 use Rattle.complex_box.proofs.Sizes.{box_wider, add_box_within, quot_box_within, scale_box_within}
 use Rattle.cell_name.specs.declared.cell.Quadrant.{Quadrant}
 use Rattle.row_recursions.specs.Rows.{down_round}

@@ -10,6 +10,7 @@ use Rattle.complex_box.proofs.Sizes.{box_wider, add_box_within}
 use Rattle.cell_name.specs.Cell.{square}
 use Rattle.cell_name.specs.Square.{Holds}
 use Rattle.cell_name.specs.declared.cell.Cell.{Cell}
+use Rattle.limits.specs.Limits.{widest_grid}
 use Rattle.points.specs.Limits.{InRange, weight64}
 use Rattle.points.specs.Points.{place, strength}
 use Rattle.points.specs.declared.Point.{Point}
@@ -31,7 +32,7 @@ module _ (P : ℕ) (c : Cell) (p : Point) (order : IsOrder P) (inside : Holds (s
   part_within k h = let few = order_bounds P order in moments_within c p k (omega arith) inside
 
   -- the sum fits
-  pub sum_fits : (old part : ℕ → BoxEnds) → InRange p → RowWithin P (2 ^ 80) old → ((k : ℕ) → k < P → part k ≡ moments_of c p k) → (k : ℕ) → k < P → BoxEndsWithin (2 ^ 126) (add_box (old k) (part k))
+  pub sum_fits : (old part : ℕ → BoxEnds) → InRange widest_grid p → RowWithin P (2 ^ 80) old → ((k : ℕ) → k < P → part k ≡ moments_of c p k) → (k : ℕ) → k < P → BoxEndsWithin (2 ^ 126) (add_box (old k) (part k))
   sum_fits old part range bounded is k h =
       let light = weight_bounded p range in
       box_wider (2 ^ 80 + 2 ^ 40 * weight64 p) (2 ^ 126) _ (omega arith)

@@ -7,6 +7,7 @@ use Rattle.exact_math.specs.Gaussian.{Gaussian, zero_gaussian}
 use Rattle.exact_math.specs.Rounding.{floor_div}
 use Rattle.exact_math.proofs.WholeSizes.{within-weaker}
 use Rattle.complex_box.specs.Box.{GscaleFits}
+use Rattle.limits.specs.Limits.{widest_grid}
 use Rattle.complex_box.proofs.Sizes.{gscale_fits}
 use Rattle.exact_math.specs.Within.{GaussianWithin}
 use Rattle.row_recursions.specs.Rows.{units_box, units_over, pole_moment, dipole_moment, source_moment}
@@ -26,10 +27,10 @@ two_halves (suc n) h =
     omega arith
 
 -- ---- one step
-pub step_fits : (n : ℕ) (b : BoxEnds) (o : Gaussian) → n ≤ 17 → GaussianWithin (2 ^ (n - 1)) o → BoxEndsWithin (2 ^ 60) b → GscaleFits b o
+pub step_fits : (n : ℕ) (b : BoxEnds) (o : Gaussian) → n ≤ widest_grid + 1 → GaussianWithin (2 ^ (n - 1)) o → BoxEndsWithin (2 ^ 60) b → GscaleFits b o
 step_fits n b o h near w =
-    let l = power_le (n - 1) 16 (omega arith) in
-    gscale_fits (2 ^ 60) (2 ^ 16) b o w (within-weaker l near.re) (within-weaker l near.im) (omega arith)
+    let l = power_le (n - 1) widest_grid (omega arith) in
+    gscale_fits (2 ^ 60) (2 ^ widest_grid) b o w (within-weaker l near.re) (within-weaker l near.im) (omega arith)
 
 pub step_within : (m n : ℕ) (b : BoxEnds) (o : Gaussian) → 1 ≤ n → GaussianWithin (2 ^ (n - 1)) o → BoxEndsWithin m b → BoxEndsWithin m (gquot_box b o (pos (2 ^ n)))
 step_within m n b o h near w = box_gquot_within m (2 ^ (n - 1)) (2 ^ (n - 1)) (2 ^ n) b o (power_le 0 n (omega arith)) (two_halves n h) near.re near.im w

@@ -12,7 +12,9 @@ ghost use Rattle.exact_math.specs.Within.{GaussianBeyond};
 ghost use Rattle.complex_box.specs.Box.{box_ends, BoxWithin};
 ghost use Rattle.cell_name.specs.Cell.{square};
 ghost use Rattle.cell_name.specs.Square.{Holds};
-ghost use Rattle.points.specs.Limits.{InGrid, InRange, weight64};
+ghost use Rattle.limits.specs.Grid.{IsInGrid};
+ghost use Rattle.limits.specs.Limits.{widest_grid};
+ghost use Rattle.points.specs.Limits.{InRange, weight64};
 ghost use Rattle.row_recursions.specs.Cells.{side_of, centre_of, offset_from, moments_of};
 ghost use Rattle.row_recursions.specs.Contents.{AddsMomentsOf, IsValueOfMoments};
 ghost use Rattle.row_recursions.specs.Rows.{row_of, RowsAdd, HasPart, multipole_value};
@@ -30,11 +32,11 @@ use row_recursions::{add_row, offset, side_bits, take_row};
 use values::value_at;
 
 /// Adds the moments of a point about the cell's centre to the row; a target adds nothing. Conditions: `P` is one of the orders and the
-/// row's length, the point is in range, the cell holds its place, and all ends of the row are at most 2^80 in size.
+/// row's length, the point is in range of some version, the cell holds its place, and all ends of the row are at most 2^80 in size.
 pub fn add_source<const P: usize>(row: &mut [CBox], cell: Cell, p: &Point)
     requires order { IsOrder P }
     requires len { length row.old ≡ P }
-    requires range { InRange p.now }
+    requires range { InRange widest_grid p.now }
     requires inside { Holds (square cell) p.now.x p.now.y }
     requires size { RowWithin P (2 ^ 80) (row_of row.old) }
     ensures len { length row.new ≡ P }
@@ -48,11 +50,11 @@ pub fn add_source<const P: usize>(row: &mut [CBox], cell: Cell, p: &Point)
 }
 
 /// Takes the moments of a point away from the row again. Conditions: `P` is one of the orders and the row's length, the point is in
-/// range, the cell holds its place, and the row is a sum that has its moments as a part.
+/// range of some version, the cell holds its place, and the row is a sum that has its moments as a part.
 pub fn take_source<const P: usize>(row: &mut [CBox], cell: Cell, p: &Point)
     requires order { IsOrder P }
     requires len { length row.old ≡ P }
-    requires range { InRange p.now }
+    requires range { InRange widest_grid p.now }
     requires inside { Holds (square cell) p.now.x p.now.y }
     requires part { HasPart P (row_of row.old) (moments_of cell p.now) }
     ensures len { length row.new ≡ P }
@@ -67,11 +69,11 @@ pub fn take_source<const P: usize>(row: &mut [CBox], cell: Cell, p: &Point)
 /// The value of a multipole row at the place `(x, y)`, by Horner's scheme in `2 s/zeta` from the last coefficient on, with `zeta` twice
 /// the place's offset from the cell's centre: `1/s` times the sum of `m_k (2 s/zeta)^(k + 1)`.
 ///
-/// Conditions: `P` is one of the orders, the place is in the grid, a part of `zeta` is at least 3 sides in size, and all ends of the row
+/// Conditions: `P` is one of the orders, the place is in the cell's grid, a part of `zeta` is at least 3 sides in size, and all ends of the row
 /// are at most 2^80 in size.
 pub fn at_multipole<const P: usize>(row: Row<P>, cell: Cell, x: i64, y: i64) -> CBox
     requires order { IsOrder P }
-    requires grid { InGrid x y }
+    requires grid { IsInGrid cell.grid x y }
     requires far { GaussianBeyond (3 * side_of cell) (offset_from cell (gaussian x y)) }
     requires size { RowWithin P (2 ^ 80) (row_of row.cells.now) }
     ensures ends { box_ends result ≡ multipole_value P (row_of row.entry.cells.now) (side_of cell) (offset_from cell (gaussian x y)) }

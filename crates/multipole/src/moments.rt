@@ -1,10 +1,11 @@
 //! The moments of one source, into a row.
-ghost use Rattle.std.specs.Prelude.{◌≡◌, ℕ, ◌-◌, ◌^◌, ◌≤◌, ◌<◌, pos, length};
+ghost use Rattle.std.specs.Prelude.{◌≡◌, ℕ, ◌+◌, ◌-◌, ◌^◌, ◌≤◌, ◌<◌, pos, length};
 ghost use Rattle.exact_math.specs.Ends.{gquot_box};
 ghost use Rattle.exact_math.specs.Within.{GaussianWithin};
 ghost use Rattle.complex_box.specs.Box.{box_ends, number, BoxWithin};
 ghost use Rattle.cell_name.specs.Cell.{square};
 ghost use Rattle.cell_name.specs.Square.{Holds};
+ghost use Rattle.limits.specs.Limits.{widest_grid};
 ghost use Rattle.points.specs.Limits.{InRange};
 ghost use Rattle.row_recursions.specs.Cells.{moments_of};
 ghost use Rattle.row_recursions.specs.Rows.{row_of};
@@ -19,7 +20,7 @@ use row_recursions::{offset, side_bits, units};
 #[inline]
 fn next_power(power: CBox, o: Gauss, shift: u32) -> CBox
     requires positive { 1 ≤ shift }
-    requires small { shift ≤ 17 }
+    requires small { shift ≤ widest_grid + 1 }
     requires near { GaussianWithin (2 ^ (shift - 1)) (number o) }
     requires size { BoxWithin (2 ^ 60) power }
     ensures ends { box_ends result ≡ gquot_box (box_ends power) (number o) (pos (2 ^ shift)) }
@@ -31,7 +32,7 @@ fn next_power(power: CBox, o: Gauss, shift: u32) -> CBox
 /// Fills a row with the powers that begin with `first`.
 fn fill_powers(row: &mut [CBox], first: CBox, o: Gauss, shift: u32)
     requires positive { 1 ≤ shift }
-    requires small { shift ≤ 17 }
+    requires small { shift ≤ widest_grid + 1 }
     requires near { GaussianWithin (2 ^ (shift - 1)) (number o) }
     requires size { BoxWithin (2 ^ 60) first }
     ensures len { length row.new ≡ length row.old }
@@ -48,7 +49,7 @@ fn fill_powers(row: &mut [CBox], first: CBox, o: Gauss, shift: u32)
 fn fill_slopes(row: &mut [CBox], first: CBox, o: Gauss, shift: u32)
     requires len { (1 ≤ length row.old) × (length row.old ≤ 32) }
     requires positive { 1 ≤ shift }
-    requires small { shift ≤ 17 }
+    requires small { shift ≤ widest_grid + 1 }
     requires near { GaussianWithin (2 ^ (shift - 1)) (number o) }
     requires size { BoxWithin (2 ^ 60) first }
     ensures len { length row.new ≡ length row.old }
@@ -65,7 +66,7 @@ fn fill_slopes(row: &mut [CBox], first: CBox, o: Gauss, shift: u32)
 /// Fills a row with the moments of a point in the cell, about the cell's centre.
 pub(crate) fn fill_moments(row: &mut [CBox], cell: Cell, p: &Point)
     requires len { (1 ≤ length row.old) × (length row.old ≤ 32) }
-    requires range { InRange p.now }
+    requires range { InRange widest_grid p.now }
     requires inside { Holds (square cell) p.now.x p.now.y }
     ensures len { length row.new ≡ length row.old }
     ensures moments { (k : ℕ) → k < length row.old → row_of row.new k ≡ moments_of cell p.now k }

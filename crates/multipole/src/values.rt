@@ -1,8 +1,8 @@
 //! The value of a multipole row.
-ghost use Rattle.std.specs.Prelude.{◌≡◌, ◌*◌, ◌^◌, ◌≤◌};
-ghost use Rattle.exact_math.specs.Orders.{IsOrder};
+ghost use Rattle.std.specs.Prelude.{◌≡◌, ◌+◌, ◌*◌, ◌^◌, ◌≤◌};
 ghost use Rattle.exact_math.specs.Within.{GaussianWithin, GaussianBeyond};
 ghost use Rattle.complex_box.specs.Box.{box_ends, number};
+ghost use Rattle.limits.specs.Limits.{widest_grid};
 ghost use Rattle.row_recursions.specs.Rows.{row_of, multipole_value};
 ghost use Rattle.row_recursions.specs.Sizes.{RowWithin};
 
@@ -11,9 +11,8 @@ use row_recursions::far_ratio;
 
 /// The value of a row at twice the offset `zeta` from the centre of a cell of side `2^bits`.
 pub(crate) fn value_at<const P: usize>(row: Row<P>, zeta: Gauss, bits: u32) -> CBox
-    requires order { IsOrder P }
-    requires bits { bits ≤ 16 }
-    requires near { GaussianWithin (2 ^ 17) (number zeta) }
+    requires bits { bits ≤ widest_grid }
+    requires near { GaussianWithin (2 ^ (widest_grid + 1)) (number zeta) }
     requires far { GaussianBeyond (3 * 2 ^ bits) (number zeta) }
     requires size { RowWithin P (2 ^ 80) (row_of row.cells.now) }
     ensures { box_ends result ≡ multipole_value P (row_of row.entry.cells.now) (2 ^ bits) (number zeta) }

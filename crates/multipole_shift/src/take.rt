@@ -1,6 +1,7 @@
 //! A row out of its parent's again.
 ghost use Rattle.std.specs.Prelude.{◌≡◌, ℕ, ◌+◌, ◌^◌, ◌<◌, ◌≤◌, length};
 ghost use Rattle.exact_math.specs.Orders.{IsOrder};
+ghost use Rattle.complex_box.specs.Counts.{AddsTranslations};
 ghost use Rattle.row_recursions.specs.Cells.{quadrant_of};
 ghost use Rattle.row_recursions.specs.Rows.{row_of, RowsAdd, HasPart, shifted_up};
 ghost use Rattle.row_recursions.specs.Sizes.{RowWithin};
@@ -22,8 +23,7 @@ pub fn take_up<const P: usize>(child: Row<P>, q: Quadrant, into: &mut [CBox], wo
     ensures len { length into.new ≡ P }
     ensures adds { RowsAdd P (row_of into.new) (shifted_up (row_of child.entry.cells.now) (quadrant_of q)) (row_of into.old) }
     ensures size { (m n : ℕ) → RowWithin P m (row_of into.old) → RowWithin P n (row_of child.entry.cells.now) → RowWithin P (m + n) (row_of into.new) }
-    ensures translations { work.new.translations ≡ work.old.translations + 1 }
-    ensures pairs { work.new.pairs ≡ work.old.pairs }
+    ensures work { AddsTranslations 1 work.old work.new }
 {
     let mut part = [CBox::zero(); P];
     part.copy_from_slice(child.cells);

@@ -4,7 +4,9 @@ use Rattle.std.proofs.lemmas.Int.{ints}
 use Rattle.exact_math.specs.Ends.{BoxEnds, BoxEndsContain, BoxEndsNarrow, BoxEndsWithin, zero_box}
 use Rattle.exact_math.specs.Gaussian.{Gaussian, gaussian}
 use Rattle.exact_math.specs.Ratio.{ComplexRatio}
-use Rattle.points.specs.Limits.{InGrid, InRange, weight64}
+use Rattle.limits.specs.Grid.{IsInGrid}
+use Rattle.limits.specs.Limits.{widest_grid}
+use Rattle.points.specs.Limits.{InRange, weight64}
 use Rattle.points.specs.Points.{strength}
 use Rattle.points.specs.declared.Point.{Point}
 use Rattle.near_field.specs.Pair.{is_at, outward, pair_box, strength_term, term_of}
@@ -17,7 +19,7 @@ tested x y p f g e = sym (simp to_z-of_z at e)
 difference : (x a : ℤ) → SFits w64 x → SFits w64 a → SFits w64 (x -ℤ a) → to_z w64 (of_z w64 (to_z w64 (of_z w64 x) -ℤ to_z w64 (of_z w64 a))) ≡ x -ℤ a
 difference x a f g h = omega (arith, ints)
 
-pub term_is : (x y : ℤ) (p : Point) {z : ComplexRatio} → InGrid x y → InRange p
+pub term_is : (x y : ℤ) (p : Point) {z : ComplexRatio} → IsInGrid widest_grid x y → InRange widest_grid p
     → z ≡ strength_term (strength p.kind) (gaussian (to_z w64 (of_z w64 (to_z w64 (of_z w64 x) -ℤ to_z w64 (of_z w64 p.x)))) (to_z w64 (of_z w64 (to_z w64 (of_z w64 y) -ℤ to_z w64 (of_z w64 p.y)))))
     → z ≡ term_of (gaussian x y) p
 term_is x y p grid range e =

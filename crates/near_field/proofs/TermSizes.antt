@@ -1,5 +1,5 @@
 -- Sizes of the numbers of a term.
-use Rattle.std.proofs.Common.{◌≡◌, ℕ, ◌*◌, ◌≤◌, ◌^◌, arith, ℤ, ◌+ℤ◌, ◌-ℤ◌, ◌*ℤ◌, SFits, to_z-of_z, to_z, of_z, w64, ap, ◌∙◌}
+use Rattle.std.proofs.Common.{◌≡◌, ℕ, ◌+◌, ◌*◌, ◌≤◌, ◌^◌, arith, ℤ, ◌+ℤ◌, ◌-ℤ◌, ◌*ℤ◌, SFits, to_z-of_z, to_z, of_z, w64, ap, ◌∙◌}
 use Rattle.exact_math.specs.Gaussian.{Gaussian, gaussian, mul_gaussian, conj}
 use Rattle.exact_math.specs.Ratio.{ComplexRatio}
 use Rattle.exact_math.proofs.Ring.{int_ring}
@@ -7,6 +7,7 @@ use Rattle.exact_math.proofs.RingTactic.{int_quotes, ring4}
 use Rattle.std.specs.Int.{w128}
 use Rattle.std.proofs.lemmas.Int.{ints}
 use Rattle.exact_math.specs.Within.{Within}
+use Rattle.limits.specs.Limits.{widest_grid}
 use Rattle.exact_math.proofs.WholeSizes.{within-mul, within-add, within-sub, within-weaker}
 
 -- a product of numbers of stated sizes, as the goals of code have it
@@ -40,17 +41,17 @@ across_is f g e = simp to_z-of_z at e
 pub twice_is : {x y r : ℤ} → SFits w64 x → SFits w64 y → r ≡ to_z w64 (of_z w64 x) *ℤ to_z w64 (of_z w64 y) +ℤ to_z w64 (of_z w64 x) *ℤ to_z w64 (of_z w64 y) → r ≡ x *ℤ y +ℤ x *ℤ y
 twice_is f g e = simp to_z-of_z at e
 
-pub across_within : (x y : ℤ) {r : ℤ} → Within (2 ^ 16) x → Within (2 ^ 16) y → r ≡ x *ℤ x -ℤ y *ℤ y → Within (2 ^ 33) r
+pub across_within : (x y : ℤ) {r : ℤ} → Within (2 ^ widest_grid) x → Within (2 ^ widest_grid) y → r ≡ x *ℤ x -ℤ y *ℤ y → Within (2 ^ (2 * widest_grid + 1)) r
 across_within x y v w e = rw e (within-sub (within-mul _ _ x x v v) (within-mul _ _ y y w w))
 
-pub twice_within : (x y : ℤ) {r : ℤ} → Within (2 ^ 16) x → Within (2 ^ 16) y → r ≡ x *ℤ y +ℤ x *ℤ y → Within (2 ^ 33) r
+pub twice_within : (x y : ℤ) {r : ℤ} → Within (2 ^ widest_grid) x → Within (2 ^ widest_grid) y → r ≡ x *ℤ y +ℤ x *ℤ y → Within (2 ^ (2 * widest_grid + 1)) r
 twice_within x y v w e = rw e (within-add (within-mul _ _ x y v w) (within-mul _ _ x y v w))
 
-pub fits_33 : (x : ℤ) → Within (2 ^ 33) x → SFits w64 x
-fits_33 x w = omega (arith, ints)
+pub norm_fits : (x : ℤ) → Within (2 ^ (2 * widest_grid + 1)) x → SFits w64 x
+norm_fits x w = omega (arith, ints)
 
 -- the square of a norm, as the goals of code have it
-pub wide_square : {n x y : ℤ} → Within (2 ^ 33) n → x ≡ n → y ≡ n → to_z w128 (of_z w128 (to_z w128 (of_z w128 x) *ℤ to_z w128 (of_z w128 y))) ≡ n *ℤ n
+pub wide_square : {n x y : ℤ} → Within (2 ^ (2 * widest_grid + 1)) n → x ≡ n → y ≡ n → to_z w128 (of_z w128 (to_z w128 (of_z w128 x) *ℤ to_z w128 (of_z w128 y))) ≡ n *ℤ n
 wide_square {n} {x} {y} w e f =
     let g : SFits w128 x = omega (arith, ints) in
     let h : SFits w128 y = omega (arith, ints) in

@@ -6,7 +6,9 @@ ghost use Rattle.exact_math.specs.Ends.{BoxEndsNarrow};
 ghost use Rattle.exact_math.specs.Gaussian.{gaussian};
 ghost use Rattle.exact_math.specs.Units.{unit};
 ghost use Rattle.complex_box.specs.Box.{box_ends, BoxWithin, BoxContains};
-ghost use Rattle.points.specs.Limits.{InGrid, InRange, weight64};
+ghost use Rattle.limits.specs.Grid.{IsInGrid};
+ghost use Rattle.limits.specs.Limits.{widest_grid};
+ghost use Rattle.points.specs.Limits.{InRange, weight64};
 ghost use Rattle.near_field.specs.Pair.{is_at, pair_box, term_of};
 
 mod term;
@@ -26,11 +28,11 @@ fn stands_at(p: &Point, x: i64, y: i64) -> bool
 /// point, `a/d` for a pole `a` and `b/d^2` for a dipole `b`, each part rounded outward by one division a bound.
 /// At the point's own place it is the zero box.
 ///
-/// The pairs of `work` are raised by one exactly where the places differ. Conditions: the point is in range, the
-/// place is in the grid, and the count of pairs is below 2^63.
+/// The pairs of `work` are raised by one exactly where the places differ. Conditions: the point is in range of some
+/// version, the place is in the widest grid, and the count of pairs is below 2^63.
 pub fn pair(p: &Point, x: i64, y: i64, work: &mut Work) -> CBox
-    requires range { InRange p.now }
-    requires grid { InGrid x y }
+    requires range { InRange widest_grid p.now }
+    requires grid { IsInGrid widest_grid x y }
     requires room { work.old.pairs < 2 ^ 63 }
     ensures ends { box_ends result ≡ pair_box (gaussian x y) p.now }
     ensures contains { is_at (gaussian x y) p.now ≡ false → BoxContains unit result (term_of (gaussian x y) p.now) }

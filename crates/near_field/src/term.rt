@@ -1,7 +1,8 @@
 //! The exact term of a source, as whole numbers over a denominator.
-ghost use Rattle.std.specs.Prelude.{◌≡◌, ◌^◌, ℤ, pos, ◌+ℤ◌, ◌-ℤ◌, ◌*ℤ◌, ◌≤ℤ◌};
+ghost use Rattle.std.specs.Prelude.{◌≡◌, ◌+◌, ◌*◌, ◌^◌, ℤ, pos, ◌+ℤ◌, ◌-ℤ◌, ◌*ℤ◌, ◌≤ℤ◌};
 ghost use Rattle.exact_math.specs.Gaussian.{gaussian, norm_gaussian};
 ghost use Rattle.exact_math.specs.Within.{Within};
+ghost use Rattle.limits.specs.Limits.{most_strength, widest_grid};
 ghost use Rattle.points.specs.Limits.{InRange};
 ghost use Rattle.points.specs.Points.{strength};
 ghost use Rattle.exact_math.specs.Terms.{pole_term, dipole_term};
@@ -42,17 +43,17 @@ fn difference_of_products(a: i64, b: i64, c: i64, d: i64) -> i64
 
 /// `dx^2 + dy^2`.
 fn norm(dx: i64, dy: i64) -> i64
-    requires distance { Within (2 ^ 16) dx × Within (2 ^ 16) dy }
+    requires distance { Within (2 ^ widest_grid) dx × Within (2 ^ widest_grid) dy }
     ensures value { result ≡ norm_gaussian (gaussian dx dy) }
-    ensures size { Within (2 ^ 33) result }
+    ensures size { Within (2 ^ (2 * widest_grid + 1)) result }
 {
     sum_of_products(dx, dx, dy, dy)
 }
 
 /// `a conj(d)` over `norm(d)`, for the pole `a = (re, im)` and the distance `d = (dx, dy)`.
 fn pole_over(re: i64, im: i64, dx: i64, dy: i64) -> Term
-    requires pole { Within (2 ^ 20) re × Within (2 ^ 20) im }
-    requires distance { Within (2 ^ 16) dx × Within (2 ^ 16) dy }
+    requires pole { Within most_strength re × Within most_strength im }
+    requires distance { Within (2 ^ widest_grid) dx × Within (2 ^ widest_grid) dy }
     ensures { ratio_of result ≡ pole_term (gaussian re im) (gaussian dx dy) }
 {
     Term {
@@ -64,8 +65,8 @@ fn pole_over(re: i64, im: i64, dx: i64, dy: i64) -> Term
 
 /// `b conj(d)^2` over `norm(d)^2`, for the dipole `b = (re, im)` and the distance `d = (dx, dy)`.
 fn dipole_over(re: i64, im: i64, dx: i64, dy: i64) -> Term
-    requires dipole { Within (2 ^ 20) re × Within (2 ^ 20) im }
-    requires distance { Within (2 ^ 16) dx × Within (2 ^ 16) dy }
+    requires dipole { Within most_strength re × Within most_strength im }
+    requires distance { Within (2 ^ widest_grid) dx × Within (2 ^ widest_grid) dy }
     ensures { ratio_of result ≡ dipole_term (gaussian re im) (gaussian dx dy) }
 {
     let across = difference_of_products(dx, dx, dy, dy);
@@ -80,8 +81,8 @@ fn dipole_over(re: i64, im: i64, dx: i64, dy: i64) -> Term
 
 /// The term of a point at a distance: `a/d` of a pole `a`, `b/d^2` of a dipole `b`, 0 of a target.
 pub(crate) fn contribution(p: &Point, dx: i64, dy: i64) -> Term
-    requires range { InRange p.now }
-    requires distance { Within (2 ^ 16) dx × Within (2 ^ 16) dy }
+    requires range { InRange widest_grid p.now }
+    requires distance { Within (2 ^ widest_grid) dx × Within (2 ^ widest_grid) dy }
     ensures { ratio_of result ≡ strength_term (strength p.now.kind) (gaussian dx dy) }
 {
     match p.kind.strength() {

@@ -1,5 +1,5 @@
 -- Points in cells, and their strengths.
-use Rattle.std.proofs.Common.{◌≡◌, refl, ℕ, zero, suc, ◌+◌, ◌*◌, ◌^◌, ◌≤◌, arith, ℤ, pos, neg_ℤ, ◌+ℤ◌, ◌-ℤ◌, ◌≤ℤ◌, ◌<ℤ◌, SFits, w64, to_z, of_z, to_z-of_z, lit<, negsuc, false, sym}
+use Rattle.std.proofs.Common.{◌≡◌, refl, inl, inr, subst, ℕ, zero, suc, ◌+◌, ◌*◌, ◌^◌, ◌≤◌, arith, ℤ, pos, neg_ℤ, ◌+ℤ◌, ◌-ℤ◌, ◌≤ℤ◌, ◌<ℤ◌, SFits, w64, to_z, of_z, to_z-of_z, negsuc, false, sym}
 use Rattle.std.proofs.lemmas.Int.{ints}
 use Rattle.std.proofs.lemmas.Bool.{false≢true}
 use Rattle.std.proofs.Math.Nat.{mul-le-mul_right}
@@ -10,12 +10,15 @@ use Rattle.exact_math.specs.Within.{Within, GaussianWithin}
 use Rattle.points.specs.declared.Point.{Point}
 use Rattle.points.specs.declared.Strength.{Strength}
 use Rattle.points.specs.declared.Strength.TheVariants.{Pole, Dipole, Nothing}
-use Rattle.points.specs.Limits.{most_strength, InGrid, InRange, weight64}
+use Rattle.limits.specs.Grid.{half, IsInGrid}
+use Rattle.limits.specs.Limits.{IsGrid, most_strength, widest_grid}
+use Rattle.limits.proofs.Grids.{grid_cases, grid_positive}
+use Rattle.points.specs.Limits.{InRange, weight64}
 use Rattle.points.specs.Points.{place, strength, pole, dipole, is_source}
 use Rattle.points.specs.Strength.{pole_part, dipole_part, StrengthWithin, acts}
 use Rattle.exact_math.specs.Sizes.{abs_gaussian, weight_at}
 use Rattle.cell_name.specs.Cell.{square}
-use Rattle.cell_name.specs.Square.{side, corner_x, corner_y, Holds, IsInGrid}
+use Rattle.cell_name.specs.Square.{side, corner_x, corner_y, Holds, IsInsideGrid}
 use Rattle.cell_name.specs.declared.cell.Cell.{Cell}
 use Rattle.cell_name.proofs.Cells.{inside_from_name}
 use Rattle.exact_math.proofs.GaussianSizes.{weight_at-le}
@@ -57,18 +60,24 @@ weight-source_of P p = by (place p) (strength p.kind)
 pub weight-le-weight64 : (P : ℕ) (p : Point) → P ≤ 32 → weight P (source_of p) ≤ weight64 p
 weight-le-weight64 P p few = let e = weight-source_of P p in let h = weight_at-le P 32 (pole p.kind) (dipole p.kind) few in omega (arith, e, h)
 
--- the grid, as cells see it
-pub grid_of : (x y : ℤ) → InGrid x y → IsInGrid 16 x y
-grid_of x y h = record { west = h.across.above; east = h.across.below; south = h.up.above; north = h.up.below }
-
 -- a coordinate fits an i64
-pub grid_fits : (x y : ℤ) → InGrid x y → SFits w64 x × SFits w64 y
+pub grid_fits : (x y : ℤ) → IsInGrid widest_grid x y → SFits w64 x × SFits w64 y
 grid_fits x y h =
-    let a = h.across.above in
-    let b = h.across.below in
-    let c = h.up.above in
-    let d = h.up.below in
+    let a = h.west in
+    let b = h.east in
+    let c = h.south in
+    let d = h.north in
     (omega (arith, ints), omega (arith, ints))
+
+-- a cell's square lies in its grid
+inside_grid : (c : Cell) → IsInsideGrid (square c)
+inside_grid c = inside_from_name (square c) (grid_positive c.grid c.known_grid) (record { level_in_grid = c.level_in_grid; column = c.column; row = c.row })
+
+-- and so do the places that it holds
+pub held_in_grid : (c : Cell) (x y : ℤ) → Holds (square c) x y → IsInGrid c.grid x y
+held_in_grid c x y h =
+    let i = inside_grid c in
+    record { west = omega (arith, ints, i.west, h.west); east = omega (arith, ints, i.east, h.east); south = omega (arith, ints, i.south, h.south); north = omega (arith, ints, i.north, h.north) }
 
 -- the doubled offset of a place is at most the side
 near : (x c s : ℤ) → c ≤ℤ x → x <ℤ (c +ℤ s) → (neg_ℤ s ≤ℤ (x +ℤ x -ℤ (c +ℤ c +ℤ s))) × ((x +ℤ x -ℤ (c +ℤ c +ℤ s)) ≤ℤ s)
@@ -80,7 +89,7 @@ offset_within c x y h =
     let b = near y (corner_y (square c)) (pos (side (square c))) h.south h.north in
     record { re = record { above = a.0; below = a.1 }; im = record { above = b.0; below = b.1 } }
 
--- sides are powers of two, from 1 to 2^16
+-- sides are powers of two, from 1 on
 pub side_positive : (c : Cell) → 1 ≤ side_of c
 side_positive c = power_positive _
   where
@@ -102,7 +111,7 @@ units_fit {x} {y} v w e =
     simp to_z-of_z at e
 
 -- a point in range is at most 2^27 in weight
-pub weight_bounded : (p : Point) → InRange p → weight64 p ≤ 2 ^ 27
+pub weight_bounded : (p : Point) → InRange widest_grid p → weight64 p ≤ 2 ^ 27
 weight_bounded p h = weight_bounded_at (strength p.kind) h.strength
 
 -- what adds nothing weighs nothing
@@ -123,13 +132,21 @@ moments_within c p k few h = box_wider _ (2 ^ 40 * weight64 p) _ (heavier k (abs
     heavier k a b h = let m = mul-le-mul_right b h in omega arith
 
 -- the doubled offset of any place of the grid
-between : (x c s : ℤ) → neg_ℤ (pos (2 ^ 15)) ≤ℤ x → x <ℤ pos (2 ^ 15) → pos 0 ≤ℤ s → neg_ℤ (pos (2 ^ 15)) ≤ℤ c → (c +ℤ s) ≤ℤ pos (2 ^ 15) → Within (2 ^ 17) (x +ℤ x -ℤ (c +ℤ c +ℤ s))
-between x c s h k p a b = record { above = omega (arith, ints); below = omega (arith, ints) }
+half_at_most : (grid : ℕ) → IsGrid grid → half grid ≤ half widest_grid
+half_at_most grid is =
+    elim (grid_cases grid is) [
+      | inl e ↦ subst (λ n. half n ≤ half widest_grid) (sym e) (omega arith)
+      | inr e ↦ subst (λ n. half n ≤ half widest_grid) (sym e) (omega arith)
+    ]
 
-pub grid_offset_within : (c : Cell) (x y : ℤ) → InGrid x y → GaussianWithin (2 ^ 17) (offset_from c (gaussian x y))
+between : (h : ℕ) (x c s : ℤ) → h ≤ half widest_grid → neg_ℤ (pos h) ≤ℤ x → x <ℤ pos h → pos 0 ≤ℤ s → neg_ℤ (pos h) ≤ℤ c → (c +ℤ s) ≤ℤ pos h → Within (2 ^ (widest_grid + 1)) (x +ℤ x -ℤ (c +ℤ c +ℤ s))
+between h x c s most west east p a b = record { above = omega (arith, ints); below = omega (arith, ints) }
+
+pub grid_offset_within : (c : Cell) (x y : ℤ) → IsInGrid c.grid x y → GaussianWithin (2 ^ (widest_grid + 1)) (offset_from c (gaussian x y))
 grid_offset_within c x y h =
-    let i = inside_from_name (square c) (lit< tt) (record { level_in_grid = c.level_in_grid; column = c.column; row = c.row }) in
+    let i = inside_grid c in
+    let most = half_at_most c.grid c.known_grid in
     record {
-      re = between x (corner_x (square c)) (pos (side (square c))) h.across.above h.across.below (omega (arith, ints)) i.west i.east;
-      im = between y (corner_y (square c)) (pos (side (square c))) h.up.above h.up.below (omega (arith, ints)) i.south i.north;
+      re = between (half c.grid) x (corner_x (square c)) (pos (side (square c))) most h.west h.east (omega (arith, ints)) i.west i.east;
+      im = between (half c.grid) y (corner_y (square c)) (pos (side (square c))) most h.south h.north (omega (arith, ints)) i.south i.north;
     }

@@ -160,6 +160,36 @@ ratio_within n s g b h far w = subst (λ d. BoxEndsWithin n (gquot_box b (conj (
     (within-mul (2 * s) (unsigned_abs g.re) (pos (2 * s)) g.re (number_within (2 * s)) (within-size g.re))
     (within-neg (within-mul (2 * s) (unsigned_abs g.im) (pos (2 * s)) g.im (number_within (2 * s)) (within-size g.im))) w)
 
+-- and even five sixths of it, so what grows by a part of six is as small again
+far_first_less : (s p r : ℕ) → 3 * s ≤ p → 6 * (2 * s * p + 2 * s * r) ≤ 5 * (p * p + r * r)
+far_first_less s p r h =
+    let a = two_products p (2 * r) in
+    let b = mul-le-mul_right p h in
+    let c = mul-le-mul_right r h in
+    omega arith
+
+far_sum_less : (s : ℕ) (g : Gaussian) → GaussianBeyond (3 * s) g → 6 * (2 * s * unsigned_abs g.re + 2 * s * unsigned_abs g.im) ≤ 5 * norm_count g
+far_sum_less s g h = ⊎_elim
+    (λ l. far_first_less s (unsigned_abs g.re) (unsigned_abs g.im) l)
+    (λ l. let m = far_first_less s (unsigned_abs g.im) (unsigned_abs g.re) l in omega arith) h
+
+pub ratio_shrinks : (n s : ℕ) (g : Gaussian) (b : BoxEnds) → 1 ≤ s → GaussianBeyond (3 * s) g → BoxEndsWithin (6 * n) b → BoxEndsWithin (5 * n) (ratio_box (2 * s) g b)
+ratio_shrinks n s g b h far w = subst (λ d. BoxEndsWithin (5 * n) (gquot_box b (conj (scale_gaussian (2 * s) g)) d)) (norm_count-is g)
+    (box_quot_within (5 * n) (norm_count g) (gscale_box b (conj (scale_gaussian (2 * s) g))) (far_positive s g h far)
+    (box_wider (6 * n * x + 6 * n * y) (5 * n * norm_count g) _ (spread n x y (norm_count g) (far_sum_less s g far))
+    (box_gscale_within (6 * n) x y b (conj (scale_gaussian (2 * s) g))
+    (within-mul (2 * s) (unsigned_abs g.re) (pos (2 * s)) g.re (number_within (2 * s)) (within-size g.re))
+    (within-neg (within-mul (2 * s) (unsigned_abs g.im) (pos (2 * s)) g.im (number_within (2 * s)) (within-size g.im))) w)))
+  where
+    x : ℕ
+    x = 2 * s * unsigned_abs g.re
+
+    y : ℕ
+    y = 2 * s * unsigned_abs g.im
+
+    spread : (n x y d : ℕ) → 6 * (x + y) ≤ 5 * d → 6 * n * x + 6 * n * y ≤ 5 * n * d
+    spread n x y d h = let m = mul-le-mul_left n h in omega arith
+
 module _ (s : ℕ) (zeta : Gaussian) (s≥1 : 1 ≤ s) (far : GaussianBeyond (3 * s) zeta) where
   pub far_pole_within : (a : Gaussian) (l : ℕ) → BoxEndsWithin (2 ^ 40 * abs_gaussian a) (far_pole s a zeta l)
   unfolding far_pole
@@ -176,6 +206,13 @@ module _ (s : ℕ) (zeta : Gaussian) (s≥1 : 1 ≤ s) (far : GaussianBeyond (3 
   multipole_round_within P n m bounded zero h = zero_within (0 * n)
   multipole_round_within P n m bounded (suc k) h = ratio_within (suc k * n) s zeta (add_box (multipole_round P m s zeta k) (m (P - suc k))) s≥1 far
       (box_wider (k * n + n) (suc k * n) _ (omega arith) (add_box_within (k * n) n (multipole_round P m s zeta k) (m (P - suc k)) (multipole_round_within P n m bounded k (omega arith)) (bounded (P - suc k) (omega arith))))
+
+  -- the same without the number of steps: each adds one box, and its factor leaves five of six
+  pub multipole_round_bounded : (P n : ℕ) (m : ℕ → BoxEnds) → RowWithin P n m → (k : ℕ) → k ≤ P → BoxEndsWithin (5 * n) (multipole_round P m s zeta k)
+  unfolding multipole_round
+  multipole_round_bounded P n m bounded zero h = zero_within (5 * n)
+  multipole_round_bounded P n m bounded (suc k) h = ratio_shrinks n s zeta (add_box (multipole_round P m s zeta k) (m (P - suc k))) s≥1 far
+      (box_wider (5 * n + n) (6 * n) _ (omega arith) (add_box_within (5 * n) n (multipole_round P m s zeta k) (m (P - suc k)) (multipole_round_bounded P n m bounded k (omega arith)) (bounded (P - suc k) (omega arith))))
 
 pub far_source_within : FarSizes
 unfolding far_source

@@ -4,8 +4,8 @@
 //! their offsets `u` from its centre; its field is `1/s` times the sum of `m_k (s/w)^(k + 1)` at the offset `w`. A local row has at `l`
 //! a box of the coefficient of `(v/s)^l` in `s` times a field, at the offset `v`. All boxes count units of 2^-40.
 //!
-//! `specs/` has the recursions as definitions on ends, the exact moments and fields, and the laws between them. The formulas are those of
-//! the method's papers of 1987 and 1988, scaled by the side, with a rounding after each step that is this project's own.
+//! `specs/` has the recursions as definitions on ends, the exact moments and fields, and the laws between them. The formulas are scaled by
+//! the side, with a rounding after each step.
 #![tactic(auto)]
 
 mod law;

@@ -1,9 +1,10 @@
 //! Places of the program's points in its cells, as the recursions take them.
-ghost use Rattle.std.specs.Prelude.{◌≡◌, ◌*◌, ◌^◌, ◌≤◌, pos, ◌≤ℤ◌};
+ghost use Rattle.std.specs.Prelude.{◌≡◌, ◌+◌, ◌*◌, ◌^◌, ◌≤◌, pos, ◌≤ℤ◌};
 ghost use Rattle.exact_math.specs.Gaussian.{gaussian, norm_gaussian, conj, scale_gaussian};
 ghost use Rattle.exact_math.specs.Within.{Within, GaussianWithin, GaussianBeyond};
 ghost use Rattle.complex_box.specs.Box.{box_ends, number, BoxWithin};
-ghost use Rattle.points.specs.Limits.{InGrid};
+ghost use Rattle.limits.specs.Grid.{IsInGrid};
+ghost use Rattle.limits.specs.Limits.{most_strength, widest_grid};
 ghost use Rattle.row_recursions.specs.Cells.{side_of, offset_from};
 ghost use Rattle.row_recursions.specs.Rows.{units_box};
 
@@ -13,25 +14,25 @@ use complex_box::{CBox, Gauss, UNIT};
 /// The number of bits by which the side is 1 shifted.
 pub fn side_bits(cell: Cell) -> u32
     ensures side { 2 ^ result ≡ side_of cell }
-    ensures small { result ≤ 16 }
+    ensures small { result ≤ widest_grid }
 {
-    16 - u32::from(cell.level)
+    u32::from(cell.grid - cell.level)
 }
 
-/// Twice the offset of a place from the centre of a cell. Condition: the place is in the grid.
+/// Twice the offset of a place from the centre of a cell. Condition: the place is in the cell's grid.
 pub fn offset(cell: Cell, x: i64, y: i64) -> Gauss
-    requires { InGrid x y }
+    requires { IsInGrid cell.grid x y }
     ensures value { number result ≡ offset_from cell (gaussian x y) }
-    ensures size { GaussianWithin (2 ^ 17) (number result) }
+    ensures size { GaussianWithin (2 ^ (widest_grid + 1)) (number result) }
 {
     let (re, im) = cell.offset(x, y);
     Gauss { re, im }
 }
 
-/// The box of a strength, in units. Condition: both parts are at most 2^20 in size.
+/// The box of a strength, in units. Condition: both parts are within their limit.
 pub fn units(re: i64, im: i64) -> CBox
-    requires re { Within (2 ^ 20) re }
-    requires im { Within (2 ^ 20) im }
+    requires re { Within most_strength re }
+    requires im { Within most_strength im }
     ensures ends { box_ends result ≡ units_box (gaussian re im) }
     ensures size { BoxWithin (2 ^ 60) result }
 {
@@ -46,16 +47,17 @@ pub struct FarRatio {
 }
 
 /// The factor of a step of a far source or a far target with the doubled offset `zeta` from the centre of a cell of side `2^bits`.
-/// Conditions: `bits` is at most 16, both parts of `zeta` are at most 2^17 in size, and one is at least 3 sides.
+/// Conditions: `bits` is at most that of the widest grid, both parts of `zeta` are at most twice that grid's side in size, and one is at
+/// least 3 sides.
 pub fn far_ratio(zeta: Gauss, bits: u32) -> FarRatio
-    requires bits { bits ≤ 16 }
-    requires size { GaussianWithin (2 ^ 17) (number zeta) }
+    requires bits { bits ≤ widest_grid }
+    requires size { GaussianWithin (2 ^ (widest_grid + 1)) (number zeta) }
     requires far { GaussianBeyond (3 * 2 ^ bits) (number zeta) }
     ensures factor { number result.factor ≡ conj (scale_gaussian (2 * 2 ^ bits) (number zeta)) }
-    ensures small { GaussianWithin (2 ^ 34) (number result.factor) }
+    ensures small { GaussianWithin (2 ^ (2 * widest_grid + 2)) (number result.factor) }
     ensures divisor { result.divisor ≡ norm_gaussian (number zeta) }
     ensures positive { pos 1 ≤ℤ result.divisor }
-    ensures most { result.divisor ≤ℤ pos (2 ^ 35) }
+    ensures most { result.divisor ≤ℤ pos (2 ^ (2 * widest_grid + 3)) }
 {
     let double = 2i64 << bits;
     let re = i128::from(zeta.re);

@@ -20,6 +20,7 @@ pub const SMALL: Cell = Cell {
     level: 16,
     i: 32768,
     j: 32768,
+    grid: 16,
 };
 
 /// The cell of side 4 that holds it.
@@ -27,6 +28,7 @@ pub const LARGE: Cell = Cell {
     level: 14,
     i: 8192,
     j: 8192,
+    grid: 16,
 };
 
 /// The quadrant of each cell from the small one up to the large one.

@@ -98,6 +98,7 @@ fn far_cell(rt: HostRuntime) -> Result<(), Fail> {
         level: 16,
         i: 32770,
         j: 32768,
+        grid: 16,
     };
     assert_eq!(rt;
         ends(at_local::<4>(Row::new(&row), cell, 2, 0)),

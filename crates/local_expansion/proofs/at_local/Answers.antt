@@ -5,9 +5,8 @@ use Rattle.exact_math.specs.Within.{GaussianWithin}
 use Rattle.row_recursions.specs.Cells.{side_of, centre_of, offset_from}
 use Rattle.row_recursions.specs.Rows.{row_of, local_value}
 use Rattle.row_recursions.proofs.FieldLaws.{local_values}
-use Rattle.row_recursions.proofs.Points.{side_positive, offset_within}
+use Rattle.row_recursions.proofs.Points.{held_in_grid, side_positive, offset_within}
 use Rattle.row_recursions.proofs.RowSizes.{local_value_within}
-use Rattle.local_expansion.proofs.Places.{held_in_grid}
 use Rattle.local_expansion.proofs.at_local.Goals as goal
 
 pub offset-requires : goal.offset-requires

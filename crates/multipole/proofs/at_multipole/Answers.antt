@@ -16,7 +16,7 @@ value_at-requires g c =
     let f = c.ranges.x in
     let h = c.ranges.y in
     let e = simp to_z-of_z at c.offset.ensures.value in
-    (lit< tt, (c.requires.order, (c.side_bits.ensures.small, (c.offset.ensures.size, (subst₂ (λ n z. GaussianBeyond (3 * n) z) (sym c.side_bits.ensures.side) (sym e) c.requires.far, c.requires.size)))))
+    (lit< tt, (c.side_bits.ensures.small, (c.offset.ensures.size, (subst₂ (λ n z. GaussianBeyond (3 * n) z) (sym c.side_bits.ensures.side) (sym e) c.requires.far, c.requires.size))))
 
 pub returns-clause-ends : goal.returns-clause-ends
 returns-clause-ends g c =

@@ -4,6 +4,7 @@ use Rattle.exact_math.specs.Ends.{BoxEndsWithin, add_box, quot_box}
 use Rattle.exact_math.specs.Gaussian.{gaussian}
 use Rattle.complex_box.specs.Box.{box_ends}
 use Rattle.complex_box.proofs.Sizes.{quot_box_within}
+use Rattle.points.proofs.Ranges.{range_in_widest}
 use Rattle.points.specs.Points.{place}
 use Rattle.points.specs.Strength.{pole_part, dipole_part}
 use Rattle.row_recursions.specs.Cells.{side_of, offset_from}
@@ -16,14 +17,14 @@ use Rattle.local_expansion.proofs.sources.add_far.Goals as goal
 
 pub add_poles-requires-clause-far : goal.add_poles-requires-clause-far
 add_poles-requires-clause-far c =
-    let f = grid_fits c.args.p.now.x c.args.p.now.y c.requires.range.grid in
+    let f = grid_fits c.args.p.now.x c.args.p.now.y (range_in_widest c.args.cell.grid c.args.p.now c.args.cell.known_grid c.requires.range).place in
     let g = f.0 in
     let h = f.1 in
     far_here _ _ _ _ (side_positive c.args.cell) c.side_bits-s.ensures.side (simp to_z-of_z at c.offset-zeta.ensures.value) c.requires.far
 
 pub add_dipoles-requires-clause-far : goal.add_dipoles-requires-clause-far
 add_dipoles-requires-clause-far c =
-    let f = grid_fits c.args.p.now.x c.args.p.now.y c.requires.range.grid in
+    let f = grid_fits c.args.p.now.x c.args.p.now.y (range_in_widest c.args.cell.grid c.args.p.now c.args.cell.known_grid c.requires.range).place in
     let g = f.0 in
     let h = f.1 in
     far_here _ _ _ _ (side_positive c.args.cell) c.side_bits-s.ensures.side (simp to_z-of_z at c.offset-zeta.ensures.value) c.requires.far
@@ -35,7 +36,7 @@ add_dipoles-requires-clause-size c =
 
 pub returns-in-Pole-clause-adds : goal.returns-in-Pole-clause-adds
 returns-in-Pole-clause-adds c = λ l h.
-    let f = grid_fits c.args.p.now.x c.args.p.now.y c.requires.range.grid in
+    let f = grid_fits c.args.p.now.x c.args.p.now.y (range_in_widest c.args.cell.grid c.args.p.now c.args.cell.known_grid c.requires.range).place in
     let g = f.0 in
     let i = f.1 in
     c.add_poles.ensures.poles l h
@@ -45,7 +46,7 @@ returns-in-Pole-clause-adds c = λ l h.
 
 pub returns-in-Dipole-clause-adds : goal.returns-in-Dipole-clause-adds
 returns-in-Dipole-clause-adds c = λ l h.
-    let f = grid_fits c.args.p.now.x c.args.p.now.y c.requires.range.grid in
+    let f = grid_fits c.args.p.now.x c.args.p.now.y (range_in_widest c.args.cell.grid c.args.p.now c.args.cell.known_grid c.requires.range).place in
     let g = f.0 in
     let i = f.1 in
     c.add_dipoles.ensures.dipoles l h
@@ -55,7 +56,7 @@ returns-in-Dipole-clause-adds c = λ l h.
 
 pub returns-in-Nothing-clause-adds : goal.returns-in-Nothing-clause-adds
 returns-in-Nothing-clause-adds c = λ l h.
-    let f = grid_fits c.args.p.now.x c.args.p.now.y c.requires.range.grid in
+    let f = grid_fits c.args.p.now.x c.args.p.now.y (range_in_widest c.args.cell.grid c.args.p.now c.args.cell.known_grid c.requires.range).place in
     let g = f.0 in
     let i = f.1 in
     sym (zero_right (row_of c.args.into.now l))

@@ -9,21 +9,28 @@ use Rattle.points.specs.Strength.{pole_part, dipole_part}
 use Rattle.truncation.specs.Places.{doubled_offset}
 use Rattle.row_recursions.specs.Cells.{side_of, centre_of}
 use Rattle.row_recursions.specs.Rows.{source_moment}
-use Rattle.row_recursions.proofs.Points.{grid_fits, offset_within, side_positive, units_fit}
+use Rattle.row_recursions.proofs.Points.{grid_fits, held_in_grid, offset_within, side_positive, units_fit}
 use Rattle.complex_box.specs.Rows.{zero_cbox}
 use Rattle.multipole.proofs.SourcePowers.{power_le, near_next, pole_moments, dipole_moments, none_alone}
 use Rattle.multipole.proofs.moments.fill_moments.Goals as goal
 
+pub offset-o-requires : goal.offset-o-requires
+offset-o-requires c =
+    let f = grid_fits c.args.p.now.x c.args.p.now.y c.requires.range.place in
+    let g = f.0 in
+    let h = f.1 in
+    simp to_z-of_z (held_in_grid c.args.cell c.args.p.now.x c.args.p.now.y c.requires.inside)
+
 pub fill_powers-requires-clause-near : goal.fill_powers-requires-clause-near
 fill_powers-requires-clause-near c =
-    let f = grid_fits c.args.p.now.x c.args.p.now.y c.requires.range.grid in
+    let f = grid_fits c.args.p.now.x c.args.p.now.y c.requires.range.place in
     let g = f.0 in
     let h = f.1 in
     near_next _ _ _ _ c.side_bits-s.ensures.side (simp to_z-of_z at c.offset-o.ensures.value) (offset_within c.args.cell _ _ c.requires.inside)
 
 pub fill_slopes-requires-clause-near : goal.fill_slopes-requires-clause-near
 fill_slopes-requires-clause-near c =
-    let f = grid_fits c.args.p.now.x c.args.p.now.y c.requires.range.grid in
+    let f = grid_fits c.args.p.now.x c.args.p.now.y c.requires.range.place in
     let g = f.0 in
     let h = f.1 in
     near_next _ _ _ _ c.side_bits-s.ensures.side (simp to_z-of_z at c.offset-o.ensures.value) (offset_within c.args.cell _ _ c.requires.inside)
@@ -35,7 +42,7 @@ fill_slopes-requires-clause-size c =
 
 pub returns-in-Pole-clause-moments : goal.returns-in-Pole-clause-moments
 returns-in-Pole-clause-moments c = λ k h.
-    let f = grid_fits c.args.p.now.x c.args.p.now.y c.requires.range.grid in
+    let f = grid_fits c.args.p.now.x c.args.p.now.y c.requires.range.place in
     let g = f.0 in
     let i = f.1 in
     c.fill_powers.ensures.powers k h
@@ -44,7 +51,7 @@ returns-in-Pole-clause-moments c = λ k h.
 
 pub returns-in-Dipole-clause-moments : goal.returns-in-Dipole-clause-moments
 returns-in-Dipole-clause-moments c = λ k h.
-    let f = grid_fits c.args.p.now.x c.args.p.now.y c.requires.range.grid in
+    let f = grid_fits c.args.p.now.x c.args.p.now.y c.requires.range.place in
     let g = f.0 in
     let i = f.1 in
     c.fill_slopes.ensures.slopes k h

@@ -1,27 +1,27 @@
 use Rattle.std.proofs.Common.{◌≡◌, ◌∙◌, ap₂, arith, to_z-of_z, SFits, w64, ◌*ℤ◌}
 use Rattle.std.proofs.lemmas.Int.{ints}
-use Rattle.near_field.proofs.TermSizes.{small_product, same_fraction, dipole_re, dipole_im, across_is, across_within, twice_is, twice_within, fits_33, wide_square}
+use Rattle.near_field.proofs.TermSizes.{small_product, same_fraction, dipole_re, dipole_im, across_is, across_within, twice_is, twice_within, norm_fits, wide_square}
 use Rattle.near_field.proofs.term.dipole_over.Goals as goal
 
 pub sum_of_products-requires-clause-first : goal.sum_of_products-requires-clause-first
 sum_of_products-requires-clause-first c =
     let w = across_within _ _ c.requires.distance.0 c.requires.distance.1 (across_is c.ranges.dx c.ranges.dy c.difference_of_products-across.ensures.value) in
-    small_product _ _ c.ranges.re (fits_33 _ w) c.requires.dipole.0 w (omega arith)
+    small_product _ _ c.ranges.re (norm_fits _ w) c.requires.dipole.0 w (omega arith)
 
 pub sum_of_products-requires-clause-second : goal.sum_of_products-requires-clause-second
 sum_of_products-requires-clause-second c =
     let w = twice_within _ _ c.requires.distance.0 c.requires.distance.1 (twice_is c.ranges.dx c.ranges.dy c.sum_of_products-twice.ensures.value) in
-    small_product _ _ c.ranges.im (fits_33 _ w) c.requires.dipole.1 w (omega arith)
+    small_product _ _ c.ranges.im (norm_fits _ w) c.requires.dipole.1 w (omega arith)
 
 pub difference_of_products-requires-clause-first : goal.difference_of_products-requires-clause-first
 difference_of_products-requires-clause-first c =
     let w = across_within _ _ c.requires.distance.0 c.requires.distance.1 (across_is c.ranges.dx c.ranges.dy c.difference_of_products-across.ensures.value) in
-    small_product _ _ c.ranges.im (fits_33 _ w) c.requires.dipole.1 w (omega arith)
+    small_product _ _ c.ranges.im (norm_fits _ w) c.requires.dipole.1 w (omega arith)
 
 pub difference_of_products-requires-clause-second : goal.difference_of_products-requires-clause-second
 difference_of_products-requires-clause-second c =
     let w = twice_within _ _ c.requires.distance.0 c.requires.distance.1 (twice_is c.ranges.dx c.ranges.dy c.sum_of_products-twice.ensures.value) in
-    small_product _ _ c.ranges.re (fits_33 _ w) c.requires.dipole.0 w (omega arith)
+    small_product _ _ c.ranges.re (norm_fits _ w) c.requires.dipole.0 w (omega arith)
 
 pub returns : goal.returns
 returns c =
@@ -31,8 +31,8 @@ returns c =
     let b = c.ranges.im in
     let d = c.ranges.dx in
     let e = c.ranges.dy in
-    let x = fits_33 _ (across_within _ _ c.requires.distance.0 c.requires.distance.1 across) in
-    let y = fits_33 _ (twice_within _ _ c.requires.distance.0 c.requires.distance.1 twice) in
+    let x = norm_fits _ (across_within _ _ c.requires.distance.0 c.requires.distance.1 across) in
+    let y = norm_fits _ (twice_within _ _ c.requires.distance.0 c.requires.distance.1 twice) in
     let r = simp (across, twice) at (simp to_z-of_z at c.sum_of_products.ensures.value) in
     let s = simp (across, twice) at (simp to_z-of_z at c.difference_of_products.ensures.value) in
     let n = simp to_z-of_z at c.norm-size.ensures.value in

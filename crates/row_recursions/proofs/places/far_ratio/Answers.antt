@@ -1,7 +1,8 @@
-use Rattle.std.proofs.Common.{◌^◌, pos, ◌≤ℤ◌, sym, subst, arith}
+use Rattle.std.proofs.Common.{◌+◌, ◌*◌, ◌^◌, pos, ◌≤ℤ◌, sym, subst, arith}
 use Rattle.std.proofs.lemmas.Int.{ints}
 use Rattle.exact_math.specs.Within.{GaussianWithin}
 use Rattle.complex_box.specs.Box.{number}
+use Rattle.limits.specs.Limits.{widest_grid}
 use Rattle.row_recursions.proofs.FarPlaces.{negative_fits, factor_is, factor_within, norm_fits, norm_is, norm_most}
 use Rattle.row_recursions.proofs.RowSizes.{far_norm_positive, power_positive}
 use Rattle.row_recursions.proofs.places.far_ratio.Goals as goal
@@ -16,7 +17,7 @@ pub returns-clause-factor : goal.returns-clause-factor
 returns-clause-factor c = factor_is c.args.bits (number c.args.zeta) c.requires.bits c.requires.size
 
 pub returns-clause-small : goal.returns-clause-small
-returns-clause-small c = subst (GaussianWithin (2 ^ 34)) (sym (returns-clause-factor c)) (factor_within c.args.bits (number c.args.zeta) c.requires.bits c.requires.size)
+returns-clause-small c = subst (GaussianWithin (2 ^ (2 * widest_grid + 2))) (sym (returns-clause-factor c)) (factor_within c.args.bits (number c.args.zeta) c.requires.bits c.requires.size)
 
 pub returns-clause-divisor : goal.returns-clause-divisor
 returns-clause-divisor c = norm_is c.from-re.result c.from-im.result c.args.zeta.re c.args.zeta.im (omega (arith, ints, c.from-re.ensures)) (omega (arith, ints, c.from-im.ensures)) c.requires.size.re c.requires.size.im
@@ -25,4 +26,4 @@ pub returns-clause-positive : goal.returns-clause-positive
 returns-clause-positive c = subst (λ z. pos 1 ≤ℤ z) (sym (returns-clause-divisor c)) (far_norm_positive (2 ^ c.args.bits) (number c.args.zeta) (power_positive c.args.bits) c.requires.far)
 
 pub returns-clause-most : goal.returns-clause-most
-returns-clause-most c = subst (λ z. z ≤ℤ pos (2 ^ 35)) (sym (returns-clause-divisor c)) (norm_most c.args.zeta.re c.args.zeta.im c.requires.size.re c.requires.size.im)
+returns-clause-most c = subst (λ z. z ≤ℤ pos (2 ^ (2 * widest_grid + 3))) (sym (returns-clause-divisor c)) (norm_most c.args.zeta.re c.args.zeta.im c.requires.size.re c.requires.size.im)

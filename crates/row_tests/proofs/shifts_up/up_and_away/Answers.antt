@@ -19,7 +19,7 @@ take_up-requires g c = (
         λ k h. search rules,
         (
           has_all 4 (row_of (replicate 4 c.zero-row.result)) _ _ c.shift_up.ensures.adds (λ k h. ap box_ends (get_or-replicate 4 k c.zero-row.result zero_cbox h) ∙ c.zero-row.ensures.ends),
-          omega (arith, c.shift_up.ensures.translations, c.new-work.ensures.translations),
+          omega (arith, c.shift_up.ensures.work.translations, c.new-work.ensures.translations),
         ),
       ),
     ),
