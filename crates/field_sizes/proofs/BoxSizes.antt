@@ -48,7 +48,7 @@ values_of : (P w : ℕ) → P * (2 ^ 40 * w) ≤ P * 2 ^ 40 * w
 values_of P w = omega arith
 
 -- all parts of a box together
-all_parts : (P w : ℕ) → P ≤ 32 → P * (2 ^ 46 * w) + (P * 2 ^ 40 * w + 2 ^ 40 * w) + (2 ^ 46 * w + 2 ^ 40 * w) ≤ 2 ^ 52 * w
+all_parts : (P w : ℕ) → P ≤ 32 → P * (2 ^ 46 * w) + (P * 2 ^ 40 * w + 2 ^ 40 * w) + (2 ^ 46 * w + 2 ^ 40 * w) ≤ 3 * 2 ^ 50 * w
 all_parts P w h =
     let a = mul-le-mul_right (2 ^ 40 * w) h in
     let b = mul-le-mul_right (2 ^ 46 * w) h in
@@ -94,8 +94,8 @@ module _ (apart : EntriesShareNoSource) (points : List Point) (cap P : ℕ) (lis
     abbrev in_radius : ℕ
     in_radius = 2 ^ 46 * total_weight points + 2 ^ 40 * total_weight points
 
-    pub box_in-within : BoxEndsWithin (2 ^ 52 * total_weight points) (box_in points cap P lists b z)
-    box_in-within = box_wider (in_rows + in_radius) (2 ^ 52 * total_weight points) _ (all_parts P (total_weight points) few)
+    pub box_in-within : BoxEndsWithin (3 * 2 ^ 50 * total_weight points) (box_in points cap P lists b z)
+    box_in-within = box_wider (in_rows + in_radius) (3 * 2 ^ 50 * total_weight points) _ (all_parts P (total_weight points) few)
         (widen_box_within in_rows in_radius
         (add_box (local_value_at points cap P lists b z) (add_box (multipole_values_at points cap P lists b z) (pairs_at points cap P lists b z))) (pos (radius_in points cap P lists b))
         (add_box_within (P * (2 ^ 46 * total_weight points)) (P * 2 ^ 40 * total_weight points + 2 ^ 40 * total_weight points) (local_value_at points cap P lists b z) (add_box (multipole_values_at points cap P lists b z) (pairs_at points cap P lists b z)) local_value-within
@@ -109,6 +109,6 @@ box_sizes apart points cap P lists order limited =
     All-from_members (λ t. BoxEndsWithin (most_box lists.grid) (target_box points cap P lists (place t))) (targets points) (λ t h.
     let listed = (Contains-filter _ points t h).0 in
     let are = limited.lists_are.cells_are in
-    box_wider (2 ^ 52 * total_weight points) (most_box lists.grid) (target_box points cap P lists (place t)) (box_limit lists.grid (total_weight points) limited.known_grid limited.light)
+    box_wider (3 * 2 ^ 50 * total_weight points) (most_box lists.grid) (target_box points cap P lists (place t)) (box_limit lists.grid (total_weight points) limited.known_grid limited.light)
     (box_in-within apart points cap P lists (omega arith) limited (leaf_at points cap lists.grid (place t)) t
     (leaf_is lists.grid points cap lists.cells positive limited.in_grid are t listed) (leaf_holds lists.grid points cap lists.cells positive limited.in_grid are t listed)))

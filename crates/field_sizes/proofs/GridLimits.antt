@@ -12,5 +12,5 @@ multipole_limit grid w is = by_grids (λ g. w ≤ most_weight g → 2 ^ 40 * w �
 pub local_limit : (grid w : ℕ) → IsGrid grid → w ≤ most_weight grid → 2 ^ 46 * w ≤ most_local grid
 local_limit grid w is = by_grids (λ g. w ≤ most_weight g → 2 ^ 46 * w ≤ most_local g) grid is (λ light. omega arith) (λ light. omega arith)
 
-pub box_limit : (grid w : ℕ) → IsGrid grid → w ≤ most_weight grid → 2 ^ 52 * w ≤ most_box grid
-box_limit grid w is = by_grids (λ g. w ≤ most_weight g → 2 ^ 52 * w ≤ most_box g) grid is (λ light. omega arith) (λ light. omega arith)
+pub box_limit : (grid w : ℕ) → IsGrid grid → w ≤ most_weight grid → 3 * 2 ^ 50 * w ≤ most_box grid
+box_limit grid w is = by_grids (λ g. w ≤ most_weight g → 3 * 2 ^ 50 * w ≤ most_box g) grid is (λ light. omega arith) (λ light. omega arith)
