@@ -96,7 +96,10 @@ fn cells_apart(rt: HostRuntime) -> Result<(), Fail> {
     let v = tree_of(alloc, &[NINE_CHARGES, (9, "target 2 0\n")])?;
     assert_eq!(rt; v.cells().len(), 19);
     assert_eq!(rt;
-        (v.find(Cell::of(2, 0, 16, 16)), v.find(Cell::of(0, 0, 16, 16))),
+        (
+            v.find(Cell::of(2, 0, 16, 16)),
+            v.find(Cell::of(0, 0, 16, 16))
+        ),
         (Some(18), Some(17))
     );
     lists_are(&rt, alloc, &v, [0, 1, 0, 0], 18, [&[], &[17], &[], &[]])?;
