@@ -1,12 +1,13 @@
 -- Numbers, levels and parents of a tree's cells.
-use Rattle.std.proofs.Common.{ℕ, ◌≡◌, ◌-◌, ◌<◌, ◌≤◌, inl, inr, List, sym, ap, ◌∙◌, subst, arith, lit<}
+use Rattle.std.proofs.Common.{ℕ, ◌≡◌, ◌-◌, ◌<◌, ◌≤◌, inl, inr, List, sym, ap, ◌∙◌, subst, arith}
 use Rattle.std.specs.Prelude.{AllPairs, Contains, IsTrue, Bool, ◌↔◌}
 use Rattle.std.proofs.lemmas.Bool.{cases_lt}
 use Rattle.std.proofs.lemmas.List.{get_or_default, length-map}
+use Rattle.limits.proofs.Grids.{grid_positive}
 use Rattle.points.specs.declared.Point.{Point}
 use Rattle.cell_name.specs.Cell.{square}
 use Rattle.cell_name.specs.Order.{IsBefore}
-use Rattle.cell_name.specs.Square.{Square, root, parent, Touches}
+use Rattle.cell_name.specs.Square.{Square, no_square, root, parent, Touches}
 use Rattle.cell_name.proofs.Order.{IsBefore-irrefl}
 use Rattle.quadtree.specs.Tree.{IsTreeCell}
 use Rattle.quadtree.specs.TreeModel.{TreeModel, size, squares, square_of, node_of, HasParent, IsTree}
@@ -15,11 +16,11 @@ use Rattle.quadtree.proofs.TreeChildren.{tree_cell_at}
 
 -- a listed cell has a number
 pub number_listed : (tree : TreeModel) (s : Square) → Contains (squares tree) s → (n : ℕ) × (n < size tree) × (square_of tree n ≡ s)
-number_listed tree s h = (h.0, omega (arith, h.1, length-map tree.cells square), get_or_default (squares tree) h.0 (root 16) s h.1 ∙ h.2)
+number_listed tree s h = (h.0, omega (arith, h.1, length-map tree.cells square), get_or_default (squares tree) h.0 no_square s h.1 ∙ h.2)
 
 -- of two numbers the smaller is that of the earlier cell
 pub number_before : (tree : TreeModel) → AllPairs IsBefore (squares tree) → (m n : ℕ) → m < n → n < size tree → IsBefore (square_of tree m) (square_of tree n)
-number_before tree up m n lt hi = up m n (root 16) lt (omega (arith, length-map tree.cells square))
+number_before tree up m n lt hi = up m n no_square lt (omega (arith, length-map tree.cells square))
 
 -- a cell has one number
 pub same_number : (tree : TreeModel) → AllPairs IsBefore (squares tree) → (m n : ℕ) → m < size tree → n < size tree → square_of tree m ≡ square_of tree n → m ≡ n
@@ -38,7 +39,7 @@ level_in_grid tree h n lt =
     let c = tree_cell_at tree h.points h.cap n h.is_tree lt in
     omega (arith, c.of_grid, c.level_in_grid)
 
-pub level_at_most : (tree : TreeModel) → IsTree tree → (n : ℕ) → n < size tree → (square_of tree n).level ≤ 16
+pub level_at_most : (tree : TreeModel) → IsTree tree → (n : ℕ) → n < size tree → (square_of tree n).level ≤ tree.grid
 level_at_most tree h n lt = (tree_cell_at tree h.points h.cap n h.is_tree lt).level_in_grid
 
 -- a cell of level 0 is the whole grid
@@ -51,7 +52,7 @@ level_positive tree h n lo hi =
     elim (cases_lt 0 (square_of tree n).level) [
       | inl lt ↦ lt
       | inr zero ↦
-          let e = level_zero_root 16 h.points h.cap (square_of tree n) (tree_cell_at tree h.points h.cap n h.is_tree hi) zero in
+          let e = level_zero_root tree.grid h.points h.cap (square_of tree n) (tree_cell_at tree h.points h.cap n h.is_tree hi) zero in
           let i : (square_of tree n).i ≡ 0 = ap (λ (s : Square). s.i) e in
           let j : (square_of tree n).j ≡ 0 = ap (λ (s : Square). s.j) e in
           let before = number_before tree h.is_tree.cells_are.ascending 0 n lo hi in
@@ -71,7 +72,7 @@ first_level tree h lt =
       | inr zero ↦ omega arith
       | inl lo ↦
           let cell = tree_cell_at tree h.points h.cap 0 h.is_tree lt in
-          let up = number_listed tree (parent (square_of tree 0)) (h.is_tree.cells_are.whole (parent (square_of tree 0)) (IsTreeCell-parent 16 h.points h.cap (square_of tree 0) (lit< tt) h.in_grid cell lo)) in
+          let up = number_listed tree (parent (square_of tree 0)) (h.is_tree.cells_are.whole (parent (square_of tree 0)) (IsTreeCell-parent tree.grid h.points h.cap (square_of tree 0) (grid_positive tree.grid h.is_tree.known_grid) h.in_grid cell lo)) in
           let level : (square_of tree up.0).level ≡ (square_of tree 0).level - 1 = ap (λ (s : Square). s.level) up.2 in
           elim (cases_lt 0 up.0) [
             | inl after ↦ elim (number_before tree h.is_tree.cells_are.ascending 0 up.0 after up.1).before [ inl less ↦ absurd (omega (arith, less, level, lo)) | inr rest ↦ absurd (omega (arith, rest.0, level, lo)) ]
@@ -83,7 +84,7 @@ first_level tree h lt =
 pub parent_number : (tree : TreeModel) → IsTree tree → (c : ℕ) → c < size tree → 0 < (square_of tree c).level → (p : ℕ) × (p < size tree) × (square_of tree p ≡ parent (square_of tree c))
 parent_number tree h c lt lo =
     let cell = tree_cell_at tree h.points h.cap c h.is_tree lt in
-    number_listed tree (parent (square_of tree c)) (h.is_tree.cells_are.whole (parent (square_of tree c)) (IsTreeCell-parent 16 h.points h.cap (square_of tree c) (lit< tt) h.in_grid cell lo))
+    number_listed tree (parent (square_of tree c)) (h.is_tree.cells_are.whole (parent (square_of tree c)) (IsTreeCell-parent tree.grid h.points h.cap (square_of tree c) (grid_positive tree.grid h.is_tree.known_grid) h.in_grid cell lo))
 
 -- what the tree names as the parent is the parent, and comes before
 pub record IsParentOf (tree : TreeModel) (b p : ℕ) : Type 0 where

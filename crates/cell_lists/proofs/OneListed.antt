@@ -1,6 +1,7 @@
 -- Exactly one entry of the lists accounts for each pair of a target and a source.
-use Rattle.std.proofs.Common.{◌<◌, sym, ◌∙◌, subst, lit<}
+use Rattle.std.proofs.Common.{◌<◌, sym, ◌∙◌, subst}
 use Rattle.std.proofs.lemmas.List.Elements.{All-contains}
+use Rattle.limits.proofs.Grids.{grid_positive}
 use Rattle.cell_name.specs.Square.{Square}
 use Rattle.quadtree.specs.TreeModel.{TreeModel, size, square_of}
 use Rattle.cell_lists.specs.Entries.{IsEntry, Accounts}
@@ -12,12 +13,12 @@ use Rattle.cell_lists.proofs.OneEntry.{in_tree_of, each_pair_has_one_entry}
 
 pub each_pair_has_one_listed : (tree : TreeModel) (lists : EntryListsModel) → AreLists tree lists → EachPairHasOneListed tree lists
 each_pair_has_one_listed tree lists are points cap inside h target source given =
-    let o = each_pair_has_one_entry 16 points cap target source (lit< tt) inside given in
-    let cells = in_tree_of 16 points cap o.letter o.b o.c o.entry.pair in
+    let o = each_pair_has_one_entry tree.grid points cap target source (grid_positive tree.grid h.known_grid) inside given in
+    let cells = in_tree_of tree.grid points cap o.letter o.b o.c o.entry.pair in
     let nb = number_listed tree o.b (h.cells_are.whole o.b cells.0) in
     let nc = number_listed tree o.c (h.cells_are.whole o.c cells.1) in
-    let P : Square → Type 0 = λ s. IsEntry 16 points cap o.letter s o.c in
-    let Q : Square → Type 0 = λ s. IsEntry 16 points cap o.letter (square_of tree nb.0) s in
+    let P : Square → Type 0 = λ s. IsEntry tree.grid points cap o.letter s o.c in
+    let Q : Square → Type 0 = λ s. IsEntry tree.grid points cap o.letter (square_of tree nb.0) s in
     let R : Square → Type 0 = λ s. Accounts s o.c target source in
     let S : Square → Type 0 = λ s. Accounts (square_of tree nb.0) s target source in
     record {

@@ -32,8 +32,8 @@ pub record IsEarly (met : List ℕ) (count c : ℕ) : Type 0 where
 
 -- of the first cells that were met, those that are entries
 pub record ArePicked (tree : TreeModel) (points : List Point) (cap : ℕ) (letter : Letter) (b : ℕ) (met : List ℕ) (count : ℕ) (cells : List ℕ) : Type 0 where
-  pub sound : (c : ℕ) → Contains cells c → IsEntry 16 points cap letter (square_of tree b) (square_of tree c)
-  pub whole : (k : ℕ) → k < count → IsEntry 16 points cap letter (square_of tree b) (square_of tree (slice_index met k)) → Contains cells (slice_index met k)
+  pub sound : (c : ℕ) → Contains cells c → IsEntry tree.grid points cap letter (square_of tree b) (square_of tree c)
+  pub whole : (k : ℕ) → k < count → IsEntry tree.grid points cap letter (square_of tree b) (square_of tree (slice_index met k)) → Contains cells (slice_index met k)
 
 pub record PicksTo (tree : TreeModel) (letter : Letter) (b : ℕ) (met : List ℕ) (count : ℕ) (cells : List ℕ) : Type 0 where
   pub numbers : AreNumbers tree cells
@@ -68,7 +68,7 @@ increasing_push xs y up above k lt =
     ]
 
 -- the next cell is no entry
-pub picks_skip : (tree : TreeModel) (letter : Letter) (b : ℕ) (met : List ℕ) (count : ℕ) (cells : List ℕ) → OfEachList tree (λ points cap. IsEntry 16 points cap letter (square_of tree b) (square_of tree (slice_index met count)) → ⊥) → PicksTo tree letter b met count cells → PicksTo tree letter b met (count + 1) cells
+pub picks_skip : (tree : TreeModel) (letter : Letter) (b : ℕ) (met : List ℕ) (count : ℕ) (cells : List ℕ) → OfEachList tree (λ points cap. IsEntry tree.grid points cap letter (square_of tree b) (square_of tree (slice_index met count)) → ⊥) → PicksTo tree letter b met count cells → PicksTo tree letter b met (count + 1) cells
 picks_skip tree letter b met count cells none h =
     record {
       numbers = h.numbers;
@@ -83,14 +83,14 @@ picks_skip tree letter b met count cells none h =
                   | inl before ↦ p.whole k before entry
                   | inr here ↦
                       let at : k ≡ count = omega arith in
-                      let P : ℕ → Type 0 = λ n. IsEntry 16 points cap letter (square_of tree b) (square_of tree (slice_index met n)) in
+                      let P : ℕ → Type 0 = λ n. IsEntry tree.grid points cap letter (square_of tree b) (square_of tree (slice_index met n)) in
                       absurd (none points cap inside is (subst P at entry))
                 ];
           };
     }
 
 -- the next cell is an entry, and goes to the end
-pub picks_push : (tree : TreeModel) (letter : Letter) (b : ℕ) (met : List ℕ) (count n : ℕ) (cells cells' : List ℕ) → OfEachList tree (λ points cap. IsEntry 16 points cap letter (square_of tree b) (square_of tree n)) → slice_index met count ≡ n → n < size tree → count < length met → IsStrictlyIncreasing met → cells' ≡ cells ++ n ∷ [] → PicksTo tree letter b met count cells → PicksTo tree letter b met (count + 1) cells'
+pub picks_push : (tree : TreeModel) (letter : Letter) (b : ℕ) (met : List ℕ) (count n : ℕ) (cells cells' : List ℕ) → OfEachList tree (λ points cap. IsEntry tree.grid points cap letter (square_of tree b) (square_of tree n)) → slice_index met count ≡ n → n < size tree → count < length met → IsStrictlyIncreasing met → cells' ≡ cells ++ n ∷ [] → PicksTo tree letter b met count cells → PicksTo tree letter b met (count + 1) cells'
 picks_push tree letter b met count n cells cells' entry_is at_count in_tree inside_met up grown h =
     let P : List ℕ → Type 0 = λ l. PicksTo tree letter b met (count + 1) l in
     let before_n : (x : ℕ) → Contains cells x → x < n = λ x listed. let e = h.early x listed in omega (arith, AllPairs-from_increasing met up e.at count 0 e.before inside_met, e.here, at_count) in
@@ -108,7 +108,7 @@ picks_push tree letter b met count n cells cells' entry_is at_count in_tree insi
             sound = λ c listed.
                 elim (Contains-push_cases cells n c listed) [
                   | inl old ↦ p.sound c old
-                  | inr new ↦ let Q : ℕ → Type 0 = λ v. IsEntry 16 points cap letter (square_of tree b) (square_of tree v) in subst Q new (entry_is points cap inside is)
+                  | inr new ↦ let Q : ℕ → Type 0 = λ v. IsEntry tree.grid points cap letter (square_of tree b) (square_of tree v) in subst Q new (entry_is points cap inside is)
                 ];
             whole = λ k lt entry.
                 elim (cases_lt k count) [
@@ -133,7 +133,7 @@ picks_all tree letter b met count cells all meets h points cap inside is =
         p.sound c,
         λ entry.
             let at = place_of met c (meets points cap inside is letter c lt entry) in
-            let P : ℕ → Type 0 = λ v. IsEntry 16 points cap letter (square_of tree b) (square_of tree v) in
+            let P : ℕ → Type 0 = λ v. IsEntry tree.grid points cap letter (square_of tree b) (square_of tree v) in
             let Q : ℕ → Type 0 = λ v. Contains cells v in
             subst Q at.here (p.whole at.at (omega (arith, at.inside)) (subst P (sym at.here) entry)),
       );
@@ -145,7 +145,7 @@ picks_all tree letter b met count cells all meets h points cap inside is =
 abbrev pub IsMetOrBelow : TreeModel → ℕ → ℕ → Type 0
 IsMetOrBelow tree b c = IsMet tree b c ⊎ (IsTrue (node_of tree b).is_leaf × IsBelow tree b c)
 
-pub pair_met : (tree : TreeModel) (points : List Point) (cap b c : ℕ) (letter : Letter) → IsTree tree → IsTreeOf 16 tree points cap → b < size tree → c < size tree → IsPair 16 points cap letter (square_of tree b) (square_of tree c) → IsMetOrBelow tree b c
+pub pair_met : (tree : TreeModel) (points : List Point) (cap b c : ℕ) (letter : Letter) → IsTree tree → IsTreeOf tree points cap → b < size tree → c < size tree → IsPair tree.grid points cap letter (square_of tree b) (square_of tree c) → IsMetOrBelow tree b c
 pair_met tree points cap b c U is h lb lc p =
     let leaf_b = (h.nodes_are b lb).leaf.1 p.first_leaf in
     let leaf_c = (h.nodes_are c lc).leaf.1 p.second_leaf in

@@ -1,13 +1,13 @@
 -- The cells of a tree by their numbers.
-use Rattle.std.proofs.Common.{ℕ, ◌≡◌, ◌<◌, ◌≤◌, List, length, map, get_or, Option, Some, None, refl, sym, ap, ◌∙◌, subst, arith, lit<}
+use Rattle.std.proofs.Common.{ℕ, ◌≡◌, ◌<◌, ◌≤◌, List, length, map, get_or, Option, Some, None, refl, sym, ap, ◌∙◌, subst, arith}
 use Rattle.std.specs.Prelude.{ℤ, Contains, MatchOption, IsSome, IsTrue}
 use Rattle.std.proofs.lemmas.Int.{ints}
-use Rattle.std.proofs.lemmas.List.{get_or-map, length-map}
-use Rattle.std.proofs.lemmas.List.Elements.{All-get_or}
+use Rattle.std.proofs.lemmas.List.{get_or-map}
+use Rattle.limits.proofs.Grids.{grid_positive}
 use Rattle.points.specs.declared.Point.{Point}
 use Rattle.cell_name.specs.declared.cell.Cell.{Cell}
 use Rattle.cell_name.specs.Cell.{square}
-use Rattle.cell_name.specs.Square.{Square, root, half, ancestor, Holds}
+use Rattle.cell_name.specs.Square.{Square, no_square, half, ancestor, Holds}
 use Rattle.cell_name.proofs.Ancestors.{IsPart-ancestor}
 use Rattle.cell_name.proofs.Cells.{IsPart}
 use Rattle.cell_name.proofs.Levels.{above_le}
@@ -23,8 +23,8 @@ use Rattle.cell_lists.specs.Walk.{AncestorsTouch}
 use Rattle.cell_lists.proofs.OneEntry.{ancestor_of, levels_of_case, entry_from_case}
 
 -- what the program reads is the cell of the number
-pub read_is : (cells : List Cell) (n : ℕ) (x : Cell) → n < length cells → x ≡ get_or cells n x → square x ≡ get_or (map square cells) n (root 16)
-read_is cells n x lt e = ap square e ∙ sym (get_or-map square cells n x (root 16) lt)
+pub read_is : (cells : List Cell) (n : ℕ) (x : Cell) → n < length cells → x ≡ get_or cells n x → square x ≡ get_or (map square cells) n no_square
+read_is cells n x lt e = ap square e ∙ sym (get_or-map square cells n x no_square lt)
 
 -- the ancestors of a cell of the tree are cells of the tree
 pub IsTreeCell-ancestor : (grid : ℕ) (points : List Point) (cap : ℕ) (c : Square) (level : ℕ) → 0 < grid → AreInGrid grid points → IsTreeCell grid points cap c → level ≤ c.level → IsTreeCell grid points cap (ancestor c level)
@@ -38,7 +38,7 @@ IsTreeCell-ancestor grid points cap c level positive inside h le =
 
 -- so the tree has their numbers
 pub ancestor_listed : (tree : TreeModel) (n level : ℕ) → IsTree tree → n < size tree → level ≤ (square_of tree n).level → Contains (squares tree) (ancestor (square_of tree n) level)
-ancestor_listed tree n level h lt le = h.is_tree.cells_are.whole (ancestor (square_of tree n) level) (IsTreeCell-ancestor 16 h.points h.cap (square_of tree n) level (lit< tt) h.in_grid (tree_cell_at tree h.points h.cap n h.is_tree lt) le)
+ancestor_listed tree n level h lt le = h.is_tree.cells_are.whole (ancestor (square_of tree n) level) (IsTreeCell-ancestor tree.grid h.points h.cap (square_of tree n) level (grid_positive tree.grid h.is_tree.known_grid) h.in_grid (tree_cell_at tree h.points h.cap n h.is_tree lt) le)
 
 pub found_number : (tree : TreeModel) (s s' : Square) (r : Option ℕ) → Contains (squares tree) s → s ≡ s' → MatchOption r (Contains (squares tree) s' → ⊥) (λ n. (n < size tree) × (square_of tree n ≡ s')) → IsSome r
 found_number tree s s' (Some n) listed e h = refl
@@ -73,14 +73,14 @@ case_levels x y b c letter k l h eb ec =
     (omega (arith, both.0), omega (arith, both.1))
 
 -- the cells at which a descent of two leaves stops are an entry
-pub entry_named : (tree : TreeModel) (points : List Point) (cap b c b' c' : ℕ) (x y : Square) (letter : Letter) (k l : ℕ) → AreInGrid 16 points → IsTreeOf 16 tree points cap → b < size tree → c < size tree → IsTrue (node_of tree b).is_leaf → IsTrue (node_of tree c).is_leaf → IsTrue (node_of tree b).has_target → IsTrue (node_of tree c).has_source → IsCase (AncestorsTouch x y) x.level y.level letter k l → x ≡ square_of tree b → y ≡ square_of tree c → square_of tree b' ≡ ancestor (square_of tree b) k → square_of tree c' ≡ ancestor (square_of tree c) l → IsEntry 16 points cap letter (square_of tree b') (square_of tree c')
+pub entry_named : (tree : TreeModel) (points : List Point) (cap b c b' c' : ℕ) (x y : Square) (letter : Letter) (k l : ℕ) → AreInGrid tree.grid points → IsTreeOf tree points cap → b < size tree → c < size tree → IsTrue (node_of tree b).is_leaf → IsTrue (node_of tree c).is_leaf → IsTrue (node_of tree b).has_target → IsTrue (node_of tree c).has_source → IsCase (AncestorsTouch x y) x.level y.level letter k l → x ≡ square_of tree b → y ≡ square_of tree c → square_of tree b' ≡ ancestor (square_of tree b) k → square_of tree c' ≡ ancestor (square_of tree c) l → IsEntry tree.grid points cap letter (square_of tree b') (square_of tree c')
 entry_named tree points cap b c b' c' x y letter k l inside h lb lc leaf_b leaf_c target source stop eb ec ab ac =
     let P : Square → Type 0 = λ v. IsCase (AncestorsTouch v y) v.level y.level letter k l in
     let Q : Square → Type 0 = λ v. IsCase (AncestorsTouch (square_of tree b) v) (square_of tree b).level v.level letter k l in
     let here : IsCase (AncestorsTouch (square_of tree b) (square_of tree c)) (square_of tree b).level (square_of tree c).level letter k l = subst Q ec (subst P eb stop) in
     let nb = h.nodes_are b lb in
     let nc = h.nodes_are c lc in
-    let e : IsEntry 16 points cap letter (ancestor (square_of tree b) k) (ancestor (square_of tree c) l) = entry_from_case 16 points cap (square_of tree b) (square_of tree c) letter k l (lit< tt) inside (nb.leaf.0 leaf_b) (nc.leaf.0 leaf_c) (nb.target.0 target) (nc.source.0 source) here in
-    let R : Square → Type 0 = λ v. IsEntry 16 points cap letter v (ancestor (square_of tree c) l) in
-    let S : Square → Type 0 = λ v. IsEntry 16 points cap letter (square_of tree b') v in
+    let e : IsEntry tree.grid points cap letter (ancestor (square_of tree b) k) (ancestor (square_of tree c) l) = entry_from_case tree.grid points cap (square_of tree b) (square_of tree c) letter k l (grid_positive tree.grid h.known_grid) inside (nb.leaf.0 leaf_b) (nc.leaf.0 leaf_c) (nb.target.0 target) (nc.source.0 source) here in
+    let R : Square → Type 0 = λ v. IsEntry tree.grid points cap letter v (ancestor (square_of tree c) l) in
+    let S : Square → Type 0 = λ v. IsEntry tree.grid points cap letter (square_of tree b') v in
     subst S (sym ac) (subst R (sym ab) e)

@@ -180,7 +180,7 @@ is_later b c d hc hd before =
           ]
     ]
 
-v_place : (tree : TreeModel) (points : List Point) (cap b : ℕ) (cells : List ℕ) → IsTreeOf 16 tree points cap → b < size tree → IsListOf tree points cap V b cells → (n : ℕ) → n < length cells → HasPlace (square_of tree b) (square_of tree (slice_index cells n))
+v_place : (tree : TreeModel) (points : List Point) (cap b : ℕ) (cells : List ℕ) → IsTreeOf tree points cap → b < size tree → IsListOf tree points cap V b cells → (n : ℕ) → n < length cells → HasPlace (square_of tree b) (square_of tree (slice_index cells n))
 v_place tree points cap b cells is lb l n lt =
     let c : ℕ = slice_index cells n in
     let lc : c < size tree = l.numbers n 0 lt in
@@ -188,7 +188,7 @@ v_place tree points cap b cells is lb l n lt =
     has_place (square_of tree b) (square_of tree c) (entry.pair.first_in_tree.of_grid ∙ sym entry.pair.second_in_tree.of_grid) entry.pair.come_apart
 
 -- the places of the cells of a V list rise
-at_least : (tree : TreeModel) (points : List Point) (cap b : ℕ) (cells : List ℕ) → IsTreeOf 16 tree points cap → b < size tree → IsListOf tree points cap V b cells → (n : ℕ) → n < length cells → (h : HasPlace (square_of tree b) (square_of tree (slice_index cells n))) → n ≤ h.place
+at_least : (tree : TreeModel) (points : List Point) (cap b : ℕ) (cells : List ℕ) → IsTreeOf tree points cap → b < size tree → IsListOf tree points cap V b cells → (n : ℕ) → n < length cells → (h : HasPlace (square_of tree b) (square_of tree (slice_index cells n))) → n ≤ h.place
 at_least tree points cap b cells is lb l zero lt h = omega arith
 at_least tree points cap b cells is lb l (suc n) lt h =
     let c : ℕ = slice_index cells n in
@@ -199,7 +199,7 @@ at_least tree points cap b cells is lb l (suc n) lt h =
     let rises = place_rises _ _ _ _ before.place _ _ h.place before.inside h.inside (is_later (square_of tree b) (square_of tree c) (square_of tree d) before h order) before.is_place h.is_place in
     omega (arith, rises, at_least tree points cap b cells is lb l n (omega arith) before)
 
-pub v_list_is_short : (tree : TreeModel) (points : List Point) (cap b : ℕ) (cells : List ℕ) → IsTreeOf 16 tree points cap → b < size tree → IsListOf tree points cap V b cells → length cells ≤ 27
+pub v_list_is_short : (tree : TreeModel) (points : List Point) (cap b : ℕ) (cells : List ℕ) → IsTreeOf tree points cap → b < size tree → IsListOf tree points cap V b cells → length cells ≤ 27
 v_list_is_short tree points cap b cells is lb l =
     elim (cases_lt 27 (length cells)) [
       | inr few ↦ few

@@ -131,7 +131,7 @@ below_more tree b level start end was now now' at is m h =
           ];
     }
 
-pub below_all : (tree : TreeModel) (b level start : ℕ) (was now : List ℕ) → IsTree tree → 16 ≤ level → MeetsBelow tree b level start was now → (c : ℕ) → IsBelow tree b c → Contains now c
+pub below_all : (tree : TreeModel) (b level start : ℕ) (was now : List ℕ) → IsTree tree → tree.grid ≤ level → MeetsBelow tree b level start was now → (c : ℕ) → IsBelow tree b c → Contains now c
 below_all tree b level start was now is le m c below = m.above c below (omega (arith, level_at_most tree is c below.in_range))
 
 -- ---- the cells around

@@ -13,7 +13,7 @@ use Rattle.cell_lists.specs.ListAt.{list_at}
 pub record IsListOf (tree : TreeModel) (points : List Point) (cap : ℕ) (letter : Letter) (b : ℕ) (cells : List ℕ) : Type 0 where
   pub numbers : All (λ c. c < size tree) cells
   pub ascending : IsStrictlyIncreasing cells
-  pub exact : (c : ℕ) → c < size tree → Contains cells c ↔ IsEntry 16 points cap letter (square_of tree b) (square_of tree c)
+  pub exact : (c : ℕ) → c < size tree → Contains cells c ↔ IsEntry tree.grid points cap letter (square_of tree b) (square_of tree c)
 
 -- the lists of the first cells
 pub record AreListsTo (tree : TreeModel) (lists : EntryListsModel) (count : ℕ) : Type 0 where

@@ -6,4 +6,4 @@ use Rattle.quadtree.specs.TreeModel.{TreeModel, IsTreeOf}
 
 -- a fact of every list and capacity whose tree this is: each tree is the tree of some
 abbrev pub OfEachList : TreeModel → (List Point → ℕ → Type 0) → Type 0
-OfEachList tree P = (points : List Point) (cap : ℕ) → AreInGrid 16 points → IsTreeOf 16 tree points cap → P points cap
+OfEachList tree P = (points : List Point) (cap : ℕ) → AreInGrid tree.grid points → IsTreeOf tree points cap → P points cap

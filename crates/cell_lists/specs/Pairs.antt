@@ -17,4 +17,4 @@ MeetsLetter b_is_leaf c_is_leaf b c X = IsTrue c_is_leaf × ComesApartBelow c b
 -- the letter of the entry of two cells of the tree, or that they are none
 abbrev pub IsLetterOf : TreeModel → ℕ → ℕ → Option Letter → Type 0
 IsLetterOf tree b c answer =
-    OfEachList tree (λ points cap. (letter : Letter) → (answer ≡ Some letter) ↔ IsEntry 16 points cap letter (square_of tree b) (square_of tree c))
+    OfEachList tree (λ points cap. (letter : Letter) → (answer ≡ Some letter) ↔ IsEntry tree.grid points cap letter (square_of tree b) (square_of tree c))

@@ -6,7 +6,6 @@ ghost use Rattle.cell_lists.specs.Walks.{AreNumbers, AreColleagues, IsMet, IsBel
 ghost use Rattle.quadtree.specs.TreeModel.{size, node_of, IsTree};
 
 use crate::flat::NumberLists;
-use cell_name::GRID;
 use quadtree::Tree;
 use std::alloc::AllocError;
 
@@ -45,7 +44,7 @@ pub(crate) fn push_below(tree: &Tree, found: &mut Vec<u32>, b: usize) -> Result<
         return Ok(());
     }
     let mut start = 0;
-    for _level in tree.cells()[b].level..GRID {
+    for _level in tree.cells()[b].level..tree.grid() {
         let end = found.len();
         push_children(tree, found, start, b)?;
         start = end;

@@ -4,9 +4,8 @@ ghost use Rattle.std.specs.Prelude.{◌≡◌, ◌<◌, ◌≤◌, IsTrue};
 ghost use Rattle.cell_name.specs.Cell.{square};
 ghost use Rattle.cell_name.specs.Square.{ancestor};
 ghost use Rattle.cell_lists.specs.Cases.{IsCase, letter_at};
-ghost use Rattle.cell_lists.specs.Entries.{AccountForAll, IsEntry};
-ghost use Rattle.cell_lists.specs.Numbers.{OfEachList};
-ghost use Rattle.cell_lists.specs.Walk.{AncestorsTouch, IsAncestor, IsOnlyEntry};
+ghost use Rattle.cell_lists.specs.Entries.{AccountForAll};
+ghost use Rattle.cell_lists.specs.Walk.{AncestorsTouch, IsAncestor, IsEntryOf, IsOnlyEntry};
 ghost use Rattle.quadtree.specs.TreeModel.{size, square_of, node_of};
 
 use cell_name::Cell;
@@ -88,7 +87,7 @@ pub fn first_apart(tree: &Tree, b: usize, c: usize) -> Entry
     ensures second_above { IsAncestor (square_of tree.now result.c) (square_of tree.now c) }
 
     // It is an entry, and it accounts for what the leaves hold.
-    ensures entry { OfEachList tree.now (λ points cap. IsEntry 16 points cap result.letter (square_of tree.now result.b) (square_of tree.now result.c)) }
+    ensures entry { IsEntryOf tree.now result }
     ensures accounts { AccountForAll (square_of tree.now b) (square_of tree.now c) (square_of tree.now result.b) (square_of tree.now result.c) }
 
     // No other entry accounts for a target and a source that the leaves hold.

@@ -11,7 +11,7 @@ ghost use Rattle.points.specs.Points.{pole, dipole};
 mod ledger;
 
 pub use ledger::Ledger;
-use points::{Point, Strength};
+use points::Point;
 
 /// The weight `abs(a) + 2 order abs(b)` of a point at an order, where `abs` of a complex number is `abs(re) + abs(im)`.
 /// Conditions: the point is in range of some version, and `order` is 1 to 32.
@@ -21,10 +21,5 @@ pub fn weight(p: &Point, order: u32) -> i128
     requires most { order ≤ 32 }
     ensures { result ≡ pos (weight_at order (pole p.now.kind) (dipole p.now.kind)) }
 {
-    let size = match p.kind.strength() {
-        Strength::Pole(re, im) => re.unsigned_abs() + im.unsigned_abs(),
-        Strength::Dipole(re, im) => 2 * u64::from(order) * (re.unsigned_abs() + im.unsigned_abs()),
-        Strength::Nothing => 0,
-    };
-    i128::from(size)
+    i128::from(p.weight(order))
 }

@@ -1,5 +1,5 @@
 -- The limits of each version of the text. Version 1 has a grid of 16 bits and version 2 one of 20, and the grid tells all others.
-use Rattle.std.specs.Prelude.{ℕ, ◌≡◌, ◌^◌, ◌==◌, ◌||◌, IsTrue, cond}
+use Rattle.std.specs.Prelude.{ℕ, ◌≡◌, ◌-◌, ◌^◌, ◌==◌, ◌||◌, IsTrue, cond}
 
 abbrev pub first_grid : ℕ
 first_grid = 16
@@ -43,12 +43,12 @@ most_cells grid = by_grid grid 65536 131072
 abbrev pub most_at_a_place : ℕ
 most_at_a_place = 4096
 
--- the greatest sizes of the ends of multipole rows, local rows and target boxes
+-- the greatest sizes of the ends of multipole rows, local rows and target boxes: they stay below a power of two
 abbrev pub most_multipole : ℕ → ℕ
-most_multipole grid = by_grid grid (2 ^ 74) (2 ^ 78)
+most_multipole grid = by_grid grid (2 ^ 74 - 1) (2 ^ 78 - 1)
 
 abbrev pub most_local : ℕ → ℕ
-most_local grid = by_grid grid (2 ^ 82) (2 ^ 86)
+most_local grid = by_grid grid (2 ^ 82 - 1) (2 ^ 86 - 1)
 
 abbrev pub most_box : ℕ → ℕ
-most_box grid = by_grid grid (2 ^ 84) (2 ^ 94)
+most_box grid = by_grid grid (2 ^ 84 - 1) (2 ^ 94 - 1)

@@ -3,8 +3,12 @@ use Rattle.std.proofs.Common.{◌≡◌, ◌≢◌, ◌+◌, ◌≤◌, ℕ, Lis
 use Rattle.std.proofs.lemmas.List.{append_assoc, append-nil, length_push}
 use Rattle.std.proofs.lemmas.List.Elements.{All-push, All-nil}
 use Rattle.std.proofs.lemmas.List.Sums.{sum_by_push}
+use Rattle.limits.specs.Laws.{AreWithinWidest}
+use Rattle.limits.specs.Limits.{IsVersion, grid_of, widest_grid, most_points, most_weight}
+use Rattle.limits.proofs.Grids.{version_has_grid, within_widest}
 use Rattle.points.specs.declared.Mode.{Mode}
 use Rattle.points.specs.declared.Point.{Point}
+use Rattle.points.specs.declared.Points.{Points}
 use Rattle.particle_text.specs.declared.TextKind.{TextKind}
 use Rattle.particle_text.specs.declared.TextKind.TheVariants.{Range, Mixed, Many, Strength}
 use Rattle.particle_text.specs.Faults.{CanJoin, FirstFault, IsFirstKind, LineFault}
@@ -31,60 +35,78 @@ one_more_line bytes [] line p none begins = ([], subst (λ front. BeginsWith (fr
 one_more_line bytes (q ∷ points) line p lines begins =
     (lines.0 ++ line, longer bytes q lines.0 line lines.1, one_more_line lines.0 points line p lines.2 begins)
 
-pub no_points : (mode : Mode) → WithinLimits mode []
-no_points mode = record { range = All-nil InRange; mode_fits = All-nil (λ p. FitsMode mode p.kind); count = omega arith; weight = omega arith }
+-- the limits of a version
+pub version_limits : (version : ℕ) → AreWithinWidest (grid_of version)
+version_limits version = within_widest (grid_of version) (version_has_grid version)
 
-pub one_more_point : (mode : Mode) (points : List Point) (p : Point) → WithinLimits mode points → CanJoin mode (length points) (total_weight points) p → WithinLimits mode (points ++ p ∷ [])
-one_more_point mode points p limits joins = record {
-  range = All-push InRange points p limits.range (joins Range);
-  mode_fits = All-push (λ q. FitsMode mode q.kind) points p limits.mode_fits (joins Mixed);
-  count = omega (arith, length_push points p, joins Many);
-  weight = omega (arith, sum_by_push weight64 points p, joins Strength);
+-- the list with one more point
+abbrev pub joined : Points → Point → Points
+joined points p = record points { list = points.list ++ p ∷ [] }
+
+pub no_points : (version : ℕ) (mode : Mode) → IsVersion version → WithinLimits (record { version = version; mode = mode; list = [] })
+no_points version mode is = record {
+  version = is;
+  mode_fits = All-nil (λ p. FitsMode mode p.kind);
+  within = record { range = All-nil (InRange (grid_of version)); count = omega arith; weight = omega arith };
+}
+
+-- the point may join the list
+abbrev pub Joins : Points → Point → Type 0
+Joins points p = CanJoin points.version points.mode (length points.list) (total_weight points.list) p
+
+pub one_more_point : (points : Points) (p : Point) → WithinLimits points → Joins points p → WithinLimits (joined points p)
+one_more_point points p limits joins = record {
+  version = limits.version;
+  mode_fits = All-push (λ q. FitsMode points.mode q.kind) points.list p limits.mode_fits (joins Mixed);
+  within = record {
+    range = All-push (InRange (grid_of points.version)) points.list p limits.within.range (joins Range);
+    count = omega (arith, length_push points.list p, joins Many);
+    weight = omega (arith, sum_by_push weight64 points.list p, joins Strength);
+  };
 }
 
 -- The bytes up to the rest spell these points, whose total weight is given.
-pub record SoFar (bytes rest : List ℕ) (mode : Mode) (points : List Point) (weight : ℕ) : Type 0 where
+pub record SoFar (bytes rest : List ℕ) (points : Points) (weight : ℕ) : Type 0 where
   pub good : List ℕ
   pub parts : bytes ≡ good ++ rest
-  pub spelled : Spells good mode points
-  pub weight_is : weight ≡ total_weight points
+  pub spelled : Spells good points
+  pub weight_is : weight ≡ total_weight points.list
 
-pub start : (bytes rest : List ℕ) (mode : Mode) → bytes ≡ head_line mode ++ 10 ∷ rest → SoFar bytes rest mode [] 0
-start bytes rest mode whole = record {
-  good = head_line mode ++ 10 ∷ [];
-  parts = whole ∙ sym (append_assoc (head_line mode) (10 ∷ []) rest);
-  spelled = record { limits = no_points mode; lines = []; head = refl; body = refl };
+pub start : (bytes rest : List ℕ) (version : ℕ) (mode : Mode) → IsVersion version → bytes ≡ head_line version mode ++ 10 ∷ rest → SoFar bytes rest (record { version = version; mode = mode; list = [] }) 0
+start bytes rest version mode is whole = record {
+  good = head_line version mode ++ 10 ∷ [];
+  parts = whole ∙ sym (append_assoc (head_line version mode) (10 ∷ []) rest);
+  spelled = record { limits = no_points version mode is; lines = []; head = refl; body = refl };
   weight_is = refl;
 }
 
-pub step : (bytes rest : List ℕ) (mode : Mode) (points : List Point) (weight : ℕ) (p : Point) (more : List ℕ) → SoFar bytes rest mode points weight → BeginsWith rest p more → CanJoin mode (length points) weight p
-    → SoFar bytes more mode (points ++ p ∷ []) (weight + weight64 p)
-step bytes rest mode points weight p more far begins joins =
+pub step : (bytes rest : List ℕ) (points : Points) (weight : ℕ) (p : Point) (more : List ℕ) → SoFar bytes rest points weight → BeginsWith rest p more → CanJoin points.version points.mode (length points.list) weight p
+    → SoFar bytes more (joined points p) (weight + weight64 p)
+step bytes rest points weight p more far begins joins =
     let line = begins.line ++ 10 ∷ [] in
-    let same = subst (λ w. CanJoin mode (length points) w p) far.weight_is joins in
+    let same = subst (λ w. CanJoin points.version points.mode (length points.list) w p) far.weight_is joins in
     record {
       good = far.good ++ line;
       parts = far.parts ∙ ap (λ text. far.good ++ text) (begins.cut.whole ∙ sym (append_assoc begins.line (10 ∷ []) more)) ∙ sym (append_assoc far.good line more);
       spelled = record {
-        limits = one_more_point mode points p far.spelled.limits same;
+        limits = one_more_point points p far.spelled.limits same;
         lines = far.spelled.lines ++ line;
-        head = ap (λ text. text ++ line) far.spelled.head ∙ append_assoc (head_line mode) (10 ∷ far.spelled.lines) line;
-        body = one_more_line far.spelled.lines points line p far.spelled.body (alone rest p more begins);
+        head = ap (λ text. text ++ line) far.spelled.head ∙ append_assoc (head_line points.version points.mode) (10 ∷ far.spelled.lines) line;
+        body = one_more_line far.spelled.lines points.list line p far.spelled.body (alone rest p more begins);
       };
-      weight_is = ap (λ w. w + weight64 p) far.weight_is ∙ sym (sum_by_push weight64 points p);
+      weight_is = ap (λ w. w + weight64 p) far.weight_is ∙ sym (sum_by_push weight64 points.list p);
     }
 
 -- nothing is left
-pub whole : (bytes rest : List ℕ) (mode : Mode) (points : List Point) (weight : ℕ) → SoFar bytes rest mode points weight → rest ≡ [] → Spells bytes mode points
-whole bytes rest mode points weight far none =
+pub whole : (bytes rest : List ℕ) (points : Points) (weight : ℕ) → SoFar bytes rest points weight → rest ≡ [] → Spells bytes points
+whole bytes rest points weight far none =
     let same : bytes ≡ far.good = far.parts ∙ ap (λ text. far.good ++ text) none ∙ append-nil far.good in
-    subst (λ text. Spells text mode points) (sym same) far.spelled
+    subst (λ text. Spells text points) (sym same) far.spelled
 
 -- something is left, and its first line is at fault
-pub at_fault : (bytes rest : List ℕ) (mode : Mode) (points : List Point) (weight : ℕ) (kind : TextKind) → SoFar bytes rest mode points weight → rest ≢ [] → IsFirstKind (LineFault mode (length points) weight rest) kind
-    → FirstFault bytes (length points + 2) kind
-at_fault bytes rest mode points weight kind far more fault = inr (
-  mode,
+pub at_fault : (bytes rest : List ℕ) (points : Points) (weight : ℕ) (kind : TextKind) → SoFar bytes rest points weight → rest ≢ []
+    → IsFirstKind (LineFault points.version points.mode (length points.list) weight rest) kind → FirstFault bytes (length points.list + 2) kind
+at_fault bytes rest points weight kind far more fault = inr (
   points,
   refl,
   record {
@@ -93,27 +115,27 @@ at_fault bytes rest mode points weight kind far more fault = inr (
     parts = far.parts;
     spelled = far.spelled;
     more = more;
-    fault = subst (λ w. IsFirstKind (LineFault mode (length points) w rest) kind) far.weight_is fault;
+    fault = subst (λ w. IsFirstKind (LineFault points.version points.mode (length points.list) w rest) kind) far.weight_is fault;
   },
 )
 
 -- The bytes up to the rest spell some points, of which the number and the total weight are given.
-pub record SomeSoFar (bytes rest : List ℕ) (mode : Mode) (live weight : ℕ) : Type 0 where
+pub record SomeSoFar (bytes rest : List ℕ) (version : ℕ) (mode : Mode) (live weight : ℕ) : Type 0 where
   pub points : List Point
-  pub far : SoFar bytes rest mode points weight
+  pub far : SoFar bytes rest (record { version = version; mode = mode; list = points }) weight
   pub live_is : live ≡ length points
-  pub few : live ≤ 65536
-  pub light : weight ≤ 4294967296
+  pub few : live ≤ most_points widest_grid
+  pub light : weight ≤ most_weight (grid_of version)
 
-pub some_start : (bytes rest : List ℕ) (mode : Mode) → bytes ≡ head_line mode ++ 10 ∷ rest → SomeSoFar bytes rest mode 0 0
-some_start bytes rest mode whole = record { points = []; far = start bytes rest mode whole; live_is = refl; few = omega arith; light = omega arith }
+pub some_start : (bytes rest : List ℕ) (version : ℕ) (mode : Mode) → IsVersion version → bytes ≡ head_line version mode ++ 10 ∷ rest → SomeSoFar bytes rest version mode 0 0
+some_start bytes rest version mode is whole = record { points = []; far = start bytes rest version mode is whole; live_is = refl; few = omega arith; light = omega arith }
 
-pub some_step : (bytes rest : List ℕ) (mode : Mode) (live weight : ℕ) (p : Point) (more : List ℕ) → SomeSoFar bytes rest mode live weight → BeginsWith rest p more → CanJoin mode live weight p
-    → SomeSoFar bytes more mode (live + 1) (weight + weight64 p)
-some_step bytes rest mode live weight p more some begins joins = record {
+pub some_step : (bytes rest : List ℕ) (version : ℕ) (mode : Mode) (live weight : ℕ) (p : Point) (more : List ℕ) → SomeSoFar bytes rest version mode live weight → BeginsWith rest p more → CanJoin version mode live weight p
+    → SomeSoFar bytes more version mode (live + 1) (weight + weight64 p)
+some_step bytes rest version mode live weight p more some begins joins = record {
   points = some.points ++ p ∷ [];
-  far = step bytes rest mode some.points weight p more some.far begins (subst (λ n. CanJoin mode n weight p) some.live_is joins);
+  far = step bytes rest _ weight p more some.far begins (subst (λ n. CanJoin version mode n weight p) some.live_is joins);
   live_is = omega (arith, some.live_is, length_push some.points p);
-  few = omega (arith, joins Many);
-  light = omega (arith, joins Strength);
+  few = omega (arith, joins Many, (version_limits version).points);
+  light = joins Strength;
 }

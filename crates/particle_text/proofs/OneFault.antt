@@ -1,38 +1,44 @@
 -- A text has one first fault, and a text that spells a list has none.
 use Rattle.std.proofs.Common.{◌≡◌, ◌+◌, ◌<◌, ℕ, List, [], ◌∷◌, ◌++◌, length, sym, ap, ◌∙◌, subst, refl, inl, inr, arith}
 use Rattle.std.proofs.lemmas.List.{append-nil}
-use Rattle.points.specs.declared.Mode.{Mode}
 use Rattle.points.specs.declared.Point.{Point}
+use Rattle.points.specs.declared.Points.{Points}
 use Rattle.particle_text.specs.declared.TextKind.{TextKind}
 use Rattle.particle_text.specs.declared.TextKind.TheVariants.{Syntax, Range, Mixed, Many, Strength}
-use Rattle.particle_text.specs.Faults.{FaultsAfter, FirstFault, HasNoHead, IsFirstKind, LineFault, rank}
-use Rattle.points.specs.Limits.{WithinLimits, total_weight}
+use Rattle.particle_text.specs.Faults.{FaultsAfter, FirstFault, HasNoHead, IsFirstKind, rank}
+use Rattle.points.specs.Limits.{WithinLimits}
 use Rattle.particle_text.specs.Text.{AreLines, Spells}
-use Rattle.particle_text.proofs.OneText.{GoesOn, fronts, behind, no_fault_inside}
+use Rattle.particle_text.proofs.Heads.{SameHead}
+use Rattle.particle_text.proofs.OneText.{FaultOf, GoesOn, fronts, behind, no_fault_inside, same_points}
 
 -- a text with a good front has a head line
-has_head : (bytes good rest : List ℕ) (mode : Mode) (before : List Point) → bytes ≡ good ++ rest → Spells good mode before → HasNoHead bytes → ⊥
-has_head bytes good rest mode before parts spells none = none mode (spells.lines ++ rest) (behind bytes good rest spells.lines mode parts spells.head)
+has_head : (bytes good rest : List ℕ) (before : Points) → bytes ≡ good ++ rest → Spells good before → HasNoHead bytes → ⊥
+has_head bytes good rest before parts spells none =
+    none before.version before.mode (spells.lines ++ rest) spells.limits.version (behind bytes good rest spells.lines before parts spells.head)
 
 -- the other reading of a text with a fault does not go on behind the fault
-stops : (rest other : List ℕ) (mode : Mode) (before after : List Point) (kind : TextKind) → GoesOn rest other before after → WithinLimits mode after → LineFault mode (length before) (total_weight before) rest kind
-    → (after ≡ before) × (rest ≡ other)
-stops rest other mode before after kind on limits fault = go on.tail refl
+stops : (rest other : List ℕ) (before after : Points) (kind : TextKind) → SameHead before.version after.version before.mode after.mode → GoesOn rest other before.list after.list → WithinLimits after → FaultOf before rest kind
+    → (after.list ≡ before.list) × (rest ≡ other)
+stops rest other before after kind heads on limits fault = go on.tail refl
   where
-    go : (tail : List Point) → on.tail ≡ tail → (after ≡ before) × (rest ≡ other)
+    moved : FaultOf (record after { list = before.list }) rest kind
+    moved = subst (λ v. FaultOf (record { version = v; mode = after.mode; list = before.list }) rest kind) heads.versions
+        (subst (λ m. FaultOf (record { version = before.version; mode = m; list = before.list }) rest kind) heads.modes fault)
+
+    go : (tail : List Point) → on.tail ≡ tail → (after.list ≡ before.list) × (rest ≡ other)
     go [] shape =
         let lines : on.lines ≡ [] = subst (AreLines on.lines) shape on.spelled in
-        (on.points ∙ ap (λ ps. before ++ ps) shape ∙ append-nil before, on.bytes ∙ ap (λ front. front ++ other) lines)
-    go (p ∷ tail) shape = absurd (no_fault_inside rest other mode before after on p tail shape limits kind fault)
+        (on.points ∙ ap (λ ps. before.list ++ ps) shape ∙ append-nil before.list, on.bytes ∙ ap (λ front. front ++ other) lines)
+    go (p ∷ tail) shape = absurd (no_fault_inside rest other before.list after on p tail shape limits kind moved)
 
-pub never_both : (bytes : List ℕ) (mode : Mode) (points : List Point) (line : ℕ) (kind : TextKind) → Spells bytes mode points → FirstFault bytes line kind → ⊥
-never_both bytes mode points line kind spells (inl head) = has_head bytes bytes [] mode points (sym (append-nil bytes)) spells head.2
-never_both bytes mode points line kind spells (inr later) =
-    let fault = later.3 in
-    let before = later.1 in
-    let two = fronts bytes fault.good fault.rest bytes [] later.0 mode before points fault.parts fault.spelled (sym (append-nil bytes)) spells in
+pub never_both : (bytes : List ℕ) (points : Points) (line : ℕ) (kind : TextKind) → Spells bytes points → FirstFault bytes line kind → ⊥
+never_both bytes points line kind spells (inl head) = has_head bytes bytes [] points (sym (append-nil bytes)) spells head.2
+never_both bytes points line kind spells (inr later) =
+    let fault = later.2 in
+    let before = later.0 in
+    let two = fronts bytes fault.good fault.rest bytes [] before points fault.parts fault.spelled (sym (append-nil bytes)) spells in
     elim two.either [
-      | inl on ↦ fault.more (stops fault.rest [] later.0 before points kind on (subst (λ m. WithinLimits m points) (sym two.modes) spells.limits) fault.fault.here).1
+      | inl on ↦ fault.more (stops fault.rest [] before points kind two.heads on spells.limits fault.fault.here).1
       | inr on ↦ fault.more (empty on.lines fault.rest on.bytes)
     ]
   where
@@ -79,30 +85,31 @@ pub record OneFault (line other : ℕ) (a b : TextKind) : Type 0 where
   pub kinds : a ≡ b
 
 -- two good fronts with a fault behind each are the same
-same_front : (bytes : List ℕ) (mode other : Mode) (before after : List Point) (a b : TextKind) (first : FaultsAfter bytes mode before a) (second : FaultsAfter bytes other after b) → mode ≡ other → before ≡ after → first.rest ≡ second.rest
-    → OneFault (length before + 2) (length after + 2) a b
-same_front bytes mode other before after a b first second modes points rests = record {
-  lines = ap (λ ps. length ps + 2) points;
+same_front : (bytes : List ℕ) (before after : Points) (a b : TextKind) (first : FaultsAfter bytes before a) (second : FaultsAfter bytes after b) → before ≡ after → first.rest ≡ second.rest
+    → OneFault (length before.list + 2) (length after.list + 2) a b
+same_front bytes before after a b first second points rests = record {
+  lines = ap (λ (ps : Points). length ps.list + 2) points;
   kinds = one_first _ a b (moved first.fault) second.fault;
 }
   where
-    moved : IsFirstKind (LineFault mode (length before) (total_weight before) first.rest) a → IsFirstKind (LineFault other (length after) (total_weight after) second.rest) a
-    moved fault = subst (λ m. IsFirstKind (LineFault m (length after) (total_weight after) second.rest) a) modes
-        (subst (λ ps. IsFirstKind (LineFault mode (length ps) (total_weight ps) second.rest) a) points
-        (subst (λ r. IsFirstKind (LineFault mode (length before) (total_weight before) r) a) rests fault))
+    moved : IsFirstKind (FaultOf before first.rest) a → IsFirstKind (FaultOf after second.rest) a
+    moved fault = subst (λ ps. IsFirstKind (FaultOf ps second.rest) a) points (subst (λ r. IsFirstKind (FaultOf before r) a) rests fault)
 
 pub one_fault : (bytes : List ℕ) (line other : ℕ) (a b : TextKind) → FirstFault bytes line a → FirstFault bytes other b → OneFault line other a b
 one_fault bytes line other a b (inl head) (inl top) = record { lines = head.0 ∙ sym top.0; kinds = head.1 ∙ sym top.1 }
-one_fault bytes line other a b (inl head) (inr later) = absurd (has_head bytes later.3.good later.3.rest later.0 later.1 later.3.parts later.3.spelled head.2)
-one_fault bytes line other a b (inr later) (inl head) = absurd (has_head bytes later.3.good later.3.rest later.0 later.1 later.3.parts later.3.spelled head.2)
+one_fault bytes line other a b (inl head) (inr later) = absurd (has_head bytes later.2.good later.2.rest later.0 later.2.parts later.2.spelled head.2)
+one_fault bytes line other a b (inr later) (inl head) = absurd (has_head bytes later.2.good later.2.rest later.0 later.2.parts later.2.spelled head.2)
 one_fault bytes line other a b (inr first) (inr second) =
-    let two = fronts bytes first.3.good first.3.rest second.3.good second.3.rest first.0 second.0 first.1 second.1 first.3.parts first.3.spelled second.3.parts second.3.spelled in
-    let one : OneFault (length first.1 + 2) (length second.1 + 2) a b = elim two.either [
+    let before = first.0 in
+    let after = second.0 in
+    let two = fronts bytes first.2.good first.2.rest second.2.good second.2.rest before after first.2.parts first.2.spelled second.2.parts second.2.spelled in
+    let back : SameHead after.version before.version after.mode before.mode = record { versions = sym two.heads.versions; modes = sym two.heads.modes } in
+    let one : OneFault (length before.list + 2) (length after.list + 2) a b = elim two.either [
       | inl on ↦
-          let same = stops first.3.rest second.3.rest first.0 first.1 second.1 a on (subst (λ m. WithinLimits m second.1) (sym two.modes) second.3.spelled.limits) first.3.fault.here in
-          same_front bytes first.0 second.0 first.1 second.1 a b first.3 second.3 two.modes (sym same.0) same.1
+          let same = stops first.2.rest second.2.rest before after a two.heads on second.2.spelled.limits first.2.fault.here in
+          same_front bytes before after a b first.2 second.2 (same_points before after two.heads (sym same.0)) same.1
       | inr on ↦
-          let same = stops second.3.rest first.3.rest second.0 second.1 first.1 b on (subst (λ m. WithinLimits m first.1) two.modes first.3.spelled.limits) second.3.fault.here in
-          same_front bytes first.0 second.0 first.1 second.1 a b first.3 second.3 two.modes same.0 (sym same.1)
+          let same = stops second.2.rest first.2.rest after before b back on first.2.spelled.limits second.2.fault.here in
+          same_front bytes before after a b first.2 second.2 (same_points before after two.heads same.0) (sym same.1)
     ] in
-    record { lines = first.2 ∙ one.lines ∙ sym second.2; kinds = one.kinds }
+    record { lines = first.1 ∙ one.lines ∙ sym second.1; kinds = one.kinds }

@@ -5,14 +5,16 @@ use Rattle.std.proofs.lemmas.List.{append_assoc, append-nil, length-append}
 use Rattle.std.proofs.lemmas.List.Elements.{All-head, All-tail}
 use Rattle.std.proofs.lemmas.List.Sums.{sum_by-append, sum_by-cons}
 use Rattle.number_text.proofs.Cuts.{same_cut}
+use Rattle.limits.specs.Limits.{IsVersion, grid_of}
 use Rattle.points.specs.declared.Mode.{Mode}
 use Rattle.points.specs.declared.Point.{Point}
+use Rattle.points.specs.declared.Points.{Points}
 use Rattle.particle_text.specs.declared.TextKind.{TextKind}
 use Rattle.particle_text.specs.declared.TextKind.TheVariants.{Syntax, Range, Mixed, Many, Strength}
 use Rattle.particle_text.specs.Faults.{CanJoin, LineFault}
 use Rattle.points.specs.Limits.{InRange, FitsMode, WithinLimits, weight64, total_weight}
 use Rattle.particle_text.specs.Text.{BeginsWith, AreLines, Spells, head_line}
-use Rattle.particle_text.proofs.Heads.{head_cut, one_head}
+use Rattle.particle_text.proofs.Heads.{SameHead, head_cut, one_head}
 use Rattle.particle_text.proofs.LineFaults.{one_line, no_line_fault}
 use Rattle.particle_text.proofs.Lines.{longer}
 
@@ -45,51 +47,62 @@ compare lines more rest other (p ∷ before) (q ∷ after) a b e =
       | inr on ↦ inr (one_more other rest q p after before (sym same.points) on)
     ]
 
--- the mode of a text, and where its lines begin
-pub record SameStart (a b : Mode) (rest other : List ℕ) : Type 0 where
-  pub modes : a ≡ b
+-- the version and the mode of a text, and where its lines begin
+pub record SameStart (v w : ℕ) (a b : Mode) (rest other : List ℕ) : Type 0 where
+  pub heads : SameHead v w a b
   pub rests : rest ≡ other
 
-same_start : (bytes rest other : List ℕ) (a b : Mode) → bytes ≡ head_line a ++ 10 ∷ rest → bytes ≡ head_line b ++ 10 ∷ other → SameStart a b rest other
-same_start bytes rest other a b e f =
-    let same = same_cut 10 bytes _ rest _ other (head_cut bytes rest a e) (head_cut bytes other b f) in
-    record { modes = one_head a b same.fronts; rests = same.backs }
+same_start : (bytes rest other : List ℕ) (v w : ℕ) (a b : Mode) → IsVersion v → IsVersion w → bytes ≡ head_line v a ++ 10 ∷ rest → bytes ≡ head_line w b ++ 10 ∷ other → SameStart v w a b rest other
+same_start bytes rest other v w a b first second e f =
+    let same = same_cut 10 bytes _ rest _ other (head_cut bytes rest v a first e) (head_cut bytes other w b second f) in
+    record { heads = one_head v w a b first second same.fronts; rests = same.backs }
 
 -- behind a good front
-pub behind : (bytes good rest lines : List ℕ) (mode : Mode) → bytes ≡ good ++ rest → good ≡ head_line mode ++ 10 ∷ lines → bytes ≡ head_line mode ++ 10 ∷ (lines ++ rest)
-behind bytes good rest lines mode parts head = parts ∙ ap (λ front. front ++ rest) head ∙ append_assoc (head_line mode) (10 ∷ lines) rest
+pub behind : (bytes good rest lines : List ℕ) (points : Points) → bytes ≡ good ++ rest → good ≡ head_line points.version points.mode ++ 10 ∷ lines → bytes ≡ head_line points.version points.mode ++ 10 ∷ (lines ++ rest)
+behind bytes good rest lines points parts head = parts ∙ ap (λ front. front ++ rest) head ∙ append_assoc (head_line points.version points.mode) (10 ∷ lines) rest
 
 -- two good fronts of one text
-pub record Fronts (a b : Mode) (rest other : List ℕ) (before after : List Point) : Type 0 where
-  pub modes : a ≡ b
-  pub either : GoesOn rest other before after ⊎ GoesOn other rest after before
+pub record Fronts (rest other : List ℕ) (before after : Points) : Type 0 where
+  pub heads : SameHead before.version after.version before.mode after.mode
+  pub either : GoesOn rest other before.list after.list ⊎ GoesOn other rest after.list before.list
 
-pub fronts : (bytes good rest fine other : List ℕ) (a b : Mode) (before after : List Point) → bytes ≡ good ++ rest → Spells good a before → bytes ≡ fine ++ other → Spells fine b after → Fronts a b rest other before after
-fronts bytes good rest fine other a b before after parts spells cuts reads =
-    let start = same_start bytes _ _ a b (behind bytes good rest spells.lines a parts spells.head) (behind bytes fine other reads.lines b cuts reads.head) in
-    record { modes = start.modes; either = compare spells.lines reads.lines rest other before after spells.body reads.body start.rests }
+pub fronts : (bytes good rest fine other : List ℕ) (before after : Points) → bytes ≡ good ++ rest → Spells good before → bytes ≡ fine ++ other → Spells fine after → Fronts rest other before after
+fronts bytes good rest fine other before after parts spells cuts reads =
+    let first = behind bytes good rest spells.lines before parts spells.head in
+    let second = behind bytes fine other reads.lines after cuts reads.head in
+    let start = same_start bytes _ _ before.version after.version before.mode after.mode spells.limits.version reads.limits.version first second in
+    record { heads = start.heads; either = compare spells.lines reads.lines rest other before.list after.list spells.body reads.body start.rests }
+
+-- lists that agree in all parts
+pub same_points : (a b : Points) → SameHead a.version b.version a.mode b.mode → a.list ≡ b.list → a ≡ b
+same_points a b heads lists = λ i. record { version = heads.versions i; mode = heads.modes i; list = lists i }
 
 -- a point that stands in a list within the limits could join those before it
 all_of_append : {X : Type 0} (P : X → Type 0) (xs ys : List X) → All P (xs ++ ys) → All P ys
 all_of_append P [] ys all = all
 all_of_append P (x ∷ xs) ys all = all_of_append P xs ys (All-tail P x (xs ++ ys) all)
 
-pub member_joins : (mode : Mode) (before : List Point) (p : Point) (tail : List Point) → WithinLimits mode (before ++ p ∷ tail) → CanJoin mode (length before) (total_weight before) p
-member_joins mode before p tail limits Syntax = tt
-member_joins mode before p tail limits Range = All-head InRange p tail (all_of_append InRange before (p ∷ tail) limits.range)
-member_joins mode before p tail limits Mixed = All-head (λ q. FitsMode mode q.kind) p tail (all_of_append (λ q. FitsMode mode q.kind) before (p ∷ tail) limits.mode_fits)
-member_joins mode before p tail limits Many = omega (arith, limits.count, length-append before (p ∷ tail))
-member_joins mode before p tail limits Strength = omega (arith, limits.weight, sum_by-append weight64 before (p ∷ tail), sum_by-cons weight64 p tail)
+pub member_joins : (version : ℕ) (mode : Mode) (before : List Point) (p : Point) (tail : List Point) → WithinLimits (record { version = version; mode = mode; list = before ++ p ∷ tail })
+    → CanJoin version mode (length before) (total_weight before) p
+member_joins version mode before p tail limits Syntax = tt
+member_joins version mode before p tail limits Range = All-head (InRange (grid_of version)) p tail (all_of_append (InRange (grid_of version)) before (p ∷ tail) limits.within.range)
+member_joins version mode before p tail limits Mixed = All-head (λ q. FitsMode mode q.kind) p tail (all_of_append (λ q. FitsMode mode q.kind) before (p ∷ tail) limits.mode_fits)
+member_joins version mode before p tail limits Many = omega (arith, limits.within.count, length-append before (p ∷ tail))
+member_joins version mode before p tail limits Strength = omega (arith, limits.within.weight, sum_by-append weight64 before (p ∷ tail), sum_by-cons weight64 p tail)
+
+-- what can be wrong with the line behind those of these points
+abbrev pub FaultOf : Points → List ℕ → TextKind → Type 0
+FaultOf before rest kind = LineFault before.version before.mode (length before.list) (total_weight before.list) rest kind
 
 -- a line that another reading goes on with is not at fault
-pub no_fault_inside : (rest other : List ℕ) (mode : Mode) (before after : List Point) (on : GoesOn rest other before after) (p : Point) (tail : List Point) → on.tail ≡ p ∷ tail → WithinLimits mode after
-    → (kind : TextKind) → LineFault mode (length before) (total_weight before) rest kind → ⊥
-no_fault_inside rest other mode before after on p tail shape limits kind fault =
+pub no_fault_inside : (rest other : List ℕ) (before : List Point) (after : Points) (on : GoesOn rest other before after.list) (p : Point) (tail : List Point) → on.tail ≡ p ∷ tail → WithinLimits after
+    → (kind : TextKind) → FaultOf (record after { list = before }) rest kind → ⊥
+no_fault_inside rest other before after on p tail shape limits kind fault =
     let points = on.points ∙ ap (λ ps. before ++ ps) shape in
-    let within = subst (WithinLimits mode) points limits in
+    let within = subst (λ ps. WithinLimits (record after { list = ps })) points limits in
     let lines = subst (AreLines on.lines) shape on.spelled in
     let begins = subst (λ text. BeginsWith text p (lines.0 ++ other)) (sym on.bytes) (longer on.lines p lines.0 other lines.1) in
-    no_line_fault mode (length before) (total_weight before) rest p (lines.0 ++ other) begins (member_joins mode before p tail within) kind fault
+    no_line_fault after.version after.mode (length before) (total_weight before) rest p (lines.0 ++ other) begins (member_joins after.version after.mode before p tail within) kind fault
 
 -- no line begins with nothing
 nothing_begins : (p : Point) (rest : List ℕ) → BeginsWith [] p rest → ⊥
@@ -113,12 +126,8 @@ ends other before after on = go on.tail refl
         let lines = subst (AreLines on.lines) shape on.spelled in
         absurd (nothing_begins p lines.0 (subst (λ text. BeginsWith text p lines.0) (front_nil on.lines other on.bytes) lines.1))
 
-pub record OneList (a b : Mode) (before after : List Point) : Type 0 where
-  pub modes : a ≡ b
-  pub points : before ≡ after
-
-pub one_list : (bytes : List ℕ) (a b : Mode) (before after : List Point) → Spells bytes a before → Spells bytes b after → OneList a b before after
-one_list bytes a b before after spells reads =
-    let two = fronts bytes bytes [] bytes [] a b before after (sym (append-nil bytes)) spells (sym (append-nil bytes)) reads in
-    let points : before ≡ after = elim two.either [ inl on ↦ sym (ends [] before after on) | inr on ↦ ends [] after before on ] in
-    record { modes = two.modes; points = points }
+pub one_list : (bytes : List ℕ) (before after : Points) → Spells bytes before → Spells bytes after → before ≡ after
+one_list bytes before after spells reads =
+    let two = fronts bytes bytes [] bytes [] before after (sym (append-nil bytes)) spells (sym (append-nil bytes)) reads in
+    let lists : before.list ≡ after.list = elim two.either [ inl on ↦ sym (ends [] before.list after.list on) | inr on ↦ ends [] after.list before.list on ] in
+    same_points before after two.heads lists

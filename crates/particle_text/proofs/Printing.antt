@@ -1,5 +1,5 @@
 -- The printed text spells its points, and no other text does.
-use Rattle.std.proofs.Common.{◌≡◌, ◌<◌, ◌^◌, ℕ, ℤ, pos, negsuc, neg_ℤ, List, [], ◌∷◌, ◌++◌, sym, ap, ◌∙◌, subst, refl, arith}
+use Rattle.std.proofs.Common.{◌≡◌, ◌<◌, ◌^◌, ℕ, ℤ, pos, negsuc, neg_ℤ, ◌≤ℤ◌, ◌<ℤ◌, List, [], ◌∷◌, ◌++◌, sym, ap, ◌∙◌, subst, refl, arith}
 use Rattle.std.proofs.lemmas.Int.{ints}
 use Rattle.std.specs.Fmt.{signed_decimal}
 use Rattle.std.specs.List.{flat_map, All, AllByRecursion}
@@ -7,15 +7,19 @@ use Rattle.std.proofs.lemmas.List.{append_assoc, append-nil}
 use Rattle.std.proofs.lemmas.List.Elements.{All-head, All-tail}
 use lib.Signed.{mag}
 use Rattle.exact_math.specs.Within.{Within}
+use Rattle.limits.proofs.Grids.{version_has_grid}
+use Rattle.limits.specs.Grid.{half}
+use Rattle.limits.specs.Limits.{grid_of, most_strength, widest_grid}
 use Rattle.number_text.specs.Numbers.{IsInt, AreInts}
 use Rattle.number_text.specs.Parts.{IsFreeOf}
 use Rattle.number_text.proofs.Rows.{int_free, one_spelled_row}
 use Rattle.number_text.proofs.Spelling.{int_of_decimal}
 use Rattle.points.specs.declared.Kind.{Kind}
 use Rattle.points.specs.declared.Kind.TheVariants.{Charge, Dipole, Vortex, Target}
-use Rattle.points.specs.declared.Mode.{Mode}
 use Rattle.points.specs.declared.Point.{Point}
-use Rattle.points.specs.Limits.{IsCoordinate, HasStrength, InRange, WithinLimits}
+use Rattle.points.specs.declared.Points.{Points}
+use Rattle.points.specs.Limits.{HasStrength, InRange, WithinLimits}
+use Rattle.points.proofs.Ranges.{range_in_widest}
 use Rattle.particle_text.specs.Text.{LineSpells, BeginsWith, AreLines, Spells, name_of, strength_of, numbers_of, numbers_text, line_text, text_of, head_line}
 use Rattle.particle_text.proofs.Heads.{free_by_test}
 
@@ -23,15 +27,15 @@ use Rattle.particle_text.proofs.Heads.{free_by_test}
 abbrev IsSmall : ℤ → Type 0
 IsSmall z = mag z < 2 ^ 63
 
-coordinate_small : (x : ℤ) → IsCoordinate 16 x → IsSmall x
-coordinate_small (pos n) fits = omega (arith, ints, fits.above, fits.below)
-coordinate_small (negsuc n) fits = omega (arith, ints, fits.above, fits.below)
+coordinate_small : (x : ℤ) → neg_ℤ (pos (half widest_grid)) ≤ℤ x → x <ℤ pos (half widest_grid) → IsSmall x
+coordinate_small (pos n) low high = omega (arith, ints, low, high)
+coordinate_small (negsuc n) low high = omega (arith, ints, low, high)
 
-component_small : (z : ℤ) → Within 1048576 z → IsSmall z
+component_small : (z : ℤ) → Within most_strength z → IsSmall z
 component_small (pos n) fits = omega (arith, ints, fits.above, fits.below)
 component_small (negsuc n) fits = omega (arith, ints, fits.above, fits.below)
 
-turned_small : (z : ℤ) → Within 1048576 (neg_ℤ z) → IsSmall z
+turned_small : (z : ℤ) → Within most_strength (neg_ℤ z) → IsSmall z
 turned_small (pos n) fits = omega (arith, ints, fits.above, fits.below)
 turned_small (negsuc n) fits = omega (arith, ints, fits.above, fits.below)
 
@@ -41,8 +45,9 @@ strength_small (Dipole re im) fits = (component_small re fits.0, (component_smal
 strength_small (Vortex g) fits = (turned_small g fits.1, tt)
 strength_small Target fits = tt
 
-numbers_small : (p : Point) → InRange p → AllByRecursion IsSmall (numbers_of p)
-numbers_small p range = (coordinate_small p.x range.grid.across, (coordinate_small p.y range.grid.up, strength_small p.kind range.strength))
+numbers_small : (p : Point) → InRange widest_grid p → AllByRecursion IsSmall (numbers_of p)
+numbers_small p range =
+    (coordinate_small p.x range.place.west range.place.east, (coordinate_small p.y range.place.south range.place.north, strength_small p.kind range.strength))
 
 -- the numbers, each behind a space, with no line feed
 abbrev body : List ℤ → List ℕ
@@ -88,7 +93,7 @@ name_free_of_feed (Dipole re im) = free_by_test 10 (name_of (Dipole re im)) refl
 name_free_of_feed (Vortex g) = free_by_test 10 (name_of (Vortex g)) refl
 name_free_of_feed Target = free_by_test 10 (name_of Target) refl
 
-line_begins : (p : Point) (rest : List ℕ) → InRange p → BeginsWith (line_text p ++ rest) p rest
+line_begins : (p : Point) (rest : List ℕ) → InRange widest_grid p → BeginsWith (line_text p ++ rest) p rest
 line_begins p rest range =
     let small = numbers_small p range in
     record {
@@ -104,18 +109,20 @@ line_begins p rest range =
       };
     }
 
-lines_spelled : (points : List Point) → All InRange points → AreLines (flat_map line_text points) points
-lines_spelled [] range = refl
-lines_spelled (p ∷ points) range =
-    (flat_map line_text points, line_begins p (flat_map line_text points) (All-head InRange p points range), lines_spelled points (All-tail InRange p points range))
+lines_spelled : (version : ℕ) (points : List Point) → All (InRange (grid_of version)) points → AreLines (flat_map line_text points) points
+lines_spelled version [] range = refl
+lines_spelled version (p ∷ points) range =
+    let first = range_in_widest (grid_of version) p (version_has_grid version) (All-head (InRange (grid_of version)) p points range) in
+    let others = All-tail (InRange (grid_of version)) p points range in
+    (flat_map line_text points, line_begins p (flat_map line_text points) first, lines_spelled version points others)
 
 -- the text of a list within the limits spells it
-pub text_spelled : (mode : Mode) (points : List Point) → WithinLimits mode points → Spells (text_of mode points) mode points
-text_spelled mode points limits = record {
+pub text_spelled : (points : Points) → WithinLimits points → Spells (text_of points) points
+text_spelled points limits = record {
   limits = limits;
-  lines = flat_map line_text points;
-  head = append_assoc (head_line mode) (10 ∷ []) (flat_map line_text points);
-  body = lines_spelled points limits.range;
+  lines = flat_map line_text points.list;
+  head = append_assoc (head_line points.version points.mode) (10 ∷ []) (flat_map line_text points.list);
+  body = lines_spelled points.version points.list limits.within.range;
 }
 
 -- a list has one text
@@ -130,6 +137,6 @@ one_body lines other (p ∷ points) a b =
     let rest = one_body a.0 b.0 points a.2 b.2 in
     a.1.cut.whole ∙ ap (λ line. line ++ 10 ∷ a.0) first ∙ ap (λ back. b.1.line ++ 10 ∷ back) rest ∙ sym b.1.cut.whole
 
-pub one_text : (bytes other : List ℕ) (mode : Mode) (points : List Point) → Spells bytes mode points → Spells other mode points → bytes ≡ other
-one_text bytes other mode points a b =
-    a.head ∙ ap (λ lines. head_line mode ++ 10 ∷ lines) (one_body a.lines b.lines points a.body b.body) ∙ sym b.head
+pub one_text : (bytes other : List ℕ) (points : Points) → Spells bytes points → Spells other points → bytes ≡ other
+one_text bytes other points a b =
+    a.head ∙ ap (λ lines. head_line points.version points.mode ++ 10 ∷ lines) (one_body a.lines b.lines points.list a.body b.body) ∙ sym b.head

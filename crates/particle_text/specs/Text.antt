@@ -1,6 +1,6 @@
 -- The text of a list of particles: a head line, and a line for each particle. Each line ends with a line feed.
 use Rattle.std.specs.Prelude.{◌≡◌, ℕ, ℤ, List, [], ◌∷◌, ◌++◌, codes}
-use Rattle.std.specs.Fmt.{signed_decimal}
+use Rattle.std.specs.Fmt.{decimal, signed_decimal}
 use Rattle.std.specs.List.{flat_map}
 use Rattle.number_text.specs.Numbers.{AreInts}
 use Rattle.number_text.specs.Parts.{IsCut, line_feed, space}
@@ -9,12 +9,13 @@ use Rattle.points.specs.declared.Kind.TheVariants.{Charge, Dipole, Vortex, Targe
 use Rattle.points.specs.declared.Mode.{Mode}
 use Rattle.points.specs.declared.Mode.TheVariants.{Field, Velocity}
 use Rattle.points.specs.declared.Point.{Point}
+use Rattle.points.specs.declared.Points.{Points}
 use Rattle.points.specs.Limits.{WithinLimits}
 
--- line 1
-abbrev pub head_line : Mode → List ℕ
-head_line Field = codes "fmm 1 field"
-head_line Velocity = codes "fmm 1 velocity"
+-- line 1: `fmm`, the version and the mode
+abbrev pub head_line : ℕ → Mode → List ℕ
+head_line version Field = codes "fmm " ++ decimal version ++ codes " field"
+head_line version Velocity = codes "fmm " ++ decimal version ++ codes " velocity"
 
 -- the first word of a particle's line
 abbrev pub name_of : Kind → List ℕ
@@ -51,12 +52,12 @@ abbrev pub AreLines : List ℕ → List Point → Type 0
 AreLines bytes [] = bytes ≡ []
 AreLines bytes (p ∷ points) = (rest : List ℕ) × BeginsWith bytes p rest × AreLines rest points
 
--- the bytes are a text of this mode and these points, which are within the limits
-pub record Spells (bytes : List ℕ) (mode : Mode) (points : List Point) : Type 0 where
-  pub limits : WithinLimits mode points
+-- the bytes are a text of these points, which are within the limits of their version
+pub record Spells (bytes : List ℕ) (points : Points) : Type 0 where
+  pub limits : WithinLimits points
   pub lines : List ℕ
-  pub head : bytes ≡ head_line mode ++ line_feed ∷ lines
-  pub body : AreLines lines points
+  pub head : bytes ≡ head_line points.version points.mode ++ line_feed ∷ lines
+  pub body : AreLines lines points.list
 
 -- Each list within the limits has one text. Here it is, as a function of the list.
 
@@ -69,5 +70,5 @@ numbers_text (z ∷ zs) = space ∷ (signed_decimal z ++ numbers_text zs)
 abbrev pub line_text : Point → List ℕ
 line_text p = name_of p.kind ++ numbers_text (numbers_of p)
 
-abbrev pub text_of : Mode → List Point → List ℕ
-text_of mode points = head_line mode ++ line_feed ∷ [] ++ flat_map line_text points
+abbrev pub text_of : Points → List ℕ
+text_of points = head_line points.version points.mode ++ line_feed ∷ [] ++ flat_map line_text points.list

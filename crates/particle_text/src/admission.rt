@@ -1,25 +1,29 @@
 //! Which points may join a list.
 ghost use Rattle.std.specs.Prelude.{◌≤◌, IfSome, IfNone};
-ghost use Rattle.points.specs.Limits.{InRange, most_weight};
+ghost use Rattle.limits.specs.Limits.{IsVersion, grid_of, most_weight};
+ghost use Rattle.points.specs.Limits.{InRange};
 ghost use Rattle.particle_text.specs.Faults.{CanJoin, IsFirstKind, PointFault};
 
 use crate::TextKind;
-use points::{Kind, MOST_POINTS, MOST_WEIGHT, Mode, Point};
+use limits::{grid_of, most_points, most_weight};
+use points::{Kind, Mode, Point};
 
-/// Why a point can't join a list of this mode, with this number of points and this total weight: the first
-/// of `Mixed`, `Many` and `Strength` that holds. `None` where it can.
+/// Why a point can't join a list of this version and mode, with this number of points and this total weight: the
+/// first of `Mixed`, `Many` and `Strength` that holds. `None` where it can.
 ///
-/// The point is in range, and the total weight is within its limit.
-pub fn admit(mode: Mode, live: u64, weight: u64, p: &Point) -> Option<TextKind>
-    requires range { InRange p.now }
-    requires weight { weight ≤ most_weight }
-    ensures some { IfSome result (IsFirstKind (PointFault mode live weight p.now)) }
-    ensures none { IfNone result (CanJoin mode live weight p.now) }
+/// The version is one that is read, the point is in its range, and the total weight is within its limit.
+pub fn admit(version: u8, mode: Mode, live: u64, weight: u64, p: &Point) -> Option<TextKind>
+    requires version { IsVersion version }
+    requires range { InRange (grid_of version) p.now }
+    requires weight { weight ≤ most_weight (grid_of version) }
+    ensures some { IfSome result (IsFirstKind (PointFault version mode live weight p.now)) }
+    ensures none { IfNone result (CanJoin version mode live weight p.now) }
 {
+    let grid = grid_of(version);
     match (mode, p.kind) {
         (Mode::Velocity, Kind::Charge(_)) | (Mode::Field, Kind::Vortex(_)) => Some(TextKind::Mixed),
-        _ if live >= MOST_POINTS => Some(TextKind::Many),
-        _ if weight + p.weight64() > MOST_WEIGHT => Some(TextKind::Strength),
+        _ if live >= most_points(grid) => Some(TextKind::Many),
+        _ if weight + p.weight64() > most_weight(grid) => Some(TextKind::Strength),
         _ => None,
     }
 }

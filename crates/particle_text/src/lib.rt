@@ -9,8 +9,9 @@ mod reader;
 
 pub use admission::admit;
 pub use law::{one_reading, one_text};
+pub use limits::in_grid;
 pub use line::parse_point;
-pub use points::{Kind, Mode, Point, PointList, Points, in_grid};
+pub use points::{Kind, Mode, Point, PointList, Points};
 pub use printer::print;
 pub use reader::{first_fault, parse};
 use thiserror::Error;
@@ -20,7 +21,7 @@ use thiserror::Error;
 pub enum TextKind {
     /// It is of no form, or its line feed is missing.
     Syntax,
-    /// A coordinate or a strength component is outside its limit.
+    /// A coordinate or a strength component is outside the limit of the version.
     Range,
     /// A charge in a velocity text, or a vortex in a field text.
     Mixed,

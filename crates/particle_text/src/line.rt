@@ -3,12 +3,14 @@ ghost use Rattle.std.specs.Prelude.{◌≡◌, IfOk, IfErr, Ok, Err, IfSome, IfN
 ghost use Rattle.points.specs.declared.Point.{Point};
 ghost use Rattle.particle_text.specs.declared.TextKind.{TextKind};
 ghost use Rattle.particle_text.specs.declared.line.Form.{Form};
+ghost use Rattle.limits.specs.Limits.{IsVersion, grid_of};
 ghost use Rattle.particle_text.specs.Faults.{FormFault};
 ghost use Rattle.points.specs.Limits.{InRange};
 ghost use Rattle.particle_text.specs.Private.{cut_point, word_of};
 ghost use Rattle.particle_text.specs.Text.{LineSpells};
 
 use crate::{Kind, Point, TextKind};
+use limits::grid_of;
 use number_text::{cut_at, read_four, read_three, read_two};
 
 /// The form of a point's line.
@@ -64,17 +66,21 @@ fn read_form(line: &[u8]) -> Option<Point>
     }
 }
 
-/// The point whose line this is, without its line feed. `Syntax` where it is the line of no point, `Range`
-/// where it is that of a point out of range.
-pub fn parse_point(line: &[u8]) -> Result<Point, TextKind>
-    ensures ok { IfOk result (λ p. LineSpells line.now p × InRange p) }
-    ensures fault { IfErr result (FormFault line.now) }
-    ensures accepts { (p : Point) → LineSpells line.now p → InRange p → result ≡ Ok p }
-    ensures refuses { (kind : TextKind) → FormFault line.now kind → result ≡ Err kind }
+/// The point whose line this is in a text of that version, without its line feed. `Syntax` where it is the line
+/// of no point, `Range` where it is that of a point out of range.
+///
+/// The version is one that is read.
+pub fn parse_point(version: u8, line: &[u8]) -> Result<Point, TextKind>
+    requires { IsVersion version }
+    ensures ok { IfOk result (λ p. LineSpells line.now p × InRange (grid_of version) p) }
+    ensures fault { IfErr result (FormFault version line.now) }
+    ensures accepts { (p : Point) → LineSpells line.now p → InRange (grid_of version) p → result ≡ Ok p }
+    ensures refuses { (kind : TextKind) → FormFault version line.now kind → result ≡ Err kind }
 {
+    let grid = grid_of(version);
     match read_form(line) {
         None => Err(TextKind::Syntax),
-        Some(point) if !point.is_in_range() => Err(TextKind::Range),
+        Some(point) if !point.is_in_range(grid) => Err(TextKind::Range),
         Some(point) => Ok(point),
     }
 }

@@ -24,26 +24,27 @@ fn write_point(text: &mut String, p: &Point) -> Result<(), AllocError>
 ///
 /// The list is within the limits. `Memory` is want of memory.
 pub fn print(alloc: Global, points: &Points) -> Result<Vec<u8>, Memory>
-    requires { WithinLimits points.now.mode points.now.list }
-    ensures text { IfOk result (λ bytes. bytes.items ≡ text_of points.now.mode points.now.list) }
-    ensures spells { IfOk result (λ bytes. Spells bytes.items points.now.mode points.now.list) }
+    requires { WithinLimits points.now }
+    ensures text { IfOk result (λ bytes. bytes.items ≡ text_of points.now) }
+    ensures spells { IfOk result (λ bytes. Spells bytes.items points.now) }
 {
-    match write_text(alloc, points.mode, points.list.points()) {
+    match write_text(alloc, points) {
         Ok(text) => Ok(text.into_bytes()),
         Err(_) => Err(Memory),
     }
 }
 
 /// The text of the points.
-fn write_text(alloc: Global, mode: Mode, points: &[Point]) -> Result<String, AllocError>
-    ensures { IfOk result (λ text. string_bytes text ≡ text_of mode points.now) }
+fn write_text(alloc: Global, points: &Points) -> Result<String, AllocError>
+    ensures { IfOk result (λ text. string_bytes text ≡ text_of points.now) }
 {
-    let head = match mode {
-        Mode::Field => "fmm 1 field\n",
-        Mode::Velocity => "fmm 1 velocity\n",
-    };
-    let mut text = String::from_str(alloc, head)?;
-    for p in points {
+    let version = points.version;
+    let mut text = String::new(alloc);
+    match points.mode {
+        Mode::Field => writeln!(text, "fmm {version} field")?,
+        Mode::Velocity => writeln!(text, "fmm {version} velocity")?,
+    }
+    for p in points.list.points() {
         write_point(&mut text, p)?;
     }
     Ok(text)

@@ -1,9 +1,9 @@
 //! Reading a text.
-ghost use Rattle.std.specs.Prelude.{◌≡◌, ◌++◌, ◌∷◌, ◌≤◌, IfOk, IfErr, IfSome, IfNone, List};
+ghost use Rattle.std.specs.Prelude.{◌≡◌, ◌++◌, ◌∷◌, ◌≤◌, IfOk, IfErr, IfSome, IfNone, ℕ};
 ghost use Rattle.points.specs.declared.Mode.{Mode};
-ghost use Rattle.points.specs.declared.Point.{Point};
+ghost use Rattle.points.specs.declared.Points.{Points};
 ghost use Rattle.particle_text.specs.Faults.{CanJoin, FirstFault, HasNoHead, IsFirstKind, LineFault, Reads};
-ghost use Rattle.points.specs.Limits.{most_weight};
+ghost use Rattle.limits.specs.Limits.{IsVersion, grid_of, most_weight};
 ghost use Rattle.particle_text.specs.Text.{BeginsWith, Spells, head_line};
 ghost use Rattle.number_text.specs.Parts.{line_feed};
 
@@ -13,41 +13,51 @@ use crate::{Mode, ParseFault, Point, PointList, Points, TextKind};
 use number_text::cut_at;
 use std::alloc::Global;
 
-/// The mode whose head line this is, without its line feed.
-fn mode_of(line: &[u8]) -> Option<Mode>
-    ensures some { IfSome result (λ mode. line.now ≡ head_line mode) }
-    ensures none { IfNone result ((mode : Mode) → line.now ≡ head_line mode → ⊥) }
+/// The version and the mode whose head line this is, without its line feed.
+fn head_of(line: &[u8]) -> Option<(u8, Mode)>
+    ensures version { IfSome result (λ head. IsVersion head.0) }
+    ensures some { IfSome result (λ head. line.now ≡ head_line head.0 head.1) }
+    ensures none { IfNone result ((version : ℕ) (mode : Mode) → IsVersion version → line.now ≡ head_line version mode → ⊥) }
 {
     if line == b"fmm 1 field".as_slice() {
-        Some(Mode::Field)
+        Some((1, Mode::Field))
     } else if line == b"fmm 1 velocity".as_slice() {
-        Some(Mode::Velocity)
+        Some((1, Mode::Velocity))
     } else {
         None
     }
 }
 
-/// The mode of the head line, and what stands behind the line.
-fn read_head(bytes: &[u8]) -> Option<(Mode, &[u8])>
-    ensures some { IfSome result (λ found. bytes.now ≡ head_line found.0 ++ line_feed ∷ found.1.now) }
+/// The version and the mode of the head line, and what stands behind the line.
+fn read_head(bytes: &[u8]) -> Option<(u8, Mode, &[u8])>
+    ensures version { IfSome result (λ found. IsVersion found.0) }
+    ensures some { IfSome result (λ found. bytes.now ≡ head_line found.0 found.1 ++ line_feed ∷ found.2.now) }
     ensures none { IfNone result (HasNoHead bytes.now) }
 {
     let (line, rest) = cut_at(b'\n', bytes)?;
-    Some((mode_of(line)?, rest))
+    let (version, mode) = head_of(line)?;
+    Some((version, mode, rest))
 }
 
 /// The point of the first line, and what stands behind the line; or what is wrong with that line.
-fn next_point(mode: Mode, live: u64, weight: u64, bytes: &[u8]) -> Result<(Point, &[u8]), TextKind>
-    requires { weight ≤ most_weight }
+fn next_point(
+    version: u8,
+    mode: Mode,
+    live: u64,
+    weight: u64,
+    bytes: &[u8],
+) -> Result<(Point, &[u8]), TextKind>
+    requires version { IsVersion version }
+    requires weight { weight ≤ most_weight (grid_of version) }
     ensures line { IfOk result (λ found. BeginsWith bytes.now found.0 found.1.now) }
-    ensures joins { IfOk result (λ found. CanJoin mode live weight found.0) }
-    ensures fault { IfErr result (IsFirstKind (LineFault mode live weight bytes.now)) }
+    ensures joins { IfOk result (λ found. CanJoin version mode live weight found.0) }
+    ensures fault { IfErr result (IsFirstKind (LineFault version mode live weight bytes.now)) }
 {
     let Some((line, rest)) = cut_at(b'\n', bytes) else {
         return Err(TextKind::Syntax);
     };
-    let point = parse_point(line)?;
-    match admit(mode, live, weight, &point) {
+    let point = parse_point(version, line)?;
+    match admit(version, mode, live, weight, &point) {
         Some(kind) => Err(kind),
         None => Ok((point, rest)),
     }
@@ -57,14 +67,14 @@ fn next_point(mode: Mode, live: u64, weight: u64, bytes: &[u8]) -> Result<(Point
 ///
 /// A text has the head line `fmm 1 field` or `fmm 1 velocity`, and then a line `charge X Y Q`, `dipole X Y BX BY`,
 /// `vortex X Y G` or `target X Y` for each point. Each line ends with a line feed, and one space stands between
-/// two words. The list has to be within the limits.
+/// two words. The list has to be within the limits of the version.
 ///
 /// `Text` names the first line at fault, counted from 1, and the first kind that holds for it. `Memory` is want of
 /// memory.
 pub fn parse(alloc: Global, bytes: &[u8]) -> Result<Points, ParseFault>
     ensures { Reads bytes.now result }
 {
-    let Some((mode, mut rest)) = read_head(bytes) else {
+    let Some((version, mode, mut rest)) = read_head(bytes) else {
         return Err(ParseFault::Text {
             line: 1,
             what: TextKind::Syntax,
@@ -74,7 +84,7 @@ pub fn parse(alloc: Global, bytes: &[u8]) -> Result<Points, ParseFault>
     let mut weight = 0;
     while !rest.is_empty() {
         let live = list.points().len() as u64;
-        let (point, more) = match next_point(mode, live, weight, rest) {
+        let (point, more) = match next_point(version, mode, live, weight, rest) {
             Ok(found) => found,
             Err(what) => {
                 return Err(ParseFault::Text {
@@ -89,7 +99,11 @@ pub fn parse(alloc: Global, bytes: &[u8]) -> Result<Points, ParseFault>
         weight += point.weight64();
         rest = more;
     }
-    Ok(Points { mode, list })
+    Ok(Points {
+        version,
+        mode,
+        list,
+    })
 }
 
 /// The first line at fault, counted from 1, and what is wrong with it; `None` where the bytes are a text.
@@ -97,15 +111,15 @@ pub fn parse(alloc: Global, bytes: &[u8]) -> Result<Points, ParseFault>
 /// So bytes are either a text or have a first fault. It takes no memory.
 pub fn first_fault(bytes: &[u8]) -> Option<(u64, TextKind)>
     ensures some { IfSome result (λ found. FirstFault bytes.now found.0 found.1) }
-    ensures none { IfNone result ((mode : Mode) × (points : List Point) × Spells bytes.now mode points) }
+    ensures none { IfNone result ((points : Points) × Spells bytes.now points) }
 {
-    let Some((mode, mut rest)) = read_head(bytes) else {
+    let Some((version, mode, mut rest)) = read_head(bytes) else {
         return Some((1, TextKind::Syntax));
     };
     let mut live = 0;
     let mut weight = 0;
     while !rest.is_empty() {
-        match next_point(mode, live, weight, rest) {
+        match next_point(version, mode, live, weight, rest) {
             Ok((point, more)) => {
                 live += 1;
                 weight += point.weight64();

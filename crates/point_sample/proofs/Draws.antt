@@ -14,7 +14,7 @@ pub five_more : (x k : ℕ) → state_after (state_after x (5 * k)) 5 ≡ state_
 five_more x k = let e : 5 * k + 5 ≡ 5 * (k + 1) = omega arith in state_after-add x (5 * k) 5 ∙ ap (state_after x) e
 
 -- a draw is below 2^16
-pub draw_below : (x n : ℕ) → draw x (suc n) < 65536
+pub draw_below : (x n : ℕ) → draw x (suc n) < 2 ^ 16
 unfolding state_after
 draw_below x n = let below : next_state (state_after x n) < 2 ^ 32 = mod_below _ _ (omega arith) in omega arith
 

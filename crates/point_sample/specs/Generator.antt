@@ -12,4 +12,4 @@ state_after x (suc n) = next_state (state_after x n)
 
 -- what the n-th draw from the state x gives, counted from 1: the upper half of the state after it
 abbrev pub draw : ℕ → ℕ → ℕ
-draw x n = state_after x n / 65536
+draw x n = state_after x n / 2 ^ 16

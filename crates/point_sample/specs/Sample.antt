@@ -1,14 +1,30 @@
 -- The points that draws make, and the sample of a seed.
 use Rattle.std.specs.Prelude.{ℕ, ◌+◌, ◌*◌, ◌/◌, ◌%◌, ◌^◌, ◌==◌, nat_lt, if◌then◌else◌, ℤ, pos, ◌-ℤ◌, List, map}
 use Rattle.std.specs.List.{range_with_len}
+use Rattle.limits.specs.Grid.{half}
+use Rattle.limits.specs.Limits.{grid_of, most_points}
 use Rattle.points.specs.declared.Kind.{Kind}
 use Rattle.points.specs.declared.Kind.TheVariants.{Charge, Dipole, Target}
+use Rattle.points.specs.declared.Mode.TheVariants.{Field}
 use Rattle.points.specs.declared.Point.{Point}
+use Rattle.points.specs.declared.Points.{Points}
 use Rattle.point_sample.specs.Generator.{draw, state_after}
+
+-- samples are of version 1
+abbrev pub sample_version : ℕ
+sample_version = 1
+
+-- the bits of their grid
+abbrev pub sample_grid : ℕ
+sample_grid = grid_of sample_version
+
+-- the greatest number of points of a sample
+abbrev pub most_sampled : ℕ
+most_sampled = most_points sample_grid
 
 -- A coordinate from the low end of the grid on. At scale 0 it may be anywhere on the side of the grid, and each scale leaves a quarter of the one before.
 abbrev pub coordinate : ℕ → ℕ → ℤ
-coordinate r scale = pos (r / 4 ^ scale) -ℤ pos 32768
+coordinate r scale = pos (r / 4 ^ scale) -ℤ pos (half sample_grid)
 
 -- a part of a strength, from -most to most
 abbrev pub component : ℕ → ℕ → ℤ
@@ -36,6 +52,10 @@ next_point x = point_of (draw x 1) (draw x 2) (draw x 3) (draw x 4) (draw x 5)
 abbrev pub sample_point : ℕ → ℕ → Point
 sample_point seed k = next_point (state_after seed (5 * k))
 
--- the sample of a seed: the points number 0 to n - 1
+-- the points of the sample of a seed: those number 0 to n - 1
 abbrev pub sample_list : ℕ → ℕ → List Point
 sample_list seed n = map (sample_point seed) (range_with_len 0 n)
+
+-- the sample of a seed
+abbrev pub sample : ℕ → ℕ → Points
+sample seed n = record { version = sample_version; mode = Field; list = sample_list seed n }

@@ -1,8 +1,9 @@
 //! The generator of samples.
-ghost use Rattle.std.specs.Prelude.{◌≡◌, ◌/◌, ◌<◌, ◌≤◌};
+ghost use Rattle.std.specs.Prelude.{◌≡◌, ◌/◌, ◌^◌, ◌<◌, ◌≤◌};
 ghost use Rattle.point_sample.specs.Generator.{next_state, state_after};
 ghost use Rattle.point_sample.specs.Sample.{component, coordinate, kind_of, next_point};
 
+use limits::{FIRST_GRID, half};
 use points::{Kind, Point};
 
 /// A linear congruential generator of 32 bits.
@@ -22,7 +23,7 @@ impl Generator {
     /// Moves to the next state and gives its upper half.
     fn draw(&mut self) -> u16
         ensures state { self.new.state ≡ next_state self.old.state }
-        ensures value { result ≡ self.new.state / 65536 }
+        ensures value { result ≡ self.new.state / 2 ^ 16 }
     {
         let next = self
             .state
@@ -56,7 +57,7 @@ fn coordinate(draw: u16, scale: u16) -> i64
     requires { scale < 4 }
     ensures { result ≡ coordinate draw scale }
 {
-    i64::from(draw >> (2 * scale)) - 32_768
+    i64::from(draw >> (2 * scale)) - half(FIRST_GRID)
 }
 
 /// A part of a strength, at most `most` in size.

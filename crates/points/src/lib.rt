@@ -1,8 +1,9 @@
 //! Particles, what they are to the sum, and lists of them within their limits.
 #![tactic(auto)]
 
-ghost use Rattle.std.specs.Prelude.{◌≡◌, List, [], ◌∷◌, ◌++◌, ◌↔◌, IsTrue, OnOk, OnErr};
+ghost use Rattle.std.specs.Prelude.{◌≡◌, ◌≤◌, List, [], ◌∷◌, ◌++◌, ◌↔◌, IsTrue, OnOk, OnErr};
 ghost use Rattle.exact_math.specs.Gaussian.{gaussian};
+ghost use Rattle.exact_math.specs.Sizes.{weight_at};
 ghost use Rattle.limits.specs.Limits.{IsGrid, most_strength, widest_grid};
 ghost use Rattle.points.specs.Limits.{InRange, HasStrength, weight64};
 ghost use Rattle.points.specs.Points.{pole, dipole, strength, is_source};
@@ -122,18 +123,33 @@ impl Point {
         }
     }
 
-    /// The weight `abs(a) + 64 abs(b)`, where `abs` of a complex number is `abs(re) + abs(im)`.
+    /// The weight `abs(a) + 2 order abs(b)` at an order, where `abs` of a complex number is `abs(re) + abs(im)`: how much an
+    /// expansion that is cut off at the order can leave of the point, but for a factor.
+    ///
+    /// The point is in range of some version, and `order` is 1 to 32.
+    pub fn weight(&self, order: u32) -> u64
+        requires range { InRange widest_grid self.now }
+        requires least { 1 ≤ order }
+        requires most { order ≤ 32 }
+        ensures { result ≡ weight_at order (pole self.now.kind) (dipole self.now.kind) }
+    {
+        match self.kind.strength() {
+            Strength::Pole(re, im) => re.unsigned_abs() + im.unsigned_abs(),
+            Strength::Dipole(re, im) => 2
+                * u64::from(order)
+                * (re.unsigned_abs() + im.unsigned_abs()),
+            Strength::Nothing => 0,
+        }
+    }
+
+    /// The weight at order 32, `abs(a) + 64 abs(b)`, which the text limits.
     ///
     /// The point is in range of some version.
     pub fn weight64(&self) -> u64
         requires { InRange widest_grid self.now }
         ensures { result ≡ weight64 self.now }
     {
-        match self.kind.strength() {
-            Strength::Pole(re, im) => re.unsigned_abs() + im.unsigned_abs(),
-            Strength::Dipole(re, im) => 64 * (re.unsigned_abs() + im.unsigned_abs()),
-            Strength::Nothing => 0,
-        }
+        self.weight(32)
     }
 }
 

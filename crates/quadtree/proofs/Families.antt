@@ -9,7 +9,7 @@ use Rattle.std.proofs.lemmas.List.Elements.{filter-append}
 use Rattle.std.proofs.lemmas.List.Kept.{AllPairs-filter}
 use Rattle.points.specs.declared.Point.{Point}
 use Rattle.cell_name.specs.Quarters.{quarters}
-use Rattle.cell_name.specs.Square.{Square, root, parent}
+use Rattle.cell_name.specs.Square.{Square, no_square, parent}
 use Rattle.cell_name.proofs.Order.{IsBefore-irrefl}
 use Rattle.cell_name.proofs.Quarters.{quarters_contain}
 use Rattle.quadtree.specs.declared.children.Children.{Children}
@@ -41,32 +41,32 @@ among parents n count k h =
     record { below = range_below count k kept.0; positive = ltb-true 0 k parts.0; parent_is = eqb-true (get_or parents k 0) n parts.1 }
 
 -- no cell has more than four: they are different quarters of it
-pub at_most_four : (points : List Point) (cap : ℕ) (cells : List Square) (parents : List ℕ) → AreInGrid 16 points → AreTreeCells 16 points cap cells → ((k : ℕ) → k < length cells → IsParentNumber cells (get_or cells k (root 16)) (get_or parents k 0)) → (n : ℕ) → length (children_among parents n (length cells)) ≤ 4
-at_most_four points cap cells parents inside t named n =
+pub at_most_four : (grid : ℕ) (points : List Point) (cap : ℕ) (cells : List Square) (parents : List ℕ) → 0 < grid → AreInGrid grid points → AreTreeCells grid points cap cells → ((k : ℕ) → k < length cells → IsParentNumber cells (get_or cells k no_square) (get_or parents k 0)) → (n : ℕ) → length (children_among parents n (length cells)) ≤ 4
+at_most_four grid points cap cells parents positive inside t named n =
     let children : List ℕ = children_among parents n (length cells) in
-    let cell : ℕ → Square = λ k. get_or cells k (root 16) in
+    let cell : ℕ → Square = λ k. get_or cells k no_square in
     let c : Square = cell n in
     let fewer : length (map cell children) ≤ length (quarters c) = length-le_from_different (map cell children) (quarters c) different quarter in
     omega (arith, fewer, length-map children cell)
   where
-    different : AllPairs (λ a b. a ≢ b) (map (λ k. get_or cells k (root 16)) (children_among parents n (length cells)))
+    different : AllPairs (λ a b. a ≢ b) (map (λ k. get_or cells k no_square) (children_among parents n (length cells)))
     different =
-        AllPairs-map (λ a b. a ≢ b) (λ k. get_or cells k (root 16)) (children_among parents n (length cells))
-        (AllPairs-filter (λ j k. get_or cells j (root 16) ≢ get_or cells k (root 16)) (λ k. ltb 0 k && eqb (get_or parents k 0) n) (range_with_len 0 (length cells))
+        AllPairs-map (λ a b. a ≢ b) (λ k. get_or cells k no_square) (children_among parents n (length cells))
+        (AllPairs-filter (λ j k. get_or cells j no_square ≢ get_or cells k no_square) (λ k. ltb 0 k && eqb (get_or parents k 0) n) (range_with_len 0 (length cells))
         (λ i j d lt in_range e.
         let r = AllPairs-range (length cells) i j d lt in_range in
-        IsBefore-irrefl _ _ e (t.ascending _ _ (root 16) r.0 r.1)))
+        IsBefore-irrefl _ _ e (t.ascending _ _ no_square r.0 r.1)))
 
-    quarter : (s : Square) → Contains (map (λ k. get_or cells k (root 16)) (children_among parents n (length cells))) s → Contains (quarters (get_or cells n (root 16))) s
+    quarter : (s : Square) → Contains (map (λ k. get_or cells k no_square) (children_among parents n (length cells))) s → Contains (quarters (get_or cells n no_square)) s
     quarter s h =
-        let i = image_of (λ k. get_or cells k (root 16)) (children_among parents n (length cells)) s h in
+        let i = image_of (λ k. get_or cells k no_square) (children_among parents n (length cells)) s h in
         let k : ℕ = i.source in
         let a = among parents n (length cells) k i.listed in
-        let lo = level_of_others points cap cells inside t k a.below a.positive in
-        let up : parent (get_or cells k (root 16)) ≡ get_or cells n (root 16) = sym ((named k a.below).of_others lo) ∙ ap (λ m. get_or cells m (root 16)) a.parent_is in
-        let P : Square → Type 0 = λ v. Contains (quarters v) (get_or cells k (root 16)) in
-        let Q : Square → Type 0 = λ v. Contains (quarters (get_or cells n (root 16))) v in
-        subst Q i.gives (subst P up (quarters_contain (get_or cells k (root 16)) lo))
+        let lo = level_of_others grid points cap cells positive inside t k a.below a.positive in
+        let up : parent (get_or cells k no_square) ≡ get_or cells n no_square = sym ((named k a.below).of_others lo) ∙ ap (λ m. get_or cells m no_square) a.parent_is in
+        let P : Square → Type 0 = λ v. Contains (quarters v) (get_or cells k no_square) in
+        let Q : Square → Type 0 = λ v. Contains (quarters (get_or cells n no_square)) v in
+        subst Q i.gives (subst P up (quarters_contain (get_or cells k no_square) lo))
 
 -- ---- gathering the children
 -- the children among one number more

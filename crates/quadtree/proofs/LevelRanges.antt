@@ -7,7 +7,7 @@ use Rattle.std.proofs.lemmas.List.{get_or-map, length-map}
 use Rattle.cell_name.specs.declared.cell.Cell.{Cell}
 use Rattle.cell_name.specs.Cell.{square}
 use Rattle.cell_name.specs.Order.{IsBefore}
-use Rattle.cell_name.specs.Square.{Square, root}
+use Rattle.cell_name.specs.Square.{Square, no_square}
 use Rattle.quadtree.specs.TreeModel.{TreeModel, size, square_of, IsLevel}
 
 level_before : (c d : Square) → IsBefore c d → c.level ≤ d.level
@@ -19,8 +19,8 @@ levels_rise cells up i j d le inside =
     elim (cases_lt i j) [
       | inl lt ↦
           let many = length-map cells square in
-          let at : (k : ℕ) → k < length cells → get_or (map square cells) k (root 16) ≡ square (get_or cells k d) = λ k l. get_or-map square cells k d (root 16) l in
-          let h : IsBefore (get_or (map square cells) i (root 16)) (get_or (map square cells) j (root 16)) = up i j (root 16) lt (omega arith) in
+          let at : (k : ℕ) → k < length cells → get_or (map square cells) k no_square ≡ square (get_or cells k d) = λ k l. get_or-map square cells k d no_square l in
+          let h : IsBefore (get_or (map square cells) i no_square) (get_or (map square cells) j no_square) = up i j no_square lt (omega arith) in
           let low = level_before _ _ h in
           omega (arith, low, ap (λ (s : Square). s.level) (at i (omega arith)), ap (λ (s : Square). s.level) (at j inside))
       | inr ge ↦ let e : i ≡ j = omega arith in omega (arith, ap (λ k. (get_or cells k d).level) e)
@@ -56,7 +56,7 @@ level_between tree level first end lf le from to = by_cells tree.cells refl
             ]
 
         here : (n : ℕ) → n < size tree → (square_of tree n).level ≡ (get_or tree.cells n c).level
-        here n lt = ap (λ (s : Square). s.level) (get_or-map square tree.cells n c (root 16) lt)
+        here n lt = ap (λ (s : Square). s.level) (get_or-map square tree.cells n c no_square lt)
 
         exact : (n : ℕ) → n < size tree → ((first ≤ n) × (n < end)) ↔ ((square_of tree n).level ≡ level)
         exact n lt = (

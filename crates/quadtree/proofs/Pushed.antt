@@ -9,7 +9,7 @@ use Rattle.points.specs.declared.Point.{Point}
 use Rattle.cell_name.specs.declared.cell.Cell.{Cell}
 use Rattle.cell_name.specs.Cell.{square}
 use Rattle.cell_name.specs.Quarters.{quarters}
-use Rattle.cell_name.specs.Square.{Square, root, child, holds_test}
+use Rattle.cell_name.specs.Square.{Square, no_square, child, holds_test}
 use Rattle.cell_name.proofs.Quarters.{parent-child}
 use Rattle.quadtree.specs.declared.divide.Parts.{Parts}
 use Rattle.quadtree.specs.declared.split.Run.{Run}
@@ -75,9 +75,9 @@ pushed points above xs ys m was now cell parent h members of added grown =
     ]))
 
 -- the number of a cell's quarters' parent is the cell's
-pub parent_of_quarter : (cells : List Square) (number right top : ℕ) → number < length cells → right ≤ 1 → top ≤ 1 → IsParentNumber cells (child (get_or cells number (root 16)) right top) number
+pub parent_of_quarter : (cells : List Square) (number right top : ℕ) → number < length cells → right ≤ 1 → top ≤ 1 → IsParentNumber cells (child (get_or cells number no_square) right top) number
 parent_of_quarter cells number right top lt p q =
-    let c : Square = get_or cells number (root 16) in
+    let c : Square = get_or cells number no_square in
     record { in_range = lt; of_root = λ e. absurd (omega arith); of_others = λ lo. sym (parent-child c right top p q) }
 
 -- a cell has no more members than there are points, so the buffers have room for them
@@ -93,10 +93,10 @@ has_room points xs run parts r h =
     }
 
 -- what a quarter adds, whose members stand in front of a buffer
-pub quarter_pushed : (points : List Point) (above : List Run) (was now : List Run) (first xs ys buffer taken : List ℕ) (cell : Cell) (run : Run) (number right top n : ℕ) → AreBelow points above xs was → number < length (squares_of above) → get_or (squares_of above) number (root 16) ≡ square run.cell → IsRun points first run → run.cell.level ≤ 15 → right ≤ 1 → top ≤ 1 → square cell ≡ child (square run.cell) right top → IsFront points (child (square run.cell) right top) (slice_range first run.from run.to) buffer n → taken ≡ take n buffer → ys ≡ xs ++ taken → now ≡ was ++ added_run cell number (length xs) taken → IsPushed points above ys was now (child (get_or (squares_of above) number (root 16)) right top)
+pub quarter_pushed : (points : List Point) (above : List Run) (was now : List Run) (first xs ys buffer taken : List ℕ) (cell : Cell) (run : Run) (number right top n : ℕ) → AreBelow points above xs was → number < length (squares_of above) → get_or (squares_of above) number no_square ≡ square run.cell → IsRun points first run → run.cell.level < run.cell.grid → right ≤ 1 → top ≤ 1 → square cell ≡ child (square run.cell) right top → IsFront points (child (square run.cell) right top) (slice_range first run.from run.to) buffer n → taken ≡ take n buffer → ys ≡ xs ++ taken → now ≡ was ++ added_run cell number (length xs) taken → IsPushed points above ys was now (child (get_or (squares_of above) number no_square) right top)
 quarter_pushed points above was now first xs ys buffer taken cell run number right top n h lt here r room le_right le_top named front is_taken added grown =
     let c : Square = square run.cell in
-    let q : Square = child (get_or (squares_of above) number (root 16)) right top in
+    let q : Square = child (get_or (squares_of above) number no_square) right top in
     let e : square cell ≡ q = named ∙ ap (λ s. child s right top) (sym here) in
     let P : Square → Type 0 = λ s. IsPushed points above ys was now s in
     let N : Square → Type 0 = λ s. IsParentNumber (squares_of above) s number in

@@ -1,5 +1,5 @@
 -- The whole grid holds each point.
-use Rattle.std.proofs.Common.{ℕ, ◌≡◌, ◌+◌, ◌-◌, ◌<◌, ◌≤◌, List, [], ◌∷◌, ◌++◌, length, get_or, true, sym, ap, ◌∙◌, subst, arith, lit<}
+use Rattle.std.proofs.Common.{ℕ, ◌≡◌, ◌+◌, ◌-◌, ◌<◌, ◌≤◌, List, [], ◌∷◌, ◌++◌, length, get_or, true, sym, ap, ◌∙◌, subst, arith}
 use Rattle.std.specs.Prelude.{ℤ, All, slice_range}
 use Rattle.std.specs.List.{range_with_len}
 use Rattle.std.proofs.lemmas.List.{take_all}
@@ -38,37 +38,37 @@ count_in-root : (grid : ℕ) (points : List Point) → 0 < grid → AreInGrid gr
 count_in-root grid points positive inside = sym (length-members points (root grid)) ∙ ap length (members_of-root grid points positive inside) ∙ length-range_with_len 0 (length points)
 
 -- what the tree begins with
-pub record IsBegun (points : List Point) (xs : List ℕ) (runs : List Run) : Type 0 where
-  pub cells : squares_of runs ≡ occupied points (root 16 ∷ [])
+pub record IsBegun (grid : ℕ) (points : List Point) (xs : List ℕ) (runs : List Run) : Type 0 where
+  pub cells : squares_of runs ≡ occupied points (root grid ∷ [])
   pub runs_are : AreRuns points xs runs
   pub parents : HaveParents (squares_of runs) runs
 
-pub begun_with : (points : List Point) (xs : List ℕ) (run : Run) → AreInGrid 16 points → xs ≡ range_with_len 0 (length points) → square run.cell ≡ root 16 → run.parent ≡ 0 → run.from ≡ 0 → run.to ≡ length points → 0 < length points → IsBegun points xs (run ∷ [])
-begun_with points xs run inside e cell parent from to some =
+pub begun_with : (grid : ℕ) (points : List Point) (xs : List ℕ) (run : Run) → 0 < grid → AreInGrid grid points → xs ≡ range_with_len 0 (length points) → square run.cell ≡ root grid → run.parent ≡ 0 → run.from ≡ 0 → run.to ≡ length points → 0 < length points → IsBegun grid points xs (run ∷ [])
+begun_with grid points xs run positive inside e cell parent from to some =
     let size : length xs ≡ length points = ap length e ∙ length-range_with_len 0 (length points) in
     let below : All (λ k. k < 0 + length points) (range_with_len 0 (length points)) = range_below 0 (length points) in
     let P : List ℕ → Type 0 = λ l. All (λ k. k < length points) l in
     let whole : slice_range xs run.from run.to ≡ xs = ap (λ n. slice_range xs n run.to) from ∙ take_all (run.to - 0) xs (omega arith) in
-    let count = count_in-root 16 points (lit< tt) inside in
+    let count = count_in-root grid points positive inside in
     record {
-      cells = ap (λ c. c ∷ []) cell ∙ sym (occupied-one points (root 16) (omega arith));
+      cells = ap (λ c. c ∷ []) cell ∙ sym (occupied-one points (root grid) (omega arith));
       runs_are =
           record {
             positions_below = subst P (sym e) (All-weaker (λ k. k < 0 + length points) (λ k. k < length points) (λ k lt. omega arith) (range_with_len 0 (length points)) below);
-            each = All-from_recursion (IsRun points xs) (run ∷ []) (record { ordered = omega arith; in_range = omega arith; members_are = whole ∙ e ∙ sym (members_of-root 16 points (lit< tt) inside) ∙ ap (members_of points) (sym cell) }, tt);
+            each = All-from_recursion (IsRun points xs) (run ∷ []) (record { ordered = omega arith; in_range = omega arith; members_are = whole ∙ e ∙ sym (members_of-root grid points positive inside) ∙ ap (members_of points) (sym cell) }, tt);
           };
       parents =
           All-from_recursion (λ (r : Run). IsParentNumber (squares_of (run ∷ [])) (square r.cell) r.parent) (run ∷ [])
           (record { in_range = omega arith; of_root = λ e. parent; of_others = λ lo. absurd (let e : run.cell.level ≡ 0 = ap (λ (c : Square). c.level) cell in omega arith) }, tt);
     }
 
-pub begun_empty : (points : List Point) (xs : List ℕ) → AreInGrid 16 points → xs ≡ range_with_len 0 (length points) → length points ≤ 0 → IsBegun points xs []
-begun_empty points xs inside e none =
+pub begun_empty : (grid : ℕ) (points : List Point) (xs : List ℕ) → 0 < grid → AreInGrid grid points → xs ≡ range_with_len 0 (length points) → length points ≤ 0 → IsBegun grid points xs []
+begun_empty grid points xs positive inside e none =
     let below : All (λ k. k < 0 + length points) (range_with_len 0 (length points)) = range_below 0 (length points) in
     let P : List ℕ → Type 0 = λ l. All (λ k. k < length points) l in
-    let count = count_in-root 16 points (lit< tt) inside in
+    let count = count_in-root grid points positive inside in
     record {
-      cells = sym (occupied-none points (root 16) (omega arith));
+      cells = sym (occupied-none points (root grid) (omega arith));
       runs_are =
           record {
             positions_below = subst P (sym e) (All-weaker (λ k. k < 0 + length points) (λ k. k < length points) (λ k lt. omega arith) (range_with_len 0 (length points)) below);
@@ -78,10 +78,10 @@ begun_empty points xs inside e none =
     }
 
 -- the same, for lists that the code made
-pub begun_pushed : (run : Run) (points : List Point) (xs : List ℕ) (was runs : List Run) → runs ≡ was ++ run ∷ [] → was ≡ [] → AreInGrid 16 points → xs ≡ range_with_len 0 (length points) → square run.cell ≡ root 16 → run.parent ≡ 0 → run.from ≡ 0 → run.to ≡ length points → 0 < length points → IsBegun points xs runs
-begun_pushed run points xs was runs e empty inside positions cell parent from to some =
-    let P : List Run → Type 0 = λ l. IsBegun points xs l in
-    subst P (sym (e ∙ ap (λ l. l ++ run ∷ []) empty)) (begun_with points xs run inside positions cell parent from to some)
+pub begun_pushed : (grid : ℕ) (run : Run) (points : List Point) (xs : List ℕ) (was runs : List Run) → runs ≡ was ++ run ∷ [] → was ≡ [] → 0 < grid → AreInGrid grid points → xs ≡ range_with_len 0 (length points) → square run.cell ≡ root grid → run.parent ≡ 0 → run.from ≡ 0 → run.to ≡ length points → 0 < length points → IsBegun grid points xs runs
+begun_pushed grid run points xs was runs e empty positive inside positions cell parent from to some =
+    let P : List Run → Type 0 = λ l. IsBegun grid points xs l in
+    subst P (sym (e ∙ ap (λ l. l ++ run ∷ []) empty)) (begun_with grid points xs run positive inside positions cell parent from to some)
 
-pub begun_not : (points : List Point) (xs : List ℕ) (runs : List Run) → runs ≡ [] → AreInGrid 16 points → xs ≡ range_with_len 0 (length points) → length points ≤ 0 → IsBegun points xs runs
-begun_not points xs runs e inside positions none = let P : List Run → Type 0 = λ l. IsBegun points xs l in subst P (sym e) (begun_empty points xs inside positions none)
+pub begun_not : (grid : ℕ) (points : List Point) (xs : List ℕ) (runs : List Run) → runs ≡ [] → 0 < grid → AreInGrid grid points → xs ≡ range_with_len 0 (length points) → length points ≤ 0 → IsBegun grid points xs runs
+begun_not grid points xs runs e positive inside positions none = let P : List Run → Type 0 = λ l. IsBegun grid points xs l in subst P (sym e) (begun_empty grid points xs positive inside positions none)

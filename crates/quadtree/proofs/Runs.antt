@@ -42,7 +42,7 @@ pub members_below : (points : List Point) (c : Square) → All (λ k. k < length
 members_below points c = All-filter (λ k. holds_position c points k) (λ k. k < length points) (range_with_len 0 (length points)) (let h : All (λ k. k < 0 + length points) (range_with_len 0 (length points)) = range_below 0 (length points) in All-weaker (λ k. k < 0 + length points) (λ k. k < length points) (λ k lt. omega arith) (range_with_len 0 (length points)) h)
 
 -- a quarter's members among those of its cell
-pub members_of_quarter : (points : List Point) (xs : List ℕ) (run : Run) (right top : ℕ) → IsRun points xs run → right ≤ 1 → top ≤ 1 → run.cell.level ≤ 15 → members_among points (child (square run.cell) right top) (slice_range xs run.from run.to) ≡ members_of points (child (square run.cell) right top)
+pub members_of_quarter : (points : List Point) (xs : List ℕ) (run : Run) (right top : ℕ) → IsRun points xs run → right ≤ 1 → top ≤ 1 → run.cell.level < run.cell.grid → members_among points (child (square run.cell) right top) (slice_range xs run.from run.to) ≡ members_of points (child (square run.cell) right top)
 members_of_quarter points xs run right top r p q room =
     let c : Square = child (square run.cell) right top in
     ap (members_among points c) (r.members_are ∙ ap (members_of points) (sym (parent-child (square run.cell) right top p q))) ∙ members-parent points c (range_with_len 0 (length points)) (omega arith) (omega arith)

@@ -1,10 +1,8 @@
 -- The cells of the tree, sorted.
-use Rattle.std.proofs.Common.{ℕ, ◌≡◌, ◌+◌, List, [], ◌∷◌, get_or, Bool, true, false, Decides, Ordering, Less, Equal, Greater, refl, sym, ap, ◌∙◌, subst, arith, eqb}
-use Rattle.std.specs.Prelude.{AllPairs, ◌&&◌}
+use Rattle.std.proofs.Common.{ℕ, ◌≡◌, ◌+◌, List, [], ◌∷◌, get_or, Bool, true, false, Decides, Ordering, Less, Equal, Greater, refl, sym, ap, ◌∙◌, subst, arith}
+use Rattle.std.specs.Prelude.{AllPairs}
 use Rattle.std.specs.List.Sorted.{IsPermutation, IsSortedBy}
 use Rattle.std.specs.Ordering.{is_lt, is_eq, nat_cmp, ordering_then}
-use Rattle.std.proofs.lemmas.Bool.{and_from, and_parts}
-use Rattle.std.proofs.lemmas.Bool.Decides.{Decides-eqb}
 use Rattle.std.proofs.lemmas.List.{get_or-map, length-map}
 use Rattle.std.proofs.lemmas.List.Sorted.{All-permutation, Contains-permutation, ranks_by, sorted_far}
 use Rattle.points.specs.declared.Point.{Point}
@@ -30,7 +28,7 @@ cell_not_less Greater p h = refl
 
 -- whether two cells are one
 abbrev same : Square → Square → Bool
-same c d = eqb c.grid d.grid && is_eq (square_cmp c d)
+same c d = is_eq (square_cmp c d)
 
 is_equal : (o : Ordering) → is_eq o ≡ true → o ≡ Equal
 is_equal Less e = absurd (let f : false ≡ true = e in cc)
@@ -38,10 +36,7 @@ is_equal Equal e = refl
 is_equal Greater e = absurd (let f : false ≡ true = e in cc)
 
 same-decides : (c d : Square) → Decides (same c d) (c ≡ d)
-same-decides c d = (
-  λ h. let parts = and_parts (eqb c.grid d.grid) (is_eq (square_cmp c d)) h in same-from_Equal c d ((Decides-eqb c.grid d.grid).0 parts.0) (is_equal (square_cmp c d) parts.1),
-  λ e. and_from (eqb c.grid d.grid) (is_eq (square_cmp c d)) ((Decides-eqb c.grid d.grid).1 (ap (λ (s : Square). s.grid) e)) (ap is_eq (Equal-from_same c d e)),
-)
+same-decides c d = (λ h. same-from_Equal c d (is_equal (square_cmp c d) h), λ e. ap is_eq (Equal-from_same c d e))
 
 -- sorted runs have sorted cells
 sorted_squares : (runs : List Run) → IsSortedBy (λ a b. is_lt (run_cmp a b)) runs → IsSortedBy (λ a b. is_lt (square_cmp a b)) (squares_of runs)

@@ -6,11 +6,12 @@ use Rattle.std.proofs.lemmas.Bool.{and_from, and_parts, cases_lt, eq-eqb, eqb-tr
 use Rattle.std.proofs.lemmas.List.{get_or_default, length-map}
 use Rattle.std.proofs.lemmas.List.Elements.{All-get_or}
 use Rattle.std.proofs.lemmas.List.Kept.{AllPairs-filter}
+use Rattle.limits.proofs.Grids.{grid_positive}
 use Rattle.points.specs.declared.Point.{Point}
 use Rattle.cell_name.specs.Cell.{square}
 use Rattle.cell_name.specs.Order.{IsBefore}
 use Rattle.cell_name.specs.Quarters.{quarters}
-use Rattle.cell_name.specs.Square.{Square, root, parent}
+use Rattle.cell_name.specs.Square.{Square, no_square, parent}
 use Rattle.quadtree.specs.Splitting.{below}
 use Rattle.quadtree.specs.Tree.{AreInGrid, count_in, IsSplit, IsTreeCell}
 use Rattle.quadtree.specs.TreeModel.{TreeModel, size, squares, square_of, node_of, is_child, children_of, IsTreeOf}
@@ -32,10 +33,13 @@ pub record IsChildOf (tree : TreeModel) (n c : ℕ) : Type 0 where
   pub behind : n < c
 
 -- the cell of a number is one of the tree
-pub tree_cell_at : (tree : TreeModel) (points : List Point) (cap n : ℕ) → IsTreeOf 16 tree points cap → n < size tree → IsTreeCell 16 points cap (square_of tree n)
-tree_cell_at tree points cap n h lt = All-get_or (IsTreeCell 16 points cap) (squares tree) n (root 16) (omega (arith, length-map tree.cells square)) h.cells_are.in_tree
+pub tree_cell_at : (tree : TreeModel) (points : List Point) (cap n : ℕ) → IsTreeOf tree points cap → n < size tree → IsTreeCell tree.grid points cap (square_of tree n)
+tree_cell_at tree points cap n h lt = All-get_or (IsTreeCell tree.grid points cap) (squares tree) n no_square (omega (arith, length-map tree.cells square)) h.cells_are.in_tree
 
-module _ (tree : TreeModel) (points : List Point) (cap : ℕ) (inside : AreInGrid 16 points) (h : IsTreeOf 16 tree points cap) where
+module _ (tree : TreeModel) (points : List Point) (cap : ℕ) (inside : AreInGrid tree.grid points) (h : IsTreeOf tree points cap) where
+  positive : 0 < tree.grid
+  positive = grid_positive tree.grid h.known_grid
+
   as_many : length (squares tree) ≡ size tree
   as_many = length-map tree.cells _
 
@@ -43,7 +47,7 @@ module _ (tree : TreeModel) (points : List Point) (cap : ℕ) (inside : AreInGri
   same m n lm ln e = number_unique (squares tree) m n h.cells_are.ascending (omega (arith, as_many)) (omega (arith, as_many)) e
 
   level_of : (n : ℕ) → 0 < n → n < size tree → 0 < (square_of tree n).level
-  level_of n lo lt = level_of_others points cap (squares tree) inside h.cells_are n (omega (arith, as_many)) lo
+  level_of n lo lt = level_of_others tree.grid points cap (squares tree) positive inside h.cells_are n (omega (arith, as_many)) lo
 
   -- a deeper cell stands behind
   deeper_behind : (m n : ℕ) → m < size tree → n < size tree → (square_of tree m).level < (square_of tree n).level → m < n
@@ -54,7 +58,7 @@ module _ (tree : TreeModel) (points : List Point) (cap : ℕ) (inside : AreInGri
             elim (cases_lt n m) [
               | inr le ↦ absurd (let e : n ≡ m = omega arith in omega (arith, ap (λ k. (square_of tree k).level) e))
               | inl after ↦
-                  let before : IsBefore (square_of tree n) (square_of tree m) = h.cells_are.ascending n m (root 16) after (omega (arith, as_many)) in
+                  let before : IsBefore (square_of tree n) (square_of tree m) = h.cells_are.ascending n m no_square after (omega (arith, as_many)) in
                   absurd (elim before.before [ inl lower ↦ omega arith | inr level ↦ omega (arith, level.0) ])
             ]
       ]
@@ -84,17 +88,17 @@ module _ (tree : TreeModel) (points : List Point) (cap : ℕ) (inside : AreInGri
       not_first : (0 < c) ⊎ (c ≤ 0) → 0 < c
       not_first (inl fine) = fine
       not_first (inr none) =
-          let first : (square_of tree 0).level ≡ 0 = level_of_first points cap (squares tree) inside h.cells_are (omega (arith, as_many)) in
+          let first : (square_of tree 0).level ≡ 0 = level_of_first tree.grid points cap (squares tree) positive inside h.cells_are (omega (arith, as_many)) in
           let e : c ≡ 0 = omega arith in
           absurd (omega (arith, first, ap (λ k. (square_of tree k).level) e))
 
   -- in order they are the quarters of the cell that stand in the tree: those with a point, where the cell has more points than the capacity
-  pub children_squares : (n : ℕ) → n < size tree → (square_of tree n).level < 16 → map (square_of tree) (node_of tree n).children ≡ below points cap (square_of tree n)
+  pub children_squares : (n : ℕ) → n < size tree → (square_of tree n).level < tree.grid → map (square_of tree) (node_of tree n).children ≡ below points cap (square_of tree n)
   children_squares n lt room =
       ap (map (square_of tree)) (h.nodes_are n lt).children_are ∙
       same_list (map (square_of tree) (children_of tree n)) (below points cap (square_of tree n))
       (AllPairs-map IsBefore (square_of tree) (children_of tree n) (AllPairs-filter (λ a b. IsBefore (square_of tree a) (square_of tree b)) (is_child tree n) (range_with_len 0 (size tree))
-      (λ i j d l in_range. let r = AllPairs-range (size tree) i j d l in_range in h.cells_are.ascending _ _ (root 16) r.0 (omega (arith, r.1, as_many)))))
+      (λ i j d l in_range. let r = AllPairs-range (size tree) i j d l in_range in h.cells_are.ascending _ _ no_square r.0 (omega (arith, r.1, as_many)))))
       ascends down up
     where
       ascends : AllPairs IsBefore (below points cap (square_of tree n))
@@ -124,10 +128,10 @@ module _ (tree : TreeModel) (points : List Point) (cap : ℕ) (inside : AreInGri
           let b = below_is points cap (square_of tree n) s m in
           let here = tree_cell_at tree points cap n h lt in
           let S : Square → Type 0 = λ v. IsSplit points cap v in
-          let in_tree : IsTreeCell 16 points cap s = IsTreeCell-from_below 16 points cap s (b.quarter.of_grid ∙ here.of_grid) (omega (arith, b.quarter.level)) (omega (arith, b.quarter.level)) b.occupied (subst S (sym b.quarter.parent_is) b.split) in
+          let in_tree : IsTreeCell tree.grid points cap s = IsTreeCell-from_below tree.grid points cap s (b.quarter.of_grid ∙ here.of_grid) (omega (arith, b.quarter.level)) (omega (arith, b.quarter.level)) b.occupied (subst S (sym b.quarter.parent_is) b.split) in
           let k = h.cells_are.whole s in_tree in
           let in_range : k.0 < size tree = omega (arith, k.1, as_many) in
-          let is : square_of tree k.0 ≡ s = get_or_default (squares tree) k.0 (root 16) s k.1 ∙ k.2 in
+          let is : square_of tree k.0 ≡ s = get_or_default (squares tree) k.0 no_square s k.1 ∙ k.2 in
           let level : (square_of tree k.0).level ≡ s.level = ap (λ (v : Square). v.level) is in
           let L : List ℕ → Type 0 = λ l. Contains l k.0 in
           let listed = subst L (h.nodes_are n lt).children_are (child_listed n k.0 lt in_range (omega (arith, b.quarter.level)) (ap parent is ∙ b.quarter.parent_is)) in

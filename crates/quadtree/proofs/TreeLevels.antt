@@ -1,5 +1,5 @@
 -- The cells of all levels down to one.
-use Rattle.std.proofs.Common.{ℕ, ◌≡◌, ◌≢◌, ◌+◌, ◌<◌, ◌≤◌, zero, suc, inl, inr, List, [], ◌∷◌, ◌++◌, length, get_or, drop, ltb, refl, sym, ap, ◌∙◌, subst, arith, add-one, length-append, lit<}
+use Rattle.std.proofs.Common.{ℕ, ◌≡◌, ◌≢◌, ◌+◌, ◌<◌, ◌≤◌, zero, suc, inl, inr, List, [], ◌∷◌, ◌++◌, length, get_or, drop, ltb, refl, sym, ap, ◌∙◌, subst, arith, add-one, length-append}
 use Rattle.std.specs.Prelude.{All, AllPairs, Contains}
 use Rattle.std.specs.List.{flat_map}
 use Rattle.std.specs.List.Sorted.{IsPermutation, IsSortedBy}
@@ -12,7 +12,7 @@ use Rattle.std.proofs.lemmas.List.Sorted.{IsPermutation-map, All-permutation}
 use Rattle.points.specs.declared.Point.{Point}
 use Rattle.cell_name.specs.Cell.{square}
 use Rattle.cell_name.specs.Order.{IsBefore}
-use Rattle.cell_name.specs.Square.{Square, root}
+use Rattle.cell_name.specs.Square.{Square, root, no_square}
 use Rattle.quadtree.specs.declared.split.Run.{Run}
 use Rattle.quadtree.specs.Splitting.{squares_of, occupied, below, cells_of_level, cells_to_level, IsRun, AreRuns, IsParentNumber, HaveParents, AreBelow, IsCellOfLevel, AreCellsOfLevel, IsCellToLevel, AreCellsToLevel, IsBuiltTo}
 use Rattle.quadtree.specs.Tree.{AreInGrid, count_in, IsTreeCell, AreTreeCells}
@@ -48,38 +48,38 @@ cells_to_level_differ grid points cap (suc level) le =
 
 -- ---- what is built, level by level
 -- one cell alone is in order
-ascending_one : (points : List Point) (grid : ℕ) → AllPairs IsBefore (occupied points (root grid ∷ []))
-ascending_one points grid = AllPairs-filter IsBefore (λ c. ltb 0 (count_in points c)) (root grid ∷ []) (λ i j d lt inside. absurd (omega arith))
+ascending_one : (grid : ℕ) (points : List Point) → AllPairs IsBefore (occupied points (root grid ∷ []))
+ascending_one grid points = AllPairs-filter IsBefore (λ c. ltb 0 (count_in points c)) (root grid ∷ []) (λ i j d lt inside. absurd (omega arith))
 
-pub built_root : (points : List Point) (cap : ℕ) (xs : List ℕ) (runs : List Run) → AreInGrid 16 points → squares_of runs ≡ occupied points (root 16 ∷ []) → AreRuns points xs runs → HaveParents (squares_of runs) runs → IsBuiltTo points cap 0 0 xs runs
-built_root points cap xs runs inside e are parents =
-    let P : List Square → Type 0 = λ l. AreCellsToLevel 16 points cap 0 l in
-    let Q : List Square → Type 0 = λ l. AreCellsOfLevel 16 points cap 0 l in
+pub built_root : (grid : ℕ) (points : List Point) (cap : ℕ) (xs : List ℕ) (runs : List Run) → 0 < grid → AreInGrid grid points → squares_of runs ≡ occupied points (root grid ∷ []) → AreRuns points xs runs → HaveParents (squares_of runs) runs → IsBuiltTo grid points cap 0 0 xs runs
+built_root grid points cap xs runs positive inside e are parents =
+    let P : List Square → Type 0 = λ l. AreCellsToLevel grid points cap 0 l in
+    let Q : List Square → Type 0 = λ l. AreCellsOfLevel grid points cap 0 l in
     record {
       cells =
           subst P (sym e) (record {
-            each = cells_to_level_are 16 points cap 0 (omega arith);
-            whole = λ c h. cells_to_level_whole 16 points cap 0 (lit< tt) inside c h.in_tree h.level_at_most;
-            ascending = ascending_one points 16;
+            each = cells_to_level_are grid points cap 0 (omega arith);
+            whole = λ c h. cells_to_level_whole grid points cap 0 positive inside c h.in_tree h.level_at_most;
+            ascending = ascending_one grid points;
           });
       start_inside = omega arith;
       last =
           subst Q (sym e) (record {
-            each = cells_of_level_are 16 points cap 0 (omega arith);
-            whole = cells_of_level_whole 16 points cap 0 (lit< tt) inside;
-            different = cells_of_level_differ 16 points cap 0;
+            each = cells_of_level_are grid points cap 0 (omega arith);
+            whole = cells_of_level_whole grid points cap 0 positive inside;
+            different = cells_of_level_differ grid points cap 0;
           });
       runs_are = are;
       parents = parents;
     }
 
 -- the cells of one more level
-one_level_more : (points : List Point) (cap level : ℕ) (cells next : List Square) → AreCellsToLevel 16 points cap level cells → AreCellsOfLevel 16 points cap (suc level) next → AllPairs IsBefore next → AreCellsToLevel 16 points cap (suc level) (cells ++ next)
-one_level_more points cap level cells next h n up =
+one_level_more : (grid : ℕ) (points : List Point) (cap level : ℕ) (cells next : List Square) → AreCellsToLevel grid points cap level cells → AreCellsOfLevel grid points cap (suc level) next → AllPairs IsBefore next → AreCellsToLevel grid points cap (suc level) (cells ++ next)
+one_level_more grid points cap level cells next h n up =
     record {
       each =
-          All-append (IsCellToLevel 16 points cap (suc level)) cells next (All-weaker (IsCellToLevel 16 points cap level) (IsCellToLevel 16 points cap (suc level)) (λ c k. record { in_tree = k.in_tree; level_at_most = omega (arith, k.level_at_most) }) cells h.each)
-          (All-weaker (IsCellOfLevel 16 points cap (suc level)) (IsCellToLevel 16 points cap (suc level)) (λ c k. record { in_tree = k.in_tree; level_at_most = omega (arith, k.level_is) }) next n.each);
+          All-append (IsCellToLevel grid points cap (suc level)) cells next (All-weaker (IsCellToLevel grid points cap level) (IsCellToLevel grid points cap (suc level)) (λ c k. record { in_tree = k.in_tree; level_at_most = omega (arith, k.level_at_most) }) cells h.each)
+          (All-weaker (IsCellOfLevel grid points cap (suc level)) (IsCellToLevel grid points cap (suc level)) (λ c k. record { in_tree = k.in_tree; level_at_most = omega (arith, k.level_is) }) next n.each);
       whole = λ c k.
           elim (cases_lt level c.level) [
             | inl deep ↦ Contains-append_right cells next c (n.whole c (record { in_tree = k.in_tree; level_is = omega (arith, k.level_at_most) }))
@@ -89,34 +89,34 @@ one_level_more points cap level cells next h n up =
     }
   where
     across : (a : Square) → Contains cells a → All (IsBefore a) next
-    across a listed k d lt = record { before = inl (omega (arith, (All-contains (IsCellToLevel 16 points cap level) cells a h.each listed).level_at_most, (n.each k d lt).level_is)) }
+    across a listed k d lt = record { before = inl (omega (arith, (All-contains (IsCellToLevel grid points cap level) cells a h.each listed).level_at_most, (n.each k d lt).level_is)) }
 
 -- a parent's number stays right where cells are appended
 parents_stay : (cells more : List Square) (runs : List Run) → HaveParents cells runs → HaveParents (cells ++ more) runs
 parents_stay cells more runs h = All-weaker (λ (r : Run). IsParentNumber cells (square r.cell) r.parent) (λ (r : Run). IsParentNumber (cells ++ more) (square r.cell) r.parent) (λ r k. record {
   in_range = omega (arith, k.in_range, length-append cells more);
   of_root = k.of_root;
-  of_others = λ lo. get_or_append_left cells more (root 16) r.parent k.in_range ∙ k.of_others lo;
+  of_others = λ lo. get_or_append_left cells more no_square r.parent k.in_range ∙ k.of_others lo;
 }) runs h
 
 -- the runs of a level, found and sorted, are appended
-pub built_more : (points : List Point) (cap level start : ℕ) (xs ys : List ℕ) (runs found next now : List Run) → AreInGrid 16 points → level < 16 → IsBuiltTo points cap level start xs runs → squares_of found ≡ flat_map (below points cap) (drop start (squares_of runs)) → AreBelow points runs ys found → IsPermutation found next → IsSortedBy (λ a b. is_lt (run_cmp a b)) next → now ≡ runs ++ next → IsBuiltTo points cap (level + 1) (length runs) ys now
-built_more points cap level start xs ys runs found next now inside lt h found_are below_are moved up appended =
+pub built_more : (grid : ℕ) (points : List Point) (cap level start : ℕ) (xs ys : List ℕ) (runs found next now : List Run) → 0 < grid → AreInGrid grid points → level < grid → IsBuiltTo grid points cap level start xs runs → squares_of found ≡ flat_map (below points cap) (drop start (squares_of runs)) → AreBelow points runs ys found → IsPermutation found next → IsSortedBy (λ a b. is_lt (run_cmp a b)) next → now ≡ runs ++ next → IsBuiltTo grid points cap (level + 1) (length runs) ys now
+built_more grid points cap level start xs ys runs found next now positive inside lt h found_are below_are moved up appended =
     let cells : List Square = squares_of runs in
     let fresh : List Square = squares_of next in
     let both : squares_of (runs ++ next) ≡ cells ++ fresh = map-append (λ (r : Run). square r.cell) runs next in
-    let Q : List Square → Type 0 = λ l. AreCellsOfLevel 16 points cap (suc level) l in
-    let made : AreCellsOfLevel 16 points cap (suc level) (squares_of found) = subst Q (sym found_are) (cells_below 16 points cap level (drop start cells) (lit< tt) inside (omega arith) h.last) in
-    let level_is : AreCellsOfLevel 16 points cap (suc level) fresh = cells_moved 16 points cap (suc level) (squares_of found) fresh (IsPermutation-map (λ (r : Run). square r.cell) found next moved) made in
-    let S : List Square → Type 0 = λ l. AreCellsToLevel 16 points cap (suc level) l in
-    let D : List Square → Type 0 = λ l. AreCellsOfLevel 16 points cap (suc level) (drop (length runs) l) in
+    let Q : List Square → Type 0 = λ l. AreCellsOfLevel grid points cap (suc level) l in
+    let made : AreCellsOfLevel grid points cap (suc level) (squares_of found) = subst Q (sym found_are) (cells_below grid points cap level (drop start cells) positive inside (omega arith) h.last) in
+    let level_is : AreCellsOfLevel grid points cap (suc level) fresh = cells_moved grid points cap (suc level) (squares_of found) fresh (IsPermutation-map (λ (r : Run). square r.cell) found next moved) made in
+    let S : List Square → Type 0 = λ l. AreCellsToLevel grid points cap (suc level) l in
+    let D : List Square → Type 0 = λ l. AreCellsOfLevel grid points cap (suc level) (drop (length runs) l) in
     let H : List Square → Type 0 = λ l. HaveParents l (runs ++ next) in
     let long : length runs ≡ length cells = sym (length-map runs (λ (r : Run). square r.cell)) in
-    let T : List Run → Type 0 = λ l. IsBuiltTo points cap (suc level) (length runs) ys l in
+    let T : List Run → Type 0 = λ l. IsBuiltTo grid points cap (suc level) (length runs) ys l in
     let parents_below : HaveParents cells next = All-permutation (λ (r : Run). IsParentNumber cells (square r.cell) r.parent) found next moved below_are.parents in
-    let built : IsBuiltTo points cap (suc level) (length runs) ys (runs ++ next) =
+    let built : IsBuiltTo grid points cap (suc level) (length runs) ys (runs ++ next) =
     record {
-      cells = subst S (sym both) (one_level_more points cap level cells fresh h.cells level_is (ascending_from_sort 16 points cap (suc level) next level_is up));
+      cells = subst S (sym both) (one_level_more grid points cap level cells fresh h.cells level_is (ascending_from_sort grid points cap (suc level) next level_is up));
       start_inside = omega (arith, length-append runs next);
       last = subst D (sym both) (subst Q (sym (ap (λ n. drop n (cells ++ fresh)) long ∙ drop_at cells fresh (length cells) refl)) level_is);
       runs_are =
@@ -130,14 +130,14 @@ built_more points cap level start xs ys runs found next now inside lt h found_ar
     rw add-one (subst T (sym appended) built)
 
 -- the whole tree
-pub tree_built : (points : List Point) (cap start : ℕ) (xs : List ℕ) (runs : List Run) → IsBuiltTo points cap 16 start xs runs → AreTreeCells 16 points cap (squares_of runs)
-tree_built points cap start xs runs h =
+pub tree_built : (grid : ℕ) (points : List Point) (cap start : ℕ) (xs : List ℕ) (runs : List Run) → IsBuiltTo grid points cap grid start xs runs → AreTreeCells grid points cap (squares_of runs)
+tree_built grid points cap start xs runs h =
     record {
-      in_tree = All-weaker (IsCellToLevel 16 points cap 16) (IsTreeCell 16 points cap) (λ c k. k.in_tree) (squares_of runs) h.cells.each;
+      in_tree = All-weaker (IsCellToLevel grid points cap grid) (IsTreeCell grid points cap) (λ c k. k.in_tree) (squares_of runs) h.cells.each;
       whole = λ c k. h.cells.whole c (record { in_tree = k; level_at_most = k.level_in_grid });
       ascending = h.cells.ascending;
     }
 
 -- no cell that is split next is of the last level
-pub room : (points : List Point) (cap level start : ℕ) (xs : List ℕ) (runs : List Run) → level < 16 → IsBuiltTo points cap level start xs runs → All (λ c. c.level ≤ 15) (squares_of runs)
-room points cap level start xs runs lt h = All-weaker (IsCellToLevel 16 points cap level) (λ c. c.level ≤ 15) (λ c k. omega (arith, k.level_at_most)) (squares_of runs) h.cells.each
+pub room : (grid : ℕ) (points : List Point) (cap level start : ℕ) (xs : List ℕ) (runs : List Run) → level < grid → IsBuiltTo grid points cap level start xs runs → All (λ c. c.level < c.grid) (squares_of runs)
+room grid points cap level start xs runs lt h = All-weaker (IsCellToLevel grid points cap level) (λ c. c.level < c.grid) (λ c k. omega (arith, k.level_at_most, k.in_tree.of_grid)) (squares_of runs) h.cells.each

@@ -1,5 +1,6 @@
 -- Why a list has no tree: too many points at one place, or too many cells.
 use Rattle.std.specs.Prelude.{ℕ, ◌≡◌, ◌≢◌, ◌<◌, List, length, All, AllPairs}
+use Rattle.limits.specs.Limits.{most_at_a_place, most_cells}
 use Rattle.points.specs.declared.Point.{Point}
 use Rattle.cell_name.specs.Cell.{square}
 use Rattle.cell_name.specs.Square.{Square}
@@ -7,14 +8,6 @@ use Rattle.cell_name.specs.Order.{IsBefore}
 use Rattle.quadtree.specs.declared.fault.TreeFault.{TreeFault}
 use Rattle.quadtree.specs.declared.fault.TreeFault.TheVariants.{Crowded, Cells, Memory}
 use Rattle.quadtree.specs.Tree.{count_in, IsTreeCell}
-
--- the greatest number of points at one place
-abbrev pub most_at_a_place : ℕ
-most_at_a_place = 4096
-
--- the greatest number of cells of a tree
-abbrev pub most_cells : ℕ
-most_cells = 65536
 
 -- a cell of the last level, which is one place, with too many points
 pub record IsCrowded (grid : ℕ) (points : List Point) (c : Square) : Type 0 where
@@ -42,12 +35,12 @@ pub record HasMoreCells (grid : ℕ) (points : List Point) (cap most : ℕ) : Ty
 -- the list has a tree: no place is crowded, and the tree has no more than its most cells
 pub record HasTree (grid : ℕ) (points : List Point) (cap : ℕ) : Type 0 where
   pub none_crowded : NoneIsCrowded grid points
-  pub no_more : HasMoreCells grid points cap most_cells → ⊥
+  pub no_more : HasMoreCells grid points cap (most_cells grid) → ⊥
 
 -- no place is crowded, and still the tree has too many cells
 pub record HasTooManyCells (grid : ℕ) (points : List Point) (cap : ℕ) : Type 0 where
   pub none_crowded : NoneIsCrowded grid points
-  pub too_many : HasMoreCells grid points cap most_cells
+  pub too_many : HasMoreCells grid points cap (most_cells grid)
 
 -- what an answer without a tree says of the list and the capacity; want of memory says nothing of them
 abbrev pub IsFaultOf : ℕ → List Point → ℕ → TreeFault → Type 0

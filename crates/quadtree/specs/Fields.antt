@@ -26,9 +26,9 @@ node_model positions node =
       children = numbers_of node.children;
     }
 
--- the tree that cells, nodes, positions and leaves make
-abbrev pub tree_of : List Cell → List Node → List ℕ → List ℕ → TreeModel
-tree_of cells nodes positions leaves = record { cells = cells; nodes = map (node_model positions) nodes; leaves = leaves }
+-- the tree on a grid that cells, nodes, positions and leaves make
+abbrev pub tree_of : ℕ → List Cell → List Node → List ℕ → List ℕ → TreeModel
+tree_of grid cells nodes positions leaves = record { grid = grid; cells = cells; nodes = map (node_model positions) nodes; leaves = leaves }
 
 -- the node's range lies among the positions
 pub record IsRange (positions : List ℕ) (node : Node) : Type 0 where
@@ -36,7 +36,7 @@ pub record IsRange (positions : List ℕ) (node : Node) : Type 0 where
   pub in_range : node.to ≤ length positions
 
 -- each node has a range of the positions and at most four children, and together they are a tree
-pub record AreFieldsOfTree (cells : List Cell) (nodes : List Node) (positions leaves : List ℕ) : Type 0 where
+pub record AreFieldsOfTree (grid : ℕ) (cells : List Cell) (nodes : List Node) (positions leaves : List ℕ) : Type 0 where
   pub ranges : All (IsRange positions) nodes
   pub few_children : All (λ (node : Node). node.children.count ≤ 4) nodes
-  pub is_tree : IsTree (tree_of cells nodes positions leaves)
+  pub is_tree : IsTree (tree_of grid cells nodes positions leaves)

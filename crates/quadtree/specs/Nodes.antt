@@ -2,7 +2,7 @@
 use Rattle.std.specs.Prelude.{ℕ, ◌≡◌, ◌<◌, ◌↔◌, Bool, false, not, IsTrue, List, length, Option, Some, None, slice_index, slice_index_or, slice_range, Contains}
 use Rattle.points.specs.declared.Point.{Point}
 use Rattle.points.specs.Points.{is_source}
-use Rattle.cell_name.specs.Square.{Square, root}
+use Rattle.cell_name.specs.Square.{Square, no_square}
 use Rattle.quadtree.specs.declared.children.Children.{Children}
 use Rattle.quadtree.specs.declared.tree.Node.{Node}
 use Rattle.quadtree.specs.Fields.{IsRange, no_children}
@@ -22,7 +22,7 @@ is_source_at None = false
 pub record IsNodeOf (points : List Point) (cap : ℕ) (positions : List ℕ) (c : Square) (parent : ℕ) (children : Children) (node : Node) : Type 0 where
   pub range : IsRange positions node
   pub members_are : slice_range positions node.from node.to ≡ members_of points c
-  pub leaf : IsTrue node.is_leaf ↔ IsLeaf 16 points cap c
+  pub leaf : IsTrue node.is_leaf ↔ IsLeaf c.grid points cap c
   pub source : IsTrue node.has_source ↔ HasSource points c
   pub target : IsTrue node.has_target ↔ HasTarget points c
   pub parent_is : node.parent ≡ parent
@@ -37,7 +37,7 @@ module _ (points : List Point) (cap : ℕ) (positions : List ℕ) (cells : List 
   pub record AreNodesTo (nodes : List Node) (n : ℕ) : Type 0 where
     pub as_many : length nodes ≡ n
     pub each :
-        (k : ℕ) → k < n → IsNodeOf points cap positions (slice_index_or cells k (root 16)) (slice_index parents k) (slice_index_or families k no_children) (slice_index_or nodes k blank_node)
+        (k : ℕ) → k < n → IsNodeOf points cap positions (slice_index_or cells k no_square) (slice_index parents k) (slice_index_or families k no_children) (slice_index_or nodes k blank_node)
 
 -- a position of a leaf among the nodes
 pub record IsInLeaf (positions : List ℕ) (nodes : List Node) (n k : ℕ) : Type 0 where

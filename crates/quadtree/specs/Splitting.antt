@@ -1,14 +1,14 @@
 -- The steps by which a tree is built: what splitting the cells of one level makes. No public contract cites them.
 use Rattle.std.specs.Prelude.{ℕ, ◌≡◌, ◌≢◌, ◌-◌, ◌+◌, ◌<◌, ◌≤◌, zero, suc, cond, nat_lt, List, [], ◌∷◌, ◌++◌, length, map, filter, drop, slice_range, slice_index_or, All, AllPairs, Contains}
 use Rattle.std.specs.List.{flat_map}
+use Rattle.limits.specs.Limits.{most_at_a_place}
 use Rattle.points.specs.declared.Point.{Point}
 use Rattle.cell_name.specs.declared.cell.Cell.{Cell}
 use Rattle.cell_name.specs.Cell.{square}
 use Rattle.cell_name.specs.Order.{IsBefore}
 use Rattle.cell_name.specs.Quarters.{quarters}
-use Rattle.cell_name.specs.Square.{Square, root, parent}
+use Rattle.cell_name.specs.Square.{Square, root, no_square, parent}
 use Rattle.quadtree.specs.declared.split.Run.{Run}
-use Rattle.quadtree.specs.Faults.{most_at_a_place}
 use Rattle.quadtree.specs.Members.{members_of}
 use Rattle.quadtree.specs.Tree.{count_in, is_over, IsTreeCell}
 
@@ -47,7 +47,7 @@ below_from points cap start runs = flat_map (below points cap) (drop start (squa
 
 -- the quarters of the cell of a number
 abbrev pub quarters_of : List Square → ℕ → List Square
-quarters_of cells n = quarters (slice_index_or cells n (root 16))
+quarters_of cells n = quarters (slice_index_or cells n no_square)
 
 -- a run's range of the positions has the cell's members
 pub record IsRun (points : List Point) (positions : List ℕ) (run : Run) : Type 0 where
@@ -69,7 +69,7 @@ added_run cell parent from members =
 pub record IsParentNumber (cells : List Square) (c : Square) (n : ℕ) : Type 0 where
   pub in_range : n < length cells
   pub of_root : c.level ≡ 0 → n ≡ 0
-  pub of_others : 0 < c.level → slice_index_or cells n (root 16) ≡ parent c
+  pub of_others : 0 < c.level → slice_index_or cells n no_square ≡ parent c
 
 -- the parent of each run's cell stands among the cells at the run's number
 abbrev pub HaveParents : List Square → List Run → Type 0
@@ -103,17 +103,17 @@ pub record AreCellsToLevel (grid : ℕ) (points : List Point) (cap level : ℕ) 
   pub whole : (c : Square) → IsCellToLevel grid points cap level c → Contains cells c
   pub ascending : AllPairs IsBefore cells
 
--- the tree is built down to a level, whose cells are those from `start` on
-pub record IsBuiltTo (points : List Point) (cap level start : ℕ) (positions : List ℕ) (runs : List Run) : Type 0 where
-  pub cells : AreCellsToLevel 16 points cap level (squares_of runs)
+-- the tree on a grid is built down to a level, whose cells are those from `start` on
+pub record IsBuiltTo (grid : ℕ) (points : List Point) (cap level start : ℕ) (positions : List ℕ) (runs : List Run) : Type 0 where
+  pub cells : AreCellsToLevel grid points cap level (squares_of runs)
   pub start_inside : start ≤ length runs
-  pub last : AreCellsOfLevel 16 points cap level (drop start (squares_of runs))
+  pub last : AreCellsOfLevel grid points cap level (drop start (squares_of runs))
   pub runs_are : AreRuns points positions runs
   pub parents : HaveParents (squares_of runs) runs
 
 -- a run of a place with too many points
 pub record IsCrowdedRun (run : Run) : Type 0 where
-  pub last_level : run.cell.level ≡ 16
+  pub last_level : run.cell.level ≡ run.cell.grid
   pub over : most_at_a_place < run.to - run.from
 
 -- the first such run

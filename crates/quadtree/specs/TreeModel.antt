@@ -2,12 +2,11 @@
 use Rattle.std.specs.Prelude.{ℕ, ◌≡◌, ◌<◌, ◌≤◌, ◌↔◌, ◌==◌, ◌&&◌, nat_lt, Bool, false, IsTrue, List, [], length, map, filter, Some, slice_get, slice_index, slice_index_or}
 use Rattle.std.specs.List.{range_with_len}
 use Rattle.exact_math.specs.Orders.{IsCapacity}
+use Rattle.limits.specs.Limits.{IsGrid, most_points, most_cells}
 use Rattle.points.specs.declared.Point.{Point}
-use Rattle.points.specs.Limits.{most_points}
 use Rattle.cell_name.specs.declared.cell.Cell.{Cell}
 use Rattle.cell_name.specs.Cell.{square}
-use Rattle.cell_name.specs.Square.{Square, root, parent, Holds}
-use Rattle.quadtree.specs.Faults.{most_cells}
+use Rattle.cell_name.specs.Square.{Square, no_square, parent, Holds}
 use Rattle.quadtree.specs.Members.{members_of}
 use Rattle.quadtree.specs.Tree.{AreInGrid, count_in, AreTreeCells, IsLeaf, HasSource, HasTarget}
 
@@ -21,8 +20,9 @@ pub record NodeModel : Type 0 where
   pub members : List ℕ
   pub children : List ℕ
 
--- The cells in their order, what is kept of each, and the number of the leaf of each point.
+-- The bits of the grid, the cells in their order, what is kept of each, and the number of the leaf of each point.
 pub record TreeModel : Type 0 where
+  pub grid : ℕ
   pub cells : List Cell
   pub nodes : List NodeModel
   pub leaves : List ℕ
@@ -37,7 +37,7 @@ size tree = length tree.cells
 
 -- the cell of a number
 abbrev pub square_of : TreeModel → ℕ → Square
-square_of tree n = slice_index_or (squares tree) n (root 16)
+square_of tree n = slice_index_or (squares tree) n no_square
 
 -- what stands past the last cell
 abbrev pub no_node : NodeModel
@@ -66,38 +66,39 @@ abbrev pub children_of : TreeModel → ℕ → List ℕ
 children_of tree n = filter (is_child tree n) (range_with_len 0 (size tree))
 
 -- what is kept of a cell is right
-pub record IsNode (grid : ℕ) (tree : TreeModel) (points : List Point) (cap n : ℕ) : Type 0 where
+pub record IsNode (tree : TreeModel) (points : List Point) (cap n : ℕ) : Type 0 where
   pub parent_is : HasParent tree n
   pub count_is : (node_of tree n).count ≡ count_in points (square_of tree n)
-  pub leaf : IsTrue (node_of tree n).is_leaf ↔ IsLeaf grid points cap (square_of tree n)
+  pub leaf : IsTrue (node_of tree n).is_leaf ↔ IsLeaf tree.grid points cap (square_of tree n)
   pub source : IsTrue (node_of tree n).has_source ↔ HasSource points (square_of tree n)
   pub target : IsTrue (node_of tree n).has_target ↔ HasTarget points (square_of tree n)
   pub members_are : (node_of tree n).members ≡ members_of points (square_of tree n)
   pub children_are : (node_of tree n).children ≡ children_of tree n
 
 -- the leaf of a point
-pub record IsLeafOf (grid : ℕ) (tree : TreeModel) (points : List Point) (cap n : ℕ) (p : Point) : Type 0 where
+pub record IsLeafOf (tree : TreeModel) (points : List Point) (cap n : ℕ) (p : Point) : Type 0 where
   pub in_range : n < size tree
-  pub leaf : IsLeaf grid points cap (square_of tree n)
+  pub leaf : IsLeaf tree.grid points cap (square_of tree n)
   pub held : Holds (square_of tree n) p.x p.y
 
 -- the tree of a list of points and a capacity: its cells, what is kept of each, and the leaf of each point
-pub record IsTreeOf (grid : ℕ) (tree : TreeModel) (points : List Point) (cap : ℕ) : Type 0 where
-  pub cells_are : AreTreeCells grid points cap (squares tree)
-  pub few : size tree ≤ most_cells
+pub record IsTreeOf (tree : TreeModel) (points : List Point) (cap : ℕ) : Type 0 where
+  pub known_grid : IsGrid tree.grid
+  pub cells_are : AreTreeCells tree.grid points cap (squares tree)
+  pub few : size tree ≤ most_cells tree.grid
   pub as_many_nodes : length tree.nodes ≡ size tree
-  pub nodes_are : (n : ℕ) → n < size tree → IsNode grid tree points cap n
+  pub nodes_are : (n : ℕ) → n < size tree → IsNode tree points cap n
   pub as_many_leaves : length tree.leaves ≡ length points
-  pub leaves_are : (k : ℕ) (p : Point) → slice_get points k ≡ Some p → IsLeafOf grid tree points cap (leaf_of tree k) p
+  pub leaves_are : (k : ℕ) (p : Point) → slice_get points k ≡ Some p → IsLeafOf tree points cap (leaf_of tree k) p
 
 -- the tree of some list within the grid: what each value of the type is
 pub record IsTree (tree : TreeModel) : Type 0 where
   pub points : List Point
   pub cap : ℕ
-  pub in_grid : AreInGrid 16 points
-  pub few_points : length points ≤ most_points
+  pub in_grid : AreInGrid tree.grid points
+  pub few_points : length points ≤ most_points tree.grid
   pub capacity : IsCapacity cap
-  pub is_tree : IsTreeOf 16 tree points cap
+  pub is_tree : IsTreeOf tree points cap
 
 -- the numbers of the cells of a level: from `first` on, before `end`
 pub record IsLevel (tree : TreeModel) (level first end : ℕ) : Type 0 where

@@ -2,8 +2,9 @@
 
 ghost use Rattle.std.specs.Prelude.{◌≡◌, ◌≤◌, length, map, All, IfErr, IfNone, IfOk, IfSome, OnOk};
 ghost use Rattle.exact_math.specs.Orders.{IsCapacity};
-ghost use Rattle.points.specs.Limits.{WithinLimits, most_points};
-ghost use Rattle.quadtree.specs.Faults.{most_cells, NoneIsCrowded, HasTree, IsFaultOf};
+ghost use Rattle.limits.specs.Limits.{IsGrid, grid_of, most_points, most_cells};
+ghost use Rattle.points.specs.Limits.{WithinLimits};
+ghost use Rattle.quadtree.specs.Faults.{NoneIsCrowded, HasTree, IsFaultOf};
 ghost use Rattle.quadtree.specs.Splitting.{squares_of, AreRuns, HaveParents, IsCrowdedRun, IsFirstCrowdedRun};
 ghost use Rattle.quadtree.specs.Tree.{AreInGrid, AreTreeCells};
 ghost use Rattle.quadtree.specs.TreeModel.{IsTreeOf};
@@ -13,15 +14,10 @@ use crate::fault::TreeFault;
 use crate::nodes::{leaves_of, nodes_of};
 use crate::split::{Run, Splits};
 use crate::tree::Tree;
-use cell_name::{Cell, GRID};
+use cell_name::Cell;
+use limits::{MOST_AT_A_PLACE, grid_of, most_cells};
 use points::{Point, Points};
 use std::alloc::{AllocError, Global};
-
-/// The greatest number of points at one place.
-const MOST_AT_A_PLACE: usize = 4096;
-
-/// The greatest number of cells of a tree.
-const MOST_CELLS: usize = 65536;
 
 /// The first run of a place with too many points.
 fn first_crowded(runs: &[Run]) -> Option<Run>
@@ -30,7 +26,7 @@ fn first_crowded(runs: &[Run]) -> Option<Run>
     ensures found { IfSome result (IsFirstCrowdedRun runs.now) }
 {
     for run in runs {
-        if run.cell.level == GRID && run.to - run.from > MOST_AT_A_PLACE {
+        if run.cell.level == run.cell.grid && run.to - run.from > MOST_AT_A_PLACE {
             return Some(*run);
         }
     }
@@ -38,18 +34,19 @@ fn first_crowded(runs: &[Run]) -> Option<Run>
 }
 
 /// The cells of the tree in their order, unless a place is crowded or the cells are too many.
-fn accepted(alloc: Global, points: &[Point], cap: u32) -> Result<Splits, TreeFault>
-    requires in_grid { AreInGrid 16 points.now }
-    requires few { length points.now ≤ most_points }
+fn accepted(alloc: Global, points: &[Point], cap: u32, grid: u8) -> Result<Splits, TreeFault>
+    requires known_grid { IsGrid grid }
+    requires in_grid { AreInGrid grid points.now }
+    requires few { length points.now ≤ most_points grid }
     requires cap { cap ≤ 1024 }
-    ensures cells { IfOk result (λ s. AreTreeCells 16 points.now cap (squares_of s.runs.items)) }
+    ensures cells { IfOk result (λ s. AreTreeCells grid points.now cap (squares_of s.runs.items)) }
     ensures runs { IfOk result (λ s. AreRuns points.now s.positions.items s.runs.items) }
     ensures parents { IfOk result (λ s. HaveParents (squares_of s.runs.items) s.runs.items) }
-    ensures few { IfOk result (λ s. length s.runs.items ≤ most_cells) }
-    ensures none_crowded { OnOk result (NoneIsCrowded 16 points.now) }
-    ensures fault { IfErr result (IsFaultOf 16 points.now cap) }
+    ensures few { IfOk result (λ s. length s.runs.items ≤ most_cells grid) }
+    ensures none_crowded { OnOk result (NoneIsCrowded grid points.now) }
+    ensures fault { IfErr result (IsFaultOf grid points.now cap) }
 {
-    let splits = Splits::of(alloc, points, cap)?;
+    let splits = Splits::of(alloc, points, cap, grid)?;
     if let Some(run) = first_crowded(&splits.runs) {
         let count = (run.to - run.from) as u64;
         return Err(TreeFault::Crowded {
@@ -57,7 +54,7 @@ fn accepted(alloc: Global, points: &[Point], cap: u32) -> Result<Splits, TreeFau
             count,
         });
     }
-    if splits.runs.len() > MOST_CELLS {
+    if splits.runs.len() > most_cells(grid) as usize {
         return Err(TreeFault::Cells);
     }
     Ok(splits)
@@ -71,15 +68,23 @@ fn cells_of(alloc: Global, runs: &[Run]) -> Result<Vec<Cell>, AllocError>
 }
 
 /// The tree of the cells and the positions that were found.
-fn assembled(alloc: Global, points: &[Point], cap: u32, splits: Splits) -> Result<Tree, AllocError>
-    requires in_grid { AreInGrid 16 points.now }
-    requires few_points { length points.now ≤ most_points }
-    requires cells { AreTreeCells 16 points.now cap (squares_of splits.runs.items) }
-    requires few_cells { length splits.runs.items ≤ most_cells }
+fn assembled(
+    alloc: Global,
+    points: &[Point],
+    cap: u32,
+    grid: u8,
+    splits: Splits,
+) -> Result<Tree, AllocError>
+    requires known_grid { IsGrid grid }
+    requires in_grid { AreInGrid grid points.now }
+    requires few_points { length points.now ≤ most_points grid }
+    requires cells { AreTreeCells grid points.now cap (squares_of splits.runs.items) }
+    requires few_cells { length splits.runs.items ≤ most_cells grid }
     requires runs { AreRuns points.now splits.positions.items splits.runs.items }
     requires parents { HaveParents (squares_of splits.runs.items) splits.runs.items }
     requires cap { IsCapacity cap }
-    ensures { IfOk result (λ tree. IsTreeOf 16 tree points.now cap) }
+    ensures tree { IfOk result (λ tree. IsTreeOf tree points.now cap) }
+    ensures grid { IfOk result (λ tree. tree.grid ≡ grid) }
 {
     let Splits { positions, runs } = splits;
     let cells = cells_of(alloc, &runs)?;
@@ -87,6 +92,7 @@ fn assembled(alloc: Global, points: &[Point], cap: u32, splits: Splits) -> Resul
     let nodes = nodes_of(alloc, points, cap, &positions, &runs, &families)?;
     let leaves = leaves_of(alloc, points.len(), &nodes, &positions)?;
     Ok(Tree {
+        grid,
         cells,
         nodes,
         positions,
@@ -97,20 +103,22 @@ fn assembled(alloc: Global, points: &[Point], cap: u32, splits: Splits) -> Resul
 impl Tree {
     /// The tree of a list of points with a leaf capacity.
     ///
-    /// The list is within the limits of its text, and the capacity is 8 to 1024. Where more than 4,096 points stand
-    /// at one place, `Crowded` has the first such place by column and row. Otherwise, where the tree has more than 65,536
-    /// cells, it is `Cells`.
+    /// The list is within the limits of its version, and the capacity is 8 to 1024. Where more than 4,096 points stand
+    /// at one place, `Crowded` has the first such place by column and row. Otherwise, where the tree has more cells than
+    /// `limits::most_cells` of its grid, 65,536 in version 1, it is `Cells`.
     pub fn build(alloc: Global, points: &Points, cap: u32) -> Result<Tree, TreeFault>
-        requires list { WithinLimits points.now.mode points.now.list }
+        requires list { WithinLimits points.now }
         requires cap { IsCapacity cap }
 
         // Every answer but `Memory` is the one that the list and the capacity determine.
-        ensures tree { IfOk result (λ tree. IsTreeOf 16 tree points.now.list cap) }
-        ensures has_tree { OnOk result (HasTree 16 points.now.list cap) }
-        ensures fault { IfErr result (IsFaultOf 16 points.now.list cap) }
+        ensures grid { IfOk result (λ tree. tree.grid ≡ grid_of points.now.version) }
+        ensures tree { IfOk result (λ tree. IsTreeOf tree points.now.list cap) }
+        ensures has_tree { OnOk result (HasTree (grid_of points.now.version) points.now.list cap) }
+        ensures fault { IfErr result (IsFaultOf (grid_of points.now.version) points.now.list cap) }
     {
+        let grid = grid_of(points.version);
         let list = points.list.points();
-        let splits = accepted(alloc, list, cap)?;
-        Ok(assembled(alloc, list, cap, splits)?)
+        let splits = accepted(alloc, list, cap, grid)?;
+        Ok(assembled(alloc, list, cap, grid, splits)?)
     }
 }

@@ -1,8 +1,8 @@
 //! The numbers of the cells below each cell.
 
 ghost use Rattle.std.specs.Prelude.{◌≡◌, ℕ, ◌+◌, ◌<◌, ◌≤◌, [], ◌∷◌, ◌++◌, length, All, IfOk};
+ghost use Rattle.limits.specs.Limits.{widest_grid, most_cells};
 ghost use Rattle.quadtree.specs.Families.{HasNumbers, children_among, AreFamiliesTo};
-ghost use Rattle.quadtree.specs.Faults.{most_cells};
 ghost use Rattle.quadtree.specs.Fields.{numbers_of};
 ghost use Rattle.quadtree.specs.Splitting.{parents_of};
 
@@ -48,7 +48,7 @@ impl Children {
 
 /// The numbers of the cells below the cell of each run, ascending.
 pub(crate) fn children_of(alloc: Global, runs: &[Run]) -> Result<Vec<Children>, AllocError>
-    requires few { length runs.now ≤ most_cells }
+    requires few { length runs.now ≤ most_cells widest_grid }
     requires parents { All (λ r. r.parent < length runs.now) runs.now }
     requires four { (n : ℕ) → length (children_among (parents_of runs.now) n (length runs.now)) ≤ 4 }
     ensures { IfOk result (λ v. AreFamiliesTo (parents_of runs.now) v.items (length runs.now)) }

@@ -11,7 +11,7 @@ ghost use Rattle.quadtree.specs.Tree.{IsTreeCell};
 use crate::children::Children;
 use crate::split::Run;
 use crate::tree::Node;
-use cell_name::GRID;
+use cell_name::Cell;
 use points::Point;
 use std::alloc::{AllocError, Global};
 
@@ -41,10 +41,10 @@ fn has_source(points: &[Point], members: &[u32]) -> bool
 }
 
 /// Whether a cell with so many points is not split.
-fn is_last(count: usize, cap: u32, level: u8) -> bool
-    ensures { IsTrue result ↔ ((count ≤ cap) ⊎ (level ≡ 16)) }
+fn is_last(count: usize, cap: u32, cell: Cell) -> bool
+    ensures { IsTrue result ↔ ((count ≤ cap) ⊎ (cell.level ≡ cell.grid)) }
 {
-    count <= cap as usize || level == GRID
+    count <= cap as usize || cell.level == cell.grid
 }
 
 /// Writes the number of a leaf at the positions of its points.
@@ -62,7 +62,7 @@ impl Node {
     /// What is kept of the cell of a run, with the numbers of the cells below it.
     fn of(points: &[Point], cap: u32, positions: &[u32], run: Run, children: Children) -> Node
         requires below { All (λ k. k < length points.now) positions.now }
-        requires in_tree { IsTreeCell 16 points.now cap (square run.cell) }
+        requires in_tree { IsTreeCell run.cell.grid points.now cap (square run.cell) }
         requires run { IsRun points.now positions.now run }
         ensures { IsNodeOf points.now cap positions.now (square run.cell) run.parent children result }
     {
@@ -71,7 +71,7 @@ impl Node {
             parent: run.parent,
             from: run.from,
             to: run.to,
-            is_leaf: is_last(members.len(), cap, run.cell.level),
+            is_leaf: is_last(members.len(), cap, run.cell),
             has_source: has_source(points, members),
             has_target: has_target(points, members),
             children,
@@ -88,7 +88,7 @@ pub(crate) fn nodes_of(
     runs: &[Run],
     families: &[Children],
 ) -> Result<Vec<Node>, AllocError>
-    requires in_tree { All (IsTreeCell 16 points.now cap) (squares_of runs.now) }
+    requires in_tree { All (λ c. IsTreeCell c.grid points.now cap c) (squares_of runs.now) }
     requires runs { AreRuns points.now positions.now runs.now }
     requires families { length families.now ≡ length runs.now }
     ensures { IfOk result (λ v. AreNodesTo points.now cap positions.now (squares_of runs.now) (parents_of runs.now) families.now v.items (length runs.now)) }

@@ -4,13 +4,13 @@ ghost use Rattle.std.specs.Prelude.{◌≡◌, ◌≤◌, ◌<◌, ◌++◌, [],
 ghost use Rattle.std.specs.List.{range_with_len};
 ghost use Rattle.cell_name.specs.Cell.{square, half_number};
 ghost use Rattle.cell_name.specs.Square.{root, child};
-ghost use Rattle.points.specs.Limits.{most_points};
+ghost use Rattle.limits.specs.Limits.{IsGrid, widest_grid, most_points};
 ghost use Rattle.quadtree.specs.Divided.{HasRoom};
 ghost use Rattle.quadtree.specs.Splitting.{squares_of, occupied, below_from, quarters_of, added_run, AddsCells, AreRuns, AreBelow, HaveParents};
 ghost use Rattle.quadtree.specs.Tree.{AreInGrid, AreTreeCells};
 
 use crate::divide::Parts;
-use cell_name::{Cell, GRID, Quadrant};
+use cell_name::{Cell, Quadrant};
 use points::Point;
 use std::alloc::{AllocError, Global};
 
@@ -43,7 +43,7 @@ fn all_positions(alloc: Global, count: u32) -> Result<Vec<u32>, AllocError>
 
 /// The quarter of a cell in one of the four quadrants.
 fn quarter(cell: Cell, right: bool, top: bool) -> Cell
-    requires { cell.level ≤ 15 }
+    requires { cell.level < cell.grid }
     ensures { square result ≡ child (square cell) (half_number right) (half_number top) }
 {
     cell.child(Quadrant { right, top })
@@ -79,7 +79,7 @@ impl Splits {
         number: usize,
     ) -> Result<(), AllocError>
         requires number { number < length above.now }
-        requires room { All (λ c. c.level ≤ 15) (squares_of above.now) }
+        requires room { All (λ c. c.level < c.grid) (squares_of above.now) }
         requires parts { HasRoom parts.old (length points.now) }
         requires below { AreBelow points.now above.now self.old.positions.items self.old.runs.items }
         ensures cells { OnOk result (AddsCells self.old.runs.items (occupied points.now (quarters_of (squares_of above.now) number)) self.new.runs.items) }
@@ -110,7 +110,7 @@ impl Splits {
         start: usize,
     ) -> Result<(), AllocError>
         requires start { start ≤ length above.now }
-        requires room { All (λ c. c.level ≤ 15) (squares_of above.now) }
+        requires room { All (λ c. c.level < c.grid) (squares_of above.now) }
         requires parts { HasRoom parts.old (length points.now) }
         requires below { AreBelow points.now above.now self.old.positions.items self.old.runs.items }
         ensures cells { OnOk result (AddsCells self.old.runs.items (below_from points.now cap start above.now) self.new.runs.items) }
@@ -127,10 +127,11 @@ impl Splits {
     }
 
     /// The whole grid, where there is a point at all.
-    fn root(alloc: Global, points: &[Point]) -> Result<Splits, AllocError>
-        requires in_grid { AreInGrid 16 points.now }
-        requires few { length points.now ≤ most_points }
-        ensures cells { IfOk result (λ s. squares_of s.runs.items ≡ occupied points.now (root 16 ∷ [])) }
+    fn root(alloc: Global, points: &[Point], grid: u8) -> Result<Splits, AllocError>
+        requires known_grid { IsGrid grid }
+        requires in_grid { AreInGrid grid points.now }
+        requires few { length points.now ≤ most_points widest_grid }
+        ensures cells { IfOk result (λ s. squares_of s.runs.items ≡ occupied points.now (root grid ∷ [])) }
         ensures runs { IfOk result (λ s. AreRuns points.now s.positions.items s.runs.items) }
         ensures parents { IfOk result (λ s. HaveParents (squares_of s.runs.items) s.runs.items) }
     {
@@ -139,11 +140,7 @@ impl Splits {
         let mut runs = Vec::new(alloc);
         if count > 0 {
             runs.push(Run {
-                cell: Cell {
-                    level: 0,
-                    i: 0,
-                    j: 0,
-                },
+                cell: Cell::root(grid),
                 parent: 0,
                 from: 0,
                 to: count,
@@ -155,24 +152,30 @@ impl Splits {
     /// The cells of the tree in their order, and the positions of their points.
     ///
     /// Level by level: the cells of a level have their numbers before the next is made, so each is made with its parent's number.
-    pub(crate) fn of(alloc: Global, points: &[Point], cap: u32) -> Result<Splits, AllocError>
-        requires in_grid { AreInGrid 16 points.now }
-        requires few { length points.now ≤ most_points }
-        ensures cells { IfOk result (λ s. AreTreeCells 16 points.now cap (squares_of s.runs.items)) }
+    pub(crate) fn of(
+        alloc: Global,
+        points: &[Point],
+        cap: u32,
+        grid: u8,
+    ) -> Result<Splits, AllocError>
+        requires known_grid { IsGrid grid }
+        requires in_grid { AreInGrid grid points.now }
+        requires few { length points.now ≤ most_points widest_grid }
+        ensures cells { IfOk result (λ s. AreTreeCells grid points.now cap (squares_of s.runs.items)) }
         ensures runs { IfOk result (λ s. AreRuns points.now s.positions.items s.runs.items) }
         ensures parents { IfOk result (λ s. HaveParents (squares_of s.runs.items) s.runs.items) }
     {
         let Splits {
             positions,
             mut runs,
-        } = Splits::root(alloc, points)?;
+        } = Splits::root(alloc, points, grid)?;
         let mut found = Splits {
             positions,
             runs: Vec::new(alloc),
         };
         let mut parts = Parts::new(alloc, points.len())?;
         let mut start = 0;
-        for _level in 0..GRID {
+        for _level in 0..grid {
             found.split_level(points, cap, &mut parts, &runs, start)?;
             start = runs.len();
             found.runs.sort_unstable();

@@ -21,12 +21,13 @@ pub struct Node {
     pub(crate) children: Children,
 }
 
-/// The adaptive quadtree of a list of points with a leaf capacity.
+/// The adaptive quadtree of a list of points with a leaf capacity, on the grid of the list's version.
 ///
 /// A cell is in the tree where it has a point and is the whole grid, or its parent has more points than the capacity.
 /// It is a leaf where it has no more than that, or is of the last level.
 #[derive(Drop)]
 pub struct Tree {
+    pub(crate) grid: u8,
     pub(crate) cells: Vec<Cell>,
     pub(crate) nodes: Vec<Node>,
     pub(crate) positions: Vec<u32>,
@@ -39,12 +40,19 @@ impl Model for Tree {
 
     ghost Value = { TreeModel };
 
-    ghost view = { λ t. tree_of t.cells.items t.nodes.items t.positions.items t.leaves.items };
+    ghost view = { λ t. tree_of t.grid t.cells.items t.nodes.items t.positions.items t.leaves.items };
 
-    ghost invariant = { λ t. AreFieldsOfTree t.cells.items t.nodes.items t.positions.items t.leaves.items };
+    ghost invariant = { λ t. AreFieldsOfTree t.grid t.cells.items t.nodes.items t.positions.items t.leaves.items };
 }
 
 impl Tree {
+    /// The bits of the grid.
+    pub fn grid(&self) -> u8
+        ensures { result ≡ self.now.grid }
+    {
+        self.grid
+    }
+
     /// All cells, ascending by level, column and row. A cell's number is its place here, counted from 0.
     pub fn cells(&self) -> &[Cell]
         ensures all { result.now ≡ self.now.cells }

@@ -21,7 +21,7 @@ pub fn text_of(alloc: Global, head: &str, lines: &[(u32, &str)]) -> Result<Vec<u
 
 /// The list of a field text with these lines.
 pub fn points_of(alloc: Global, lines: &[(u32, &str)]) -> Result<Points, ParseFault>
-    ensures { IfOk result (λ p. WithinLimits p.mode p.list) }
+    ensures { IfOk result (λ p. WithinLimits p) }
 {
     match text_of(alloc, "fmm 1 field\n", lines) {
         Ok(text) => parse(alloc, &text),

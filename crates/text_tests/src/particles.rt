@@ -1,8 +1,9 @@
 //! Worked rows of the text and its border cases.
+use limits::{FIRST_GRID, in_grid};
 use particle_text::{
     ParseFault, TextKind, admit, first_fault, one_reading, one_text, parse, parse_point, print,
 };
-use points::{Kind, Mode, Point, in_grid};
+use points::{Kind, Mode, Point};
 use std::test::Fail;
 
 const FAULTS: [(&[u8], u64, TextKind); 28] = [
@@ -78,6 +79,7 @@ fn faults_are_named(rt: HostRuntime) -> Result<(), Fail> {
 fn texts_are_read_and_printed_back(rt: HostRuntime) -> Result<(), Fail> {
     for &(text, count) in &TEXTS {
         let points = parse(rt.alloc(), text)?;
+        assert_eq!(rt; points.version, 1);
         assert_eq!(rt; points.list.points().len(), count);
         let printed = print(rt.alloc(), &points)?;
         assert_eq!(rt; printed.as_slice(), text);
@@ -119,11 +121,11 @@ fn the_list_has_a_limit(rt: HostRuntime) -> Result<(), Fail> {
 
 #[test]
 fn points_have_poles_and_weights(rt: HostRuntime) -> Result<(), Fail> {
-    let charge = parse_point(b"charge 1 -2 -3")?;
+    let charge = parse_point(1, b"charge 1 -2 -3")?;
     let kind = Kind::Charge(-3);
     assert_eq!(rt; charge, Point { x: 1, y: -2, kind });
-    let dipole = parse_point(b"dipole 0 0 5 -6")?;
-    let vortex = parse_point(b"vortex 0 0 7")?;
+    let dipole = parse_point(1, b"dipole 0 0 5 -6")?;
+    let vortex = parse_point(1, b"vortex 0 0 7")?;
     assert_eq!(rt;
         (charge.pole(), charge.dipole(), charge.weight64()),
         ((-3, 0), (0, 0), 3)
@@ -141,24 +143,25 @@ fn points_have_poles_and_weights(rt: HostRuntime) -> Result<(), Fail> {
 
 #[test]
 fn points_are_admitted(rt: HostRuntime) -> Result<(), Fail> {
-    let charge = parse_point(b"charge 1 -2 -3")?;
+    let charge = parse_point(1, b"charge 1 -2 -3")?;
     let heavy = 4_294_967_296 - 3;
-    assert_eq!(rt; admit(Mode::Field, 65_535, heavy, &charge), None);
+    assert_eq!(rt; admit(1, Mode::Field, 65_535, heavy, &charge), None);
     assert_eq!(rt;
-        admit(Mode::Field, 65_535, heavy + 1, &charge),
+        admit(1, Mode::Field, 65_535, heavy + 1, &charge),
         Some(TextKind::Strength)
     );
     assert_eq!(rt;
-        admit(Mode::Field, 65_536, heavy + 1, &charge),
+        admit(1, Mode::Field, 65_536, heavy + 1, &charge),
         Some(TextKind::Many)
     );
     assert_eq!(rt;
-        admit(Mode::Velocity, 65_536, heavy + 1, &charge),
+        admit(1, Mode::Velocity, 65_536, heavy + 1, &charge),
         Some(TextKind::Mixed)
     );
-    assert!(rt; charge.is_in_range() && in_grid(-32_768, 32_767) && !in_grid(0, 32_768));
-    assert_eq!(rt; parse_point(b"target 0 32768"), Err(TextKind::Range));
-    assert_eq!(rt; parse_point(b"target 0"), Err(TextKind::Syntax));
+    assert!(rt; charge.is_in_range(FIRST_GRID));
+    assert!(rt; in_grid(FIRST_GRID, -32_768, 32_767) && !in_grid(FIRST_GRID, 0, 32_768));
+    assert_eq!(rt; parse_point(1, b"target 0 32768"), Err(TextKind::Range));
+    assert_eq!(rt; parse_point(1, b"target 0"), Err(TextKind::Syntax));
     one_reading();
     one_text();
     Ok(())

@@ -16,6 +16,7 @@ fn samples(rt: HostRuntime) -> Result<(), Fail> {
         y: -31_361,
         kind: Kind::Charge(261),
     };
+    assert_eq!(rt; sample.version, 1);
     assert!(rt; sample.list.points() == [first, second].as_slice());
 
     let sample = sample_points(rt.alloc(), 1, 500)?;

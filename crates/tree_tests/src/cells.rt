@@ -5,19 +5,20 @@ const WEST: i64 = -32768;
 
 #[test]
 fn cells_of_places(rt: HostRuntime) {
-    let root = Cell::of(WEST, 32767, 0);
+    let root = Cell::of(WEST, 32767, 0, 16);
     assert_eq!(rt;
         root,
         Cell {
             level: 0,
             i: 0,
-            j: 0
+            j: 0,
+            grid: 16
         }
     );
     assert_eq!(rt; root.side(), 65536);
     assert_eq!(rt; root.corner(), (WEST, WEST));
     assert_eq!(rt; root.doubled_centre(), (0, 0));
-    let middle = Cell::of(0, 0, 16);
+    let middle = Cell::of(0, 0, 16, 16);
     assert_eq!(rt; (middle.level, middle.i, middle.j), (16, 32768, 32768));
     assert_eq!(rt; middle.side(), 1);
     assert_eq!(rt; middle.corner(), (0, 0));
@@ -26,13 +27,26 @@ fn cells_of_places(rt: HostRuntime) {
     assert!(rt; middle.holds(0, 0));
     assert!(rt; !middle.holds(1, 0));
     assert!(rt; !middle.holds(0, -1));
-    let corner = Cell::of(32767, WEST, 16);
+    let corner = Cell::of(32767, WEST, 16, 16);
     assert_eq!(rt; (corner.i, corner.j), (65535, 0));
 }
 
 #[test]
+fn cells_of_the_widest_grid(rt: HostRuntime) {
+    let root = Cell::root(20);
+    assert_eq!(rt; Cell::of(524_287, -524_288, 0, 20), root);
+    assert_eq!(rt; root.side(), 1_048_576);
+    assert_eq!(rt; root.corner(), (-524_288, -524_288));
+    let middle = Cell::of(0, 0, 20, 20);
+    assert_eq!(rt; (middle.i, middle.j), (524_288, 524_288));
+    assert_eq!(rt; middle.side(), 1);
+    assert_eq!(rt; middle.corner(), (0, 0));
+    assert_eq!(rt; middle.ancestor(0), root);
+}
+
+#[test]
 fn families_and_neighbours(rt: HostRuntime) {
-    let cell = Cell::of(8, 0, 14);
+    let cell = Cell::of(8, 0, 14, 16);
     assert_eq!(rt; (cell.i, cell.j), (8194, 8192));
     let up = cell.parent();
     assert_eq!(rt; (up.level, up.i, up.j), (13, 4097, 4096));
@@ -50,12 +64,13 @@ fn families_and_neighbours(rt: HostRuntime) {
         Cell {
             level: 1,
             i: 1,
-            j: 1
+            j: 1,
+            grid: 16
         }
     );
-    let southwest = Cell::of(-1, -1, 16);
-    assert!(rt; southwest.touches(Cell::of(0, 0, 16)));
-    assert!(rt; southwest.touches(Cell::of(0, 0, 0)));
-    assert!(rt; !southwest.touches(Cell::of(1, 0, 16)));
+    let southwest = Cell::of(-1, -1, 16, 16);
+    assert!(rt; southwest.touches(Cell::of(0, 0, 16, 16)));
+    assert!(rt; southwest.touches(Cell::of(0, 0, 0, 16)));
+    assert!(rt; !southwest.touches(Cell::of(1, 0, 16, 16)));
     assert!(rt; southwest < cell.ancestor(16 - 2).child(quadrant).child(quadrant));
 }

@@ -96,19 +96,19 @@ fn cells_apart(rt: HostRuntime) -> Result<(), Fail> {
     let v = tree_of(alloc, &[NINE_CHARGES, (9, "target 2 0\n")])?;
     assert_eq!(rt; v.cells().len(), 19);
     assert_eq!(rt;
-        (v.find(Cell::of(2, 0, 16)), v.find(Cell::of(0, 0, 16))),
+        (v.find(Cell::of(2, 0, 16, 16)), v.find(Cell::of(0, 0, 16, 16))),
         (Some(18), Some(17))
     );
     lists_are(&rt, alloc, &v, [0, 1, 0, 0], 18, [&[], &[17], &[], &[]])?;
     entry_is(&rt, &v, 18, 17, Letter::V, (18, 17));
     let w = tree_of(alloc, &[NINE_CHARGES, (1, "target 8 0\n")])?;
-    assert_eq!(rt; Cell::of(0, 0, 14).side(), 4);
+    assert_eq!(rt; Cell::of(0, 0, 14, 16).side(), 4);
     assert_eq!(rt; w.cells().len(), 18);
-    assert_eq!(rt; w.find(Cell::of(0, 0, 14)), Some(15));
+    assert_eq!(rt; w.find(Cell::of(0, 0, 14, 16)), Some(15));
     lists_are(&rt, alloc, &w, [0, 0, 1, 0], 14, [&[], &[], &[15], &[]])?;
     entry_is(&rt, &w, 14, 17, Letter::W, (14, 15));
     let x = tree_of(alloc, &[(1, "charge 8 0 1\n"), (9, "target 0 0\n")])?;
-    assert_eq!(rt; x.find(Cell::of(0, 0, 14)), Some(15));
+    assert_eq!(rt; x.find(Cell::of(0, 0, 14, 16)), Some(15));
     lists_are(&rt, alloc, &x, [0, 0, 0, 1], 15, [&[], &[], &[], &[14]])?;
     entry_is(&rt, &x, 17, 14, Letter::X, (15, 14));
     Ok(())

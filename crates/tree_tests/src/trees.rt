@@ -38,9 +38,10 @@ fn cells_of_two_places(rt: HostRuntime) -> Result<(), Fail> {
     let alloc = rt.alloc();
     let points = points_of(alloc, &[(8, "charge 0 0 1\n"), (1, "target 1 0\n")])?;
     let tree = Tree::build(alloc, &points, 8)?;
+    assert_eq!(rt; tree.grid(), 16);
     assert_eq!(rt; tree.cells().len(), 18);
-    assert_eq!(rt; tree.find(Cell::of(1, 0, 16)), Some(17));
-    assert_eq!(rt; tree.find(Cell::of(5, 5, 16)), None);
+    assert_eq!(rt; tree.find(Cell::of(1, 0, 16, 16)), Some(17));
+    assert_eq!(rt; tree.find(Cell::of(5, 5, 16, 16)), None);
     assert_eq!(rt;
         (tree.parent(0), tree.parent(16), tree.parent(17)),
         (0, 15, 15)

@@ -1,6 +1,8 @@
 -- The descent of two leaves of the tree names an entry of the tree.
-use Rattle.std.proofs.Common.{◌≡◌, ◌≤◌, refl, arith, lit<}
+use Rattle.std.proofs.Common.{◌≡◌, ◌≤◌, ap, ◌∙◌, arith}
+use Rattle.limits.proofs.Grids.{grid_positive}
 use Rattle.cell_name.specs.Cell.{square}
+use Rattle.cell_name.specs.Square.{Square}
 use Rattle.quadtree.specs.TreeModel.{square_of}
 use Rattle.cell_lists.proofs.OneEntry.{roots_touch, only_entry}
 use Rattle.quadtree.proofs.TreeChildren.{tree_cell_at}
@@ -9,9 +11,15 @@ use Rattle.cell_lists.proofs.walk.first_apart.Goals as goal
 
 pub descend-stop-requires : goal.descend-stop-requires
 descend-stop-requires c =
+    let tree = c.args.tree.now in
+    let of_some = c.cells-cells.ensures.tree in
     let b = c.index-cells-b.result in
     let d = c.index-cells-c.result in
-    roots_touch 16 (square b) (square d) refl refl b.column b.row d.column d.row
+    let eb : square b ≡ square_of tree c.args.b = read_at tree c.cells-cells.result.now c.args.b b c.cells-cells.ensures.all c.requires.first c.index-cells-b.is in
+    let ed : square d ≡ square_of tree c.args.c = read_at tree c.cells-cells.result.now c.args.c d c.cells-cells.ensures.all c.requires.second c.index-cells-c.is in
+    let gb = ap (λ (s : Square). s.grid) eb ∙ (tree_cell_at tree of_some.points of_some.cap c.args.b of_some.is_tree c.requires.first).of_grid in
+    let gd = ap (λ (s : Square). s.grid) ed ∙ (tree_cell_at tree of_some.points of_some.cap c.args.c of_some.is_tree c.requires.second).of_grid in
+    roots_touch tree.grid (square b) (square d) gb gd b.column b.row d.column d.row
 
 pub ancestor_number-requires-clause-level : goal.ancestor_number-requires-clause-level
 ancestor_number-requires-clause-level c =
@@ -53,4 +61,4 @@ returns-clause-accounts c target source h =
 pub returns-clause-only : goal.returns-clause-only
 returns-clause-only c points cap inside is_tree target source given held =
     let tree = c.args.tree.now in
-    only_entry 16 points cap c.descend-stop.result.letter (square_of tree c.ancestor_number.result) (square_of tree c.ancestor_number-2.result) target source (lit< tt) inside given (returns-clause-entry c points cap inside is_tree) (returns-clause-accounts c target source held)
+    only_entry tree.grid points cap c.descend-stop.result.letter (square_of tree c.ancestor_number.result) (square_of tree c.ancestor_number-2.result) target source (grid_positive tree.grid is_tree.known_grid) inside given (returns-clause-entry c points cap inside is_tree) (returns-clause-accounts c target source held)

@@ -2,11 +2,8 @@ use Rattle.particle_text.proofs.OneFault.{one_fault, never_both}
 use Rattle.particle_text.proofs.OneText.{one_list}
 use Rattle.particle_text.proofs.law.one_reading.Goals as goal
 
-pub returns-clause-mode : goal.returns-clause-mode
-returns-clause-mode c = λ bytes mode other points rest spells reads. (one_list bytes mode other points rest spells reads).modes
-
 pub returns-clause-points : goal.returns-clause-points
-returns-clause-points c = λ bytes mode other points rest spells reads. (one_list bytes mode other points rest spells reads).points
+returns-clause-points c = one_list
 
 pub returns-clause-line : goal.returns-clause-line
 returns-clause-line c = λ bytes line other kind what first second. (one_fault bytes line other kind what first second).lines

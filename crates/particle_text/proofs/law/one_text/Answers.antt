@@ -6,4 +6,4 @@ pub returns-clause-text : goal.returns-clause-text
 returns-clause-text c = text_spelled
 
 pub returns-clause-only : goal.returns-clause-only
-returns-clause-only c = λ bytes mode points spells. one_text bytes (text_of mode points) mode points spells (text_spelled mode points spells.limits)
+returns-clause-only c = λ bytes points spells. one_text bytes (text_of points) points spells (text_spelled points spells.limits)

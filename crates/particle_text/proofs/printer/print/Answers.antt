@@ -5,7 +5,6 @@ use Rattle.particle_text.proofs.printer.print.Goals as goal
 
 pub returns-in-Ok-clause-spells : goal.returns-in-Ok-clause-spells
 returns-in-Ok-clause-spells c =
-    let mode = c.args.points.now.mode in
-    let points = c.args.points.now.list in
-    let text : c.into_bytes.result.items ≡ text_of mode points = ap (λ v. v.items) c.into_bytes.ensures.value ∙ c.in-Ok.ensures ∙ ap (text_of mode) c.points.ensures in
-    subst (λ bytes. Spells bytes mode points) (sym text) (text_spelled mode points c.requires)
+    let points = c.args.points.now in
+    let text : c.into_bytes.result.items ≡ text_of points = ap (λ v. v.items) c.into_bytes.ensures.value ∙ c.in-Ok.ensures in
+    subst (λ bytes. Spells bytes points) (sym text) (text_spelled points c.requires)

@@ -1,10 +1,10 @@
 -- The four quarters are added.
-use Rattle.std.proofs.Common.{ℕ, ◌≡◌, ◌<◌, ◌≤◌, List, length, get_or, take, true, sym, ap, ◌∙◌, subst, arith}
+use Rattle.std.proofs.Common.{ℕ, ◌≡◌, ◌<◌, List, length, get_or, take, true, sym, ap, ◌∙◌, subst, arith}
 use Rattle.std.specs.Prelude.{All, slice_range}
 use Rattle.std.proofs.lemmas.List.{length-map}
 use Rattle.std.proofs.lemmas.List.Elements.{All-get_or}
 use Rattle.cell_name.specs.Cell.{square}
-use Rattle.cell_name.specs.Square.{Square, root, child}
+use Rattle.cell_name.specs.Square.{Square, no_square, child}
 use Rattle.quadtree.specs.declared.split.Run.{Run}
 use Rattle.quadtree.specs.Divided.{HasRoom, IsFront}
 use Rattle.quadtree.specs.Members.{holds_position}
@@ -13,10 +13,10 @@ use Rattle.quadtree.proofs.Levels.{cell_at, run_at}
 use Rattle.quadtree.proofs.Pushed.{IsPushed, quarter_pushed, four_pushed, has_room, members_held}
 use Rattle.quadtree.proofs.split.Splits.push_quarters.Goals as goal
 
-room_here : (above : List Run) (number : ℕ) (run : Run) → number < length above → run ≡ get_or above number run → All (λ c. c.level ≤ 15) (squares_of above) → run.cell.level ≤ 15
+room_here : (above : List Run) (number : ℕ) (run : Run) → number < length above → run ≡ get_or above number run → All (λ c. c.level < c.grid) (squares_of above) → run.cell.level < run.cell.grid
 room_here above number run lt e room =
-    let P : Square → Type 0 = λ c. c.level ≤ 15 in
-    subst P (cell_at above number run lt e) (All-get_or P (squares_of above) number (root 16) (omega (arith, length-map above (λ (r : Run). square r.cell))) room)
+    let P : Square → Type 0 = λ c. c.level < c.grid in
+    subst P (cell_at above number run lt e) (All-get_or P (squares_of above) number no_square (omega (arith, length-map above (λ (r : Run). square r.cell))) room)
 
 pub divide-counts-requires-clause-room : goal.divide-counts-requires-clause-room
 divide-counts-requires-clause-room c =
@@ -39,7 +39,7 @@ divide-counts-requires-clause-held c =
 pub quarter-requires : goal.quarter-requires
 quarter-requires c = room_here c.args.above.now c.args.number c.index-above-number.result c.requires.number c.index-above-number.is c.requires.room
 
-southwest : (c : goal.In_ok-push-4) → IsPushed c.args.points.now c.args.above.now c.push.new.self.positions.items c.args.self.now.runs.items c.push.new.self.runs.items (child (get_or (squares_of c.args.above.now) c.args.number (root 16)) 0 0)
+southwest : (c : goal.In_ok-push-4) → IsPushed c.args.points.now c.args.above.now c.push.new.self.positions.items c.args.self.now.runs.items c.push.new.self.runs.items (child (get_or (squares_of c.args.above.now) c.args.number no_square) 0 0)
 southwest c =
     let run : Run = c.index-above-number.result in
     let first = c.args.self.now.positions.items in
@@ -51,7 +51,7 @@ southwest c =
     quarter_pushed c.args.points.now c.args.above.now c.args.self.now.runs.items c.push.new.self.runs.items first c.args.self.now.positions.items c.push.new.self.positions.items c.divide-counts.new.self.southwest.items _ c.quarter.result run c.args.number 0 0 c.divide-counts.result.southwest c.requires.below lt read r room (omega arith) (omega arith) c.quarter.ensures
     (subst P c.deref.ensures.value c.divide-counts.ensures.divided.southwest) (ap (take c.divide-counts.result.southwest) c.deref-2.ensures.value) c.in_ok-push.ensures.positions c.in_ok-push.ensures.runs
 
-northwest : (c : goal.In_ok-push-4) → IsPushed c.args.points.now c.args.above.now c.push-2.new.self.positions.items c.push.new.self.runs.items c.push-2.new.self.runs.items (child (get_or (squares_of c.args.above.now) c.args.number (root 16)) 0 1)
+northwest : (c : goal.In_ok-push-4) → IsPushed c.args.points.now c.args.above.now c.push-2.new.self.positions.items c.push.new.self.runs.items c.push-2.new.self.runs.items (child (get_or (squares_of c.args.above.now) c.args.number no_square) 0 1)
 northwest c =
     let run : Run = c.index-above-number.result in
     let first = c.args.self.now.positions.items in
@@ -63,7 +63,7 @@ northwest c =
     quarter_pushed c.args.points.now c.args.above.now c.push.new.self.runs.items c.push-2.new.self.runs.items first c.push.new.self.positions.items c.push-2.new.self.positions.items c.divide-counts.new.self.northwest.items _ c.quarter-2.result run c.args.number 0 1 c.divide-counts.result.northwest (southwest c).below lt read r room (omega arith) (omega arith) c.quarter-2.ensures
     (subst P c.deref.ensures.value c.divide-counts.ensures.divided.northwest) (ap (take c.divide-counts.result.northwest) c.deref-3.ensures.value) c.in_ok-push-2.ensures.positions c.in_ok-push-2.ensures.runs
 
-southeast : (c : goal.In_ok-push-4) → IsPushed c.args.points.now c.args.above.now c.push-3.new.self.positions.items c.push-2.new.self.runs.items c.push-3.new.self.runs.items (child (get_or (squares_of c.args.above.now) c.args.number (root 16)) 1 0)
+southeast : (c : goal.In_ok-push-4) → IsPushed c.args.points.now c.args.above.now c.push-3.new.self.positions.items c.push-2.new.self.runs.items c.push-3.new.self.runs.items (child (get_or (squares_of c.args.above.now) c.args.number no_square) 1 0)
 southeast c =
     let run : Run = c.index-above-number.result in
     let first = c.args.self.now.positions.items in
@@ -75,7 +75,7 @@ southeast c =
     quarter_pushed c.args.points.now c.args.above.now c.push-2.new.self.runs.items c.push-3.new.self.runs.items first c.push-2.new.self.positions.items c.push-3.new.self.positions.items c.divide-counts.new.self.southeast.items _ c.quarter-3.result run c.args.number 1 0 c.divide-counts.result.southeast (northwest c).below lt read r room (omega arith) (omega arith) c.quarter-3.ensures
     (subst P c.deref.ensures.value c.divide-counts.ensures.divided.southeast) (ap (take c.divide-counts.result.southeast) c.deref-4.ensures.value) c.in_ok-push-3.ensures.positions c.in_ok-push-3.ensures.runs
 
-northeast : (c : goal.In_ok-push-4) → IsPushed c.args.points.now c.args.above.now c.push-4.new.self.positions.items c.push-3.new.self.runs.items c.push-4.new.self.runs.items (child (get_or (squares_of c.args.above.now) c.args.number (root 16)) 1 1)
+northeast : (c : goal.In_ok-push-4) → IsPushed c.args.points.now c.args.above.now c.push-4.new.self.positions.items c.push-3.new.self.runs.items c.push-4.new.self.runs.items (child (get_or (squares_of c.args.above.now) c.args.number no_square) 1 1)
 northeast c =
     let run : Run = c.index-above-number.result in
     let first = c.args.self.now.positions.items in
@@ -92,4 +92,4 @@ returns-clause-below c = (northeast c).below
 
 pub returns-clause-cells : goal.returns-clause-cells
 returns-clause-cells c =
-    four_pushed c.args.points.now (squares_of c.args.self.now.runs.items) _ _ _ (squares_of c.push-4.new.self.runs.items) (get_or (squares_of c.args.above.now) c.args.number (root 16)) (southwest c).cells (northwest c).cells (southeast c).cells (northeast c).cells
+    four_pushed c.args.points.now (squares_of c.args.self.now.runs.items) _ _ _ (squares_of c.push-4.new.self.runs.items) (get_or (squares_of c.args.above.now) c.args.number no_square) (southwest c).cells (northwest c).cells (southeast c).cells (northeast c).cells

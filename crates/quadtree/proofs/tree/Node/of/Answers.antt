@@ -12,7 +12,7 @@ use Rattle.quadtree.proofs.Positions.{length-members}
 use Rattle.quadtree.proofs.tree.Node.of.Goals as goal
 
 -- a cell of the tree is a leaf where the code says that it isn't split
-leaf_is : (points : List Point) (cap : ℕ) (c : Square) (n : ℕ) (b : Bool) → IsTreeCell 16 points cap c → n ≡ count_in points c → (IsTrue b ↔ ((n ≤ cap) ⊎ (c.level ≡ 16))) → IsTrue b ↔ IsLeaf 16 points cap c
+leaf_is : (points : List Point) (cap : ℕ) (c : Square) (n : ℕ) (b : Bool) → IsTreeCell c.grid points cap c → n ≡ count_in points c → (IsTrue b ↔ ((n ≤ cap) ⊎ (c.level ≡ c.grid))) → IsTrue b ↔ IsLeaf c.grid points cap c
 leaf_is points cap c n b in_tree count h = (
   λ t. record { in_tree = in_tree; ends = elim (h.0 t) [ inl few ↦ inl (omega (arith, few, count)) | inr last ↦ inr last ] },
   λ leaf. h.1 (elim leaf.ends [ inl few ↦ inl (omega (arith, few, count)) | inr last ↦ inr last ]),
