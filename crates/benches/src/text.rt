@@ -1,5 +1,6 @@
 //! Reads, prints and writes 8,192 and 65,536 lines, and says what came out, or how many megabytes a second.
 ghost use Rattle.std.specs.Prelude.{◌≤◌};
+ghost use Rattle.limits.specs.Limits.{first_grid, most_points};
 ghost use Rattle.points.specs.Limits.{WithinLimits};
 
 use complex_box::CBox;
@@ -62,7 +63,7 @@ fn write_lines(lines: u32) -> bool {
 
 /// Prints the points.
 fn printed(rt: &HostRuntime, points: &Points) -> usize
-    requires { WithinLimits points.now.mode points.now.list }
+    requires { WithinLimits points.now }
 {
     match print(rt.alloc(), points) {
         Ok(bytes) => bytes.len(),
@@ -72,7 +73,7 @@ fn printed(rt: &HostRuntime, points: &Points) -> usize
 
 /// Reads, prints and writes that many lines.
 fn measure(rt: &HostRuntime, timed: bool, lines: u32) -> io::Result<()>
-    requires { lines ≤ 65536 }
+    requires { lines ≤ most_points first_grid }
 {
     let Some(text) = sample(rt, lines) else {
         return Ok(());

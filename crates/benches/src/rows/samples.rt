@@ -6,6 +6,7 @@ ghost use Rattle.complex_box.specs.Box.{number};
 ghost use Rattle.cell_name.specs.Cell.{square};
 ghost use Rattle.cell_name.specs.Square.{side, Holds};
 ghost use Rattle.kernel_table.specs.Kernel.{IsKernelDistance};
+ghost use Rattle.limits.specs.Limits.{first_grid, widest_grid};
 ghost use Rattle.points.specs.Limits.{HasStrength, InRange};
 ghost use Rattle.points.specs.Points.{place};
 ghost use Rattle.row_recursions.specs.Geometry.{doubled_centre};
@@ -16,6 +17,7 @@ ghost use Rattle.benches.specs.Middle.{middle};
 use cell_name::{Cell, Quadrant};
 use complex_box::{CBox, Gauss};
 use fixed_interval::Interval;
+use limits::FIRST_GRID;
 use points::{Kind, Point};
 
 /// A row of order 16 whose boxes are 2 and 3 wide.
@@ -41,6 +43,7 @@ pub fn cell() -> Cell
         level: 6,
         i: 32,
         j: 32,
+        grid: FIRST_GRID,
     }
 }
 
@@ -70,7 +73,7 @@ pub fn distance(n: u32) -> Gauss
 pub fn inside(n: u32, kind: Kind) -> Point
     requires { HasStrength kind }
     ensures kind { result.kind ≡ kind }
-    ensures range { InRange result }
+    ensures range { InRange widest_grid result }
     ensures inside { Holds middle result.x result.y }
 {
     Point {
@@ -85,7 +88,7 @@ pub fn inside(n: u32, kind: Kind) -> Point
 pub fn outside(n: u32, kind: Kind) -> Point
     requires { HasStrength kind }
     ensures kind { result.kind ≡ kind }
-    ensures range { InRange result }
+    ensures range { InRange first_grid result }
     ensures far { GaussianBeyond (3 * side middle) (doubled_offset (place result) (doubled_centre middle)) }
 {
     Point {

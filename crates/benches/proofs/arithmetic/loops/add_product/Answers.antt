@@ -1,5 +1,5 @@
-use Rattle.std.proofs.Common.{◌≡◌, ◌+◌, ◌*◌, ◌^◌, ◌≤◌, arith, lit≤, sym, subst, ℕ}
-use Rattle.exact_math.specs.Ends.{BoxEnds, BoxEndsWithin, add_box, times_box, zero_box}
+use Rattle.std.proofs.Common.{◌+◌, ◌*◌, ◌^◌, ◌≤◌, arith, lit≤, sym, subst, ℕ}
+use Rattle.exact_math.specs.Ends.{BoxEnds, BoxEndsWithin, add_box, times_box}
 use Rattle.complex_box.specs.Box.{box_ends}
 use Rattle.complex_box.proofs.Sizes.{times_fits, product_sum_within, box_wider}
 use Rattle.benches.proofs.arithmetic.loops.add_product.Goals as goal

@@ -1,4 +1,4 @@
-use Rattle.std.proofs.Common.{◌+◌, ◌*◌, ◌^◌, arith, lit≤, rules, subst, sym}
+use Rattle.std.proofs.Common.{◌∙◌, ◌+◌, ◌*◌, ◌^◌, arith, lit≤, rules, subst, sym}
 use Rattle.complex_box.proofs.Sizes.{box_wider}
 use Rattle.row_recursions.specs.Rows.{row_of}
 use Rattle.row_recursions.specs.Sizes.{RowWithin}
@@ -17,7 +17,7 @@ convert-requires c = (search rules, (search rules, (search rules, (c.loop-n.inva
 
 pub loop-n-preserved : goal.loop-n-preserved
 loop-n-preserved c = record {
-  len = c.convert.ensures.len;
+  len = c.convert.auto.into ∙ c.loop-n.invariant.len;
   size = λ k h. box_wider (c.loop-n.n * 2 ^ 61 + 3 * 2 ^ 59) ((c.loop-n.n + 1) * 2 ^ 61) _ (omega arith)
       (c.convert.ensures.size (2 ^ 59) (c.loop-n.n * 2 ^ 61) (subst (λ cells. RowWithin 16 (2 ^ 60) (row_of cells)) (sym c.new.ensures) c.sample_row-row.ensures) c.loop-n.invariant.size k h);
   count = omega arith;

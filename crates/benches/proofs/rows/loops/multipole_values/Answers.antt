@@ -3,7 +3,7 @@ use Rattle.std.proofs.lemmas.Int.{ints}
 use Rattle.std.specs.Int.{w64}
 use Rattle.exact_math.specs.Within.{GaussianBeyond}
 use Rattle.truncation.specs.Places.{doubled_offset}
-use Rattle.cell_name.specs.Square.{side}
+use Rattle.cell_name.specs.Square.{side, IsInGrid}
 use Rattle.points.specs.Points.{place}
 use Rattle.complex_box.proofs.Sizes.{box_wider}
 use Rattle.row_recursions.specs.Cells.{side_of, offset_from}
@@ -22,7 +22,8 @@ module _ (c : After-struct_told-in-loop-n-1) where
 
 pub at_multipole-requires : goal.at_multipole-requires
 at_multipole-requires c =
-    let grid = c.outside-at.ensures.range.grid in
-    let x : SFits w64 c.outside-at.result.x = omega (arith, ints, grid.across) in
-    let y : SFits w64 c.outside-at.result.y = omega (arith, ints, grid.up) in
+    let place = c.outside-at.ensures.range.place in
+    let x : SFits w64 c.outside-at.result.x = omega (arith, ints, place.west, place.east) in
+    let y : SFits w64 c.outside-at.result.y = omega (arith, ints, place.south, place.north) in
+    let grid : IsInGrid c.cell-cell.result.grid c.outside-at.result.x c.outside-at.result.y = subst (λ s. IsInGrid s.grid c.outside-at.result.x c.outside-at.result.y) (sym c.cell-cell.ensures) place in
     simp to_z-of_z (search rules, (search rules, (grid, (far c, row_size c))))
