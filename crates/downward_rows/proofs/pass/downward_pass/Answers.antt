@@ -6,7 +6,7 @@ use Rattle.cell_lists.specs.ListAt.{list_at}
 use Rattle.letters.specs.declared.Letter.TheVariants.{V}
 use Rattle.places.specs.Place.{place_at}
 use Rattle.quadtree.specs.TreeModel.{size, node_of}
-use Rattle.field_basis.proofs.Trees.{some_tree}
+use Rattle.field_basis.proofs.Trees.{some_tree, tree_of_basis}
 use Rattle.field_basis.specs.Basis.{IsBasis}
 use Rattle.field_basis.specs.Counts.{translations_into}
 use Rattle.field_basis.specs.FieldPlaces.{IsLocalPlace}
@@ -38,7 +38,7 @@ fill_place-requires g c =
             (
               λ k d h. let m = number_in g.row.P b s V n lt (list_at b.lists.v n) refl k d h in (omega (arith, m, c.requires.rows.as_many), c.requires.rows.each _ m),
               (
-                λ lo. let p = parent_before b.tree (some_tree b.points b.tree s.tree_is.tree_is) n lo lt in record { in_range = omega (arith, p.in_range, len); place_is = c.loop-n.invariant.local (node_of b.tree n).parent p.before },
+                λ lo. let p = parent_before b.tree (some_tree b.points b.tree (tree_of_basis g.row.P b s)) n lo lt in record { in_range = omega (arith, p.in_range, len); place_is = c.loop-n.invariant.local (node_of b.tree n).parent p.before },
                 omega (arith, c.new-work.ensures.translations),
               ),
             ),
