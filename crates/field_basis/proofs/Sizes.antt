@@ -47,14 +47,11 @@ module _ (P : ℕ) (b : BasisModel) (is : IsBasis P b) where
 
   -- by the widest grid
   module _ (n : ℕ) (lt : n < size b.tree) where
-    field : TreeLists
-    field = some_lists.0
-
-    widest : AreWithinWidest field.grid
-    widest = within_widest field.grid (known field some_lists.1)
+    widest : AreWithinWidest some_lists.0.grid
+    widest = within_widest some_lists.0.grid (known some_lists.0 some_lists.1)
 
     pub multipole_within : RowWithin P (most_multipole widest_grid) (multipole_row b.points b.cap (square_of b.tree n))
-    multipole_within = wider P (most_multipole field.grid) (most_multipole widest_grid) (multipole_row b.points b.cap (square_of b.tree n)) widest.multipole (within n lt).multipole
+    multipole_within = wider P (most_multipole some_lists.0.grid) (most_multipole widest_grid) (multipole_row b.points b.cap (square_of b.tree n)) widest.multipole (within n lt).multipole
 
-    pub local_within : RowWithin P (most_local widest_grid) (local_row b.points b.cap P field (square_of b.tree n))
-    local_within = wider P (most_local field.grid) (most_local widest_grid) (local_row b.points b.cap P field (square_of b.tree n)) widest.local (within n lt).local
+    pub local_within : RowWithin P (most_local widest_grid) (local_row b.points b.cap P some_lists.0 (square_of b.tree n))
+    local_within = wider P (most_local some_lists.0.grid) (most_local widest_grid) (local_row b.points b.cap P some_lists.0 (square_of b.tree n)) widest.local (within n lt).local
