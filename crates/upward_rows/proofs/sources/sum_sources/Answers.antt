@@ -25,7 +25,7 @@ bounds-points-k g c = (member_at c.args.points.now (square c.args.cell) c.args.m
 pub add_source-requires-clause-range : goal.add_source-requires-clause-range
 add_source-requires-clause-range g c =
     let k = get_or c.args.members.now c.loop-k.k-index 0 in
-    range_in_widest c.args.cell.grid (get_or c.args.points.now k first_point) c.args.cell.known_grid (c.requires.within.range k first_point (bounds-points-k g c))
+    range_in_widest c.args.cell.grid (get_or c.args.points.now k first_point) c.args.cell.known_grid (c.requires.within.range k first_point (member_at c.args.points.now (square c.args.cell) c.args.members.now c.loop-k.k-index c.requires.members c.loop-k-test.true).inside)
 
 pub add_source-requires-clause-inside : goal.add_source-requires-clause-inside
 add_source-requires-clause-inside g c = (member_at c.args.points.now (square c.args.cell) c.args.members.now c.loop-k.k-index c.requires.members c.loop-k-test.true).held
