@@ -18,7 +18,7 @@ use Rattle.quadtree.proofs.Limits.{in_grid}
 use Rattle.quadtree.specs.Members.{holds_position, members_of}
 use Rattle.quadtree.specs.TreeModel.{TreeModel, size, square_of, node_of}
 use Rattle.quadtree.proofs.Distinct.{Contains-filter}
-use Rattle.row_recursions.specs.Sources.{source_at, source_of}
+use Rattle.row_recursions.specs.Sources.{source_of}
 use Rattle.row_recursions.proofs.Points.{weight-le-weight64, source_weight-nothing}
 use Rattle.truncation.specs.Entries.{weight}
 use Rattle.tree_field.specs.Field.{is_source_in, weight_in}
