@@ -41,7 +41,7 @@ add_v_entries-requires g c =
               (
                 wider g.row.P (2 ^ 90 + 0) (2 ^ 90) (row_of c.shift_down.new.into) (omega arith)
                     (c.shift_down.ensures.size (2 ^ 90) 0 c.requires.parent (zero_row_within g.row.P c.clear.new.cells (c.clear.auto.cells ∙ c.requires.len) c.clear.ensures)),
-                omega (arith, c.requires.room, c.shift_down.ensures.translations),
+                omega (arith, c.requires.room, c.shift_down.ensures.work.translations),
               ),
             ),
           ),
