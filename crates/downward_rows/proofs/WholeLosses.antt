@@ -25,11 +25,11 @@ module _ (P : ℕ) (b : BasisModel) (is : IsBasis P b) (n : ℕ) (lt : n < size 
   pub v_losses_light : v_losses_of P b n ≤ 2 ^ 77
   v_losses_light =
       let whole = sum_by-entries entries_share_no_source b.points b.cap some.0 (limited P b is some.0 some.1) V (square_of b.tree n) (tree_cell_of_lists P b is some.0 some.1 n lt) P (2 ^ 41)
-          (pair_radius_in b.points P (side (square_of b.tree n))) few (pair_radius-within b.points P (square_of b.tree n)) in
+      (pair_radius_in b.points P (side (square_of b.tree n))) few (pair_radius-within b.points P (square_of b.tree n)) in
       omega (arith, v_losses_are P b is n lt some.0 some.1, whole, is.within.weight, (within_widest b.tree.grid is.is_tree.known_grid).weight)
 
   pub x_losses_light : x_losses_of P b n ≤ 2 ^ 77
   x_losses_light =
       let whole = sum_by-entries entries_share_no_source b.points b.cap some.0 (limited P b is some.0 some.1) X (square_of b.tree n) (tree_cell_of_lists P b is some.0 some.1 n lt) P (2 ^ 40)
-          (single_radius_in b.points P (side (square_of b.tree n))) few (single_radius-within b.points P (square_of b.tree n)) in
+      (single_radius_in b.points P (side (square_of b.tree n))) few (single_radius-within b.points P (square_of b.tree n)) in
       omega (arith, x_losses_are P b is n lt some.0 some.1, whole, is.within.weight, (within_widest b.tree.grid is.is_tree.known_grid).weight)

@@ -1,5 +1,5 @@
 -- One place more.
-use Rattle.std.proofs.Common.{◌≡◌, ◌<◌, ◌≤◌, length, ap, ◌∙◌, sym, subst, refl, arith, lit<}
+use Rattle.std.proofs.Common.{rules, ◌≡◌, ◌<◌, ◌≤◌, length, ap, ◌∙◌, sym, subst, refl, arith, lit<}
 use Rattle.exact_math.proofs.Orders.{order_bounds}
 use Rattle.cell_lists.proofs.CellNumbers.{parent_before}
 use Rattle.cell_lists.specs.ListAt.{list_at}
@@ -84,3 +84,9 @@ returns-clause-translations g c =
     let s : IsBasis g.row.P b = subst (IsBasis g.row.P) c.basis.view_is c.basis.invariant in
     let last : size b.tree ≤ c.loop-n.n = omega (arith, c.loop-n-test.false, ap (λ l. length l) c.cells-n-end.ensures.all, ap (λ b. length b.tree.cells) c.basis.view_is) in
     translations_all g.row.P b s c.loop-n.places (c.loop-n.auto.places ∙ c.requires.len) (λ n lt. c.loop-n.invariant.translations n (omega (arith, lt, last)))
+
+pub offset_bounds-places-n : goal.offset_bounds-places-n
+offset_bounds-places-n g c =
+    let b = c.args.basis.now in
+    let inside : c.loop-n.n < length c.args.places.now = omega (arith, c.loop-n-test.true, c.requires.len, ap (λ l. length l) c.cells-n-end.ensures.all, ap (λ b. length b.tree.cells) c.basis.view_is) in
+    search rules
