@@ -30,7 +30,7 @@ target_place b k = place (target_of b k)
 abbrev pub target_leaf : BasisModel → ℕ → ℕ
 target_leaf b k = leaf_of b.tree (slice_index_or b.targets k 0)
 
--- the points are within the limits of the grid, the tree is theirs at the capacity, lists and weights are those of its cells, and the positions those of the targets
+-- the points are within the limits of the grid, the tree is theirs at the capacity, lists and weights are those of its cells, positions those of the targets
 pub record IsBasis (P : ℕ) (b : BasisModel) : Type 0 where
   pub order : IsOrder P
   pub within : AreWithin b.tree.grid b.points

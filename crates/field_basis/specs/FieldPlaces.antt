@@ -48,7 +48,8 @@ pub record HasNoRow (P : ℕ) (place : PlaceModel) : Type 0 where
 
 -- those of cell n where it has a target, and zero where it has none
 pub record IsLocalPlace (P : ℕ) (b : BasisModel) (n : ℕ) (place : PlaceModel) : Type 0 where
-  pub with_target : HasTarget b.points (square_of b.tree n) → (lists : TreeLists) → AreTreeLists b.tree.grid b.points b.cap lists → HasLocalRow P b lists n place
+  pub with_target : HasTarget b.points (square_of b.tree n) → (lists : TreeLists)
+      → AreTreeLists b.tree.grid b.points b.cap lists → HasLocalRow P b lists n place
   pub without : (HasTarget b.points (square_of b.tree n) → ⊥) → HasNoRow P place
 
 -- there is a place for each cell, which holds these
@@ -68,7 +69,8 @@ IsTargetBox P b k value = (lists : TreeLists) → AreTreeLists b.tree.grid b.poi
 
 -- the boxes of all targets, in the order of the list
 abbrev pub AreTargetBoxes : ℕ → BasisModel → List CBox → Type 0
-AreTargetBoxes P b values = (lists : TreeLists) → AreTreeLists b.tree.grid b.points b.cap lists → map box_ends values ≡ target_boxes b.points b.cap P lists
+AreTargetBoxes P b values =
+    (lists : TreeLists) → AreTreeLists b.tree.grid b.points b.cap lists → map box_ends values ≡ target_boxes b.points b.cap P lists
 
 -- the box of each target contains the direct sum there
 abbrev pub BoxesContain : List Point → List CBox → Type 0
