@@ -1,5 +1,5 @@
 -- Where the cells of the entries of a cell lie.
-use Rattle.std.proofs.Common.{ℕ, ◌≡◌, ◌<◌, ◌≤◌, ◌^◌, List, [], length, get_or, not, true, refl, ◌∙◌, sym, ap, subst, arith}
+use Rattle.std.proofs.Common.{ℕ, ◌≡◌, ◌<◌, ◌≤◌, List, [], length, get_or, not, true, refl, ◌∙◌, sym, ap, subst, arith}
 use Rattle.std.specs.Prelude.{All, Contains}
 use Rattle.std.specs.List.{range_with_len}
 use Rattle.std.proofs.lemmas.List.Elements.{Contains-get_or}
@@ -17,6 +17,9 @@ use Rattle.cell_lists.specs.ListAt.{list_at}
 use Rattle.letters.specs.declared.Letter.{Letter}
 use Rattle.letters.specs.declared.Letter.TheVariants.{V, X}
 use Rattle.cell_name.proofs.Cells.{Touches-sym}
+use Rattle.limits.proofs.Grids.{within_widest}
+use Rattle.limits.specs.Limits.{most_points, widest_grid}
+use Rattle.points.specs.Limits.{InRange}
 use Rattle.points.specs.declared.Point.{Point}
 use Rattle.quadtree.proofs.Distinct.{Contains-filter}
 use Rattle.quadtree.proofs.Limits.{in_grid}
@@ -25,34 +28,43 @@ use Rattle.quadtree.specs.TreeModel.{TreeModel, size, square_of, node_of}
 use Rattle.row_recursions.proofs.Geometry.{pairs_of_cells, far_places}
 use Rattle.quadtree.proofs.Lists.{range_below}
 use Rattle.downward_rows.specs.Entries.{IsVEntryAt, IsFarPosition, IsFarCell, HasFarEntries}
+use Rattle.field_basis.specs.Basis.{BasisModel, IsBasis}
 use Rattle.field_basis.specs.Targets.{no_point, point_at}
-use Rattle.field_basis.specs.Trees.{IsTreeWithLists}
 
-module _ (tree : TreeModel) (lists : EntryListsModel) (points : List Point) (has : IsTreeWithLists points tree lists) (n : ℕ) (lt : n < size tree) where
-  the_list : (letter : Letter) → IsListOf tree points has.tree_is.cap letter n (list_at (lists_of lists letter) n)
-  the_list letter = has.lists_are.each points has.tree_is.cap (in_grid points has.tree_is.range) has.tree_is.is_tree letter n lt
+module _ (P : ℕ) (b : BasisModel) (is : IsBasis P b) (n : ℕ) (lt : n < size b.tree) where
+  abbrev tree : TreeModel
+  tree = b.tree
 
-  grid_is : (c : ℕ) → c < size tree → (square_of tree c).grid ≡ 16
-  grid_is c h = (tree_cell_at tree points has.tree_is.cap c has.tree_is.is_tree h).of_grid
+  abbrev lists : EntryListsModel
+  lists = b.lists
 
-  level_is : (c : ℕ) → c < size tree → (square_of tree c).level ≤ 16
-  level_is c h = (tree_cell_at tree points has.tree_is.cap c has.tree_is.is_tree h).level_in_grid
+  abbrev points : List Point
+  points = b.points
 
-  pub entry_at : (letter : Letter) (k d : ℕ) → k < length (list_at (lists_of lists letter) n) → IsEntry 16 points has.tree_is.cap letter (square_of tree n) (square_of tree (get_or (list_at (lists_of lists letter) n) k d))
+  the_list : (letter : Letter) → IsListOf tree points b.cap letter n (list_at (lists_of lists letter) n)
+  the_list letter = is.lists_are.each points b.cap (in_grid tree.grid points is.within.range) is.is_tree letter n lt
+
+  grid_is : (c : ℕ) → c < size tree → (square_of tree c).grid ≡ tree.grid
+  grid_is c h = (tree_cell_at tree points b.cap c is.is_tree h).of_grid
+
+  level_is : (c : ℕ) → c < size tree → (square_of tree c).level ≤ tree.grid
+  level_is c h = (tree_cell_at tree points b.cap c is.is_tree h).level_in_grid
+
+  pub entry_at : (letter : Letter) (k d : ℕ) → k < length (list_at (lists_of lists letter) n) → IsEntry tree.grid points b.cap letter (square_of tree n) (square_of tree (get_or (list_at (lists_of lists letter) n) k d))
   entry_at letter k d h =
-      let is = the_list letter in
-      (is.exact (get_or (list_at (lists_of lists letter) n) k d) (is.numbers k d h)).0 (Contains-get_or (list_at (lists_of lists letter) n) k d h)
+      let list = the_list letter in
+      (list.exact (get_or (list_at (lists_of lists letter) n) k d) (list.numbers k d h)).0 (Contains-get_or (list_at (lists_of lists letter) n) k d h)
 
-  v_entry_at : (c : ℕ) → c < size tree → IsVPair 16 points has.tree_is.cap (square_of tree n) (square_of tree c) → IsVEntryAt tree n c
+  v_entry_at : (c : ℕ) → c < size tree → IsVPair tree.grid points b.cap (square_of tree n) (square_of tree c) → IsVEntryAt tree n c
   v_entry_at c h e = record {
     in_range = h;
     distance = (pairs_of_cells (square_of tree n) (square_of tree c) (grid_is n lt ∙ sym (grid_is c h)) e.come_apart.same_level e.come_apart.apart e.come_apart.parents_touch).kernel;
   }
 
-  far_position : (c k : ℕ) → c < size tree → IsWPair 16 points has.tree_is.cap (square_of tree c) (square_of tree n) → Contains (members_of points (square_of tree c)) k → IsFarPosition points (square_of tree n) k
+  far_position : (c k : ℕ) → c < size tree → IsWPair tree.grid points b.cap (square_of tree c) (square_of tree n) → Contains (members_of points (square_of tree c)) k → IsFarPosition points (square_of tree n) k
   far_position c k h e m = record {
     inside = inside;
-    range = has.tree_is.range k no_point inside;
+    range = subst (λ grid. InRange grid (point_at points k)) (sym (grid_is n lt)) (is.within.range k no_point inside);
     far = far_places (square_of tree c) (square_of tree n) (point_at points k).x (point_at points k).y (grid_is c h ∙ sym (grid_is n lt)) (omega (arith, e.comes_apart.deeper)) (omega (arith, grid_is n lt, level_is n lt))
         (λ t. e.comes_apart.apart (Touches-sym (square_of tree c) (square_of tree n) t))
         (Holds-from_test (square_of tree c) (point_at points k).x (point_at points k).y (sym (ap (holds_point (square_of tree c)) (slice_get-get_or points k no_point inside)) ∙ held));
@@ -64,24 +76,24 @@ module _ (tree : TreeModel) (lists : EntryListsModel) (points : List Point) (has
       inside : k < length points
       inside = range_below (length points) k (Contains-filter (λ j. holds_position (square_of tree c) points j) (range_with_len 0 (length points)) k m).0
 
-  few_members : (c : ℕ) → c < size tree → length (node_of tree c).members ≤ 2 ^ 16
+  few_members : (c : ℕ) → c < size tree → length (node_of tree c).members ≤ most_points widest_grid
   few_members c h =
-      let e : length (node_of tree c).members ≡ length (members_of points (square_of tree c)) = ap (λ l. length l) (has.tree_is.is_tree.nodes_are c h).members_are in
+      let e : length (node_of tree c).members ≡ length (members_of points (square_of tree c)) = ap (λ l. length l) (is.is_tree.nodes_are c h).members_are in
       let le = length-filter_both (λ j. holds_position (square_of tree c) points j) (λ j. not (holds_position (square_of tree c) points j)) (λ j. refl) (range_with_len 0 (length points)) in
-      omega (arith, e, le, length-range_with_len 0 (length points), has.tree_is.few)
+      omega (arith, e, le, length-range_with_len 0 (length points), is.within.count, (within_widest tree.grid is.is_tree.known_grid).points)
 
-  far_cell : (c : ℕ) → c < size tree → IsWPair 16 points has.tree_is.cap (square_of tree c) (square_of tree n) → IsFarCell tree points (square_of tree n) c
+  far_cell : (c : ℕ) → c < size tree → IsWPair tree.grid points b.cap (square_of tree c) (square_of tree n) → IsFarCell tree points (square_of tree n) c
   far_cell c h e = record {
     in_range = h;
     few = few_members c h;
     each = let P : List ℕ → Type 0 = λ l. All (IsFarPosition points (square_of tree n)) l in
-        subst P (sym (has.tree_is.is_tree.nodes_are c h).members_are) (λ k d inside. far_position c (get_or (members_of points (square_of tree c)) k d) h e (Contains-get_or (members_of points (square_of tree c)) k d inside));
+        subst P (sym (is.is_tree.nodes_are c h).members_are) (λ k d inside. far_position c (get_or (members_of points (square_of tree c)) k d) h e (Contains-get_or (members_of points (square_of tree c)) k d inside));
   }
 
   pub far_entries : HasFarEntries tree lists points n
   far_entries = record {
     v_entries = λ k d h. v_entry_at (get_or (list_at lists.v n) k d) ((the_list V).numbers k d h) (entry_at V k d h).pair;
-    short = has.short n [] (omega (arith, lt, has.lists_are.as_many V));
+    short = is.short n [] (omega (arith, lt, is.lists_are.as_many V));
     far = λ k d h. far_cell (get_or (list_at lists.x n) k d) ((the_list X).numbers k d h) (entry_at X k d h).pair;
-    few = let le = length-le_from_below (size tree) (list_at lists.x n) (sorted_from_strictly_increasing (list_at lists.x n) (the_list X).ascending) (the_list X).numbers in omega (arith, le, has.tree_is.is_tree.few);
+    few = let le = length-le_from_below (size tree) (list_at lists.x n) (sorted_from_strictly_increasing (list_at lists.x n) (the_list X).ascending) (the_list X).numbers in omega (arith, le, is.is_tree.few, (within_widest tree.grid is.is_tree.known_grid).cells);
   }

@@ -70,9 +70,9 @@ module _ (P : ℕ) (b : BasisModel) (is : IsBasis P b) (n : ℕ) (lt : n < size 
   pub far_cell_is : (c : ℕ) → IsFarCell b.tree b.points (square_of b.tree n) c → (k : ℕ) → total_row (far_row_at b.points (square_of b.tree n)) (node_of b.tree c).members k ≡ x_entry b n c k
   far_cell_is c far k =
       sources_add b.points (square_of b.tree n) (node_of b.tree c).members far.each k
-      ∙ ap (λ l. total_row (far_coefficients_in (square_of b.tree n)) l k) ((nodes_of_tree b.tree b.points b.cap (in_grid b.points is.tree_is.tree_is.range) is.is_tree c far.in_range).members no_point)
+      ∙ ap (λ l. total_row (far_coefficients_in (square_of b.tree n)) l k) ((nodes_of_tree b.tree b.points b.cap (in_grid b.tree.grid b.points is.within.range) is.is_tree c far.in_range).members no_point)
 
-  module _ (lists : TreeLists) (are : AreTreeLists 16 b.points b.cap lists) where
+  module _ (lists : TreeLists) (are : AreTreeLists b.tree.grid b.points b.cap lists) where
     v_rows_are : (k : ℕ) → v_rows_of P b n k ≡ converted_rows b.points b.cap P lists (square_of b.tree n) k
     v_rows_are k =
         sym (total_box-map (λ c. converted P (kernel_entry (sides_between (square_of b.tree n) c)) (multipole_row b.points b.cap c) k) (square_of b.tree) (list_at b.lists.v n))
@@ -88,12 +88,12 @@ module _ (P : ℕ) (b : BasisModel) (is : IsBasis P b) (n : ℕ) (lt : n < size 
         ap₂ add_box (shifted_down_same P m (local_row b.points b.cap P lists (parent (square_of b.tree n))) (quadrant (square_of b.tree n)) same k) (ap₂ add_box (v_rows_are k) (x_rows_are k))
         ∙ sym (local_row-below b.points b.cap P lists (square_of b.tree n) lo k)
 
-    v_losses_are : v_losses_of P b n ≡ sum_by (pair_radius_in b.points P (side (square_of b.tree n))) (lists.entries V (square_of b.tree n))
+    pub v_losses_are : v_losses_of P b n ≡ sum_by (pair_radius_in b.points P (side (square_of b.tree n))) (lists.entries V (square_of b.tree n))
     v_losses_are =
         sym (sum_by-map (pair_radius_in b.points P (side (square_of b.tree n))) (square_of b.tree) (list_at b.lists.v n))
         ∙ ap (λ l. sum_by (pair_radius_in b.points P (side (square_of b.tree n))) l) (sym (entries_by_number P b is V n lt lists are))
 
-    x_losses_are : x_losses_of P b n ≡ sum_by (single_radius_in b.points P (side (square_of b.tree n))) (lists.entries X (square_of b.tree n))
+    pub x_losses_are : x_losses_of P b n ≡ sum_by (single_radius_in b.points P (side (square_of b.tree n))) (lists.entries X (square_of b.tree n))
     x_losses_are =
         sym (sum_by-map (single_radius_in b.points P (side (square_of b.tree n))) (square_of b.tree) (list_at b.lists.x n))
         ∙ ap (λ l. sum_by (single_radius_in b.points P (side (square_of b.tree n))) l) (sym (entries_by_number P b is X n lt lists are))

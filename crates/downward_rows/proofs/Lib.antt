@@ -13,4 +13,5 @@ pub mod Totals
 pub mod Translations
 pub mod Trees
 pub mod VEntries
+pub mod WholeLosses
 pub mod XEntries

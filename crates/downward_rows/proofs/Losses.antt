@@ -1,24 +1,20 @@
--- What entries can lose, one more at a time, and that it stays small.
+-- What entries can lose, one more at a time.
 use Rattle.std.specs.Int.{div_ceil}
 use Rattle.std.proofs.Common.{ℕ, ◌+◌, ◌*◌, ◌^◌, ◌<◌, ◌≤◌, ◌≡◌, List, length, get_or, take, ap, ap₂, ◌∙◌, arith, ℤ, pos, SFits, w64, to_z, of_z}
 use Rattle.std.specs.Prelude.{sum_by, unsigned_abs, ◌≤ℤ◌, slice_index_or}
-use Rattle.std.proofs.Math.Nat.{mul-le-mul_right}
 use Rattle.std.proofs.Math.Seq.{take-length}
 use Rattle.std.proofs.lemmas.Int.{ints, to_z-of_z}
 use Rattle.std.proofs.lemmas.List.{get_or_default}
-use Rattle.std.proofs.lemmas.List.Sums.{sum_by_more}
+use Rattle.std.proofs.lemmas.List.Sums.{sum_by_more, sum_by_more_le}
 use Rattle.cell_name.specs.Cell.{square}
 use Rattle.cell_name.specs.Square.{Square, side}
 use Rattle.cell_name.specs.declared.cell.Cell.{Cell}
+use Rattle.limits.specs.Limits.{most_weight, widest_grid}
 use Rattle.quadtree.specs.TreeModel.{size, square_of}
 use Rattle.tree_field.specs.Field.{weight_in}
-use Rattle.truncation.proofs.Tails.{div_ceil-le}
 use Rattle.field_basis.specs.Basis.{BasisModel, IsBasis}
 use Rattle.field_basis.specs.Weights.{IsWeight}
 use mir.Syntax.{w128}
-
-bound : (x y t : ℕ) → x ≤ y → y ≤ 2 ^ 32 * t → t ≤ 2 ^ 41 → x ≤ 2 ^ 75
-bound x y t a b c = omega arith
 
 -- the weight of a cell c, as it is read, and what an entry of it can lose at a side s with such a tail
 module _ (P : ℕ) (b : BasisModel) (is : IsBasis P b) (c : ℕ) (lt : c < size b.tree) where
@@ -31,7 +27,7 @@ module _ (P : ℕ) (b : BasisModel) (is : IsBasis P b) (c : ℕ) (lt : c < size 
   weight_read : (w : ℤ) → w ≡ get_or b.weights c w → w ≡ pos here
   weight_read w e = e ∙ get_or_default b.weights c w (pos 0) inside ∙ is.weights_are.each c lt
 
-  weight_small : here ≤ 2 ^ 32
+  weight_small : here ≤ most_weight widest_grid
   weight_small =
       let e = is.weights_are.each c lt in
       let h : IsWeight (slice_index_or b.weights c (pos 0)) = is.weights_small c (pos 0) inside in
@@ -46,7 +42,7 @@ module _ (P : ℕ) (b : BasisModel) (is : IsBasis P b) (c : ℕ) (lt : c < size 
       let r = to_z-of_z w128 w f in
       omega (arith, ints, v, r)
 
-  pub loss_read : (tail s : ℕ) (w z : ℤ) → w ≡ get_or b.weights c w → z ≡ pos s → pos 1 ≤ℤ z → z ≤ℤ pos 65536
+  pub loss_read : (tail s : ℕ) (w z : ℤ) → w ≡ get_or b.weights c w → z ≡ pos s → pos 1 ≤ℤ z → z ≤ℤ pos (2 ^ widest_grid)
       → div_ceil (unsigned_abs (to_z w128 (of_z w128 w)) * tail) (unsigned_abs (to_z w64 (of_z w64 z))) ≡ div_ceil (here * tail) s
   loss_read tail s w z e d low high =
       let v = weight_read w e in
@@ -55,19 +51,12 @@ module _ (P : ℕ) (b : BasisModel) (is : IsBasis P b) (c : ℕ) (lt : c < size 
       let g : SFits w64 z = omega (arith, ints) in
       ap₂ (λ x y. div_ceil (unsigned_abs x * tail) (unsigned_abs y)) (to_z-of_z w128 w f ∙ v) (to_z-of_z w64 z g ∙ d)
 
-  pub loss_small : (tail s : ℕ) → tail ≤ 2 ^ 41 → 1 ≤ s → div_ceil (here * tail) s ≤ 2 ^ 75
-  loss_small tail s t least =
-      let m : here * tail ≤ 2 ^ 32 * tail = mul-le-mul_right tail weight_small in
-      bound (div_ceil (here * tail) s) (here * tail) tail (div_ceil-le (here * tail) s least) m t
-
-pub room_for : (r x y : ℕ) → x ≡ y → y ≤ 2 ^ 75 → r ≤ 2 ^ 99 → r + x < 2 ^ 100
-room_for r x y e s h = omega arith
+-- there is room for one entry more, since all entries together lose little
+pub room_for : (f : ℕ → ℕ) (xs ys : List ℕ) (i d old was x : ℕ) → i < length xs → xs ≡ ys → was ≡ old + sum_by f (take i xs) → x ≡ f (get_or xs i d) → sum_by f ys ≤ 2 ^ 77 → old ≤ 2 ^ 92 → was + x < 2 ^ 100
+room_for f xs ys i d old was x lt s a e all room = let m = sum_by_more_le f xs i d lt in omega (arith, m, ap (sum_by f) s)
 
 pub one_loss : (f : ℕ → ℕ) (xs : List ℕ) (i d old was new x : ℕ) → i < length xs → was ≡ old + sum_by f (take i xs) → new ≡ was + x → x ≡ f (get_or xs i d) → new ≡ old + sum_by f (take (i + 1) xs)
 one_loss f xs i d old was new x lt a b e = let m = sum_by_more f xs i d lt in omega (arith, m)
-
-pub one_larger : (old was new x y i : ℕ) → was ≤ old + 2 ^ 75 * i → new ≡ was + x → x ≡ y → y ≤ 2 ^ 75 → new ≤ old + 2 ^ 75 * (i + 1)
-one_larger old was new x y i a b e h = omega arith
 
 pub all_losses : (f : ℕ → ℕ) (xs ys : List ℕ) (n old new : ℕ) → n ≡ length xs → xs ≡ ys → new ≡ old + sum_by f (take n xs) → new ≡ old + sum_by f ys
 all_losses f xs ys n old new e s h = h ∙ ap (λ l. old + sum_by f l) (ap (λ m. take m xs) e ∙ take-length xs ∙ s)

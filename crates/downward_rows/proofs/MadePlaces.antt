@@ -17,7 +17,7 @@ use Rattle.row_recursions.specs.Sizes.{RowWithin}
 use Rattle.tree_field.proofs.LocalRows.{local_row-root, local_radius-root}
 use Rattle.tree_field.specs.Field.{local_row, local_radius}
 use Rattle.tree_field.specs.Lists.{TreeLists, AreTreeLists}
-use Rattle.field_basis.proofs.Trees.{some_tree}
+use Rattle.field_basis.proofs.Trees.{some_tree, tree_of_basis}
 use Rattle.field_basis.specs.Basis.{BasisModel, IsBasis}
 use Rattle.field_basis.specs.Counts.{translated, translations_into}
 use Rattle.field_basis.specs.FieldPlaces.{AreSameRows, HasLocalPlace, HasLocalRow, IsLocalPlace}
@@ -30,7 +30,7 @@ use Rattle.downward_rows.proofs.Trees.{target_of_parent}
 use mir.Syntax.{w128}
 
 -- the sum of two radii, as it comes back from a call
-pub radius_read : (above more : ℕ) (r z : ℤ) → r ≡ pos above → above + more ≤ 2 ^ 80 → z ≡ to_z w128 (of_z w128 r) +ℤ pos more → to_z w128 (of_z w128 z) ≡ pos (above + more)
+pub radius_read : (above more : ℕ) (r z : ℤ) → r ≡ pos above → above + more ≤ 2 ^ 84 → z ≡ to_z w128 (of_z w128 r) +ℤ pos more → to_z w128 (of_z w128 z) ≡ pos (above + more)
 radius_read above more r z e small h =
     let f : SFits w128 r = omega (arith, ints, e, small) in
     let g = to_z-of_z w128 r f in
@@ -51,7 +51,7 @@ same_local P b n old new row radius is = record {
 
 module _ (P : ℕ) (b : BasisModel) (is : IsBasis P b) (n : ℕ) (lt : n < size b.tree) where
   pub tree : IsTree b.tree
-  tree = some_tree b.points b.tree is.tree_is.tree_is
+  tree = some_tree b.points b.tree (tree_of_basis P b is)
 
   -- the place of the parent, as it is read
   module _ (lo : 0 < n) (above : List PlaceModel) (p : ℕ) (p_is : p ≡ (node_of b.tree n).parent) (place : PlaceModel) (read : place ≡ slice_index_or above p place) (here : HasLocalPlace P b above (node_of b.tree n).parent) where
@@ -81,15 +81,15 @@ module _ (P : ℕ) (b : BasisModel) (is : IsBasis P b) (n : ℕ) (lt : n < size 
     level : 0 < (square_of b.tree n).level
     level = level_positive b.tree tree n lo lt
 
-    parent_row : (lists : TreeLists) → AreTreeLists 16 b.points b.cap lists → HasLocalRow P b lists (node_of b.tree n).parent above
+    parent_row : (lists : TreeLists) → AreTreeLists b.tree.grid b.points b.cap lists → HasLocalRow P b lists (node_of b.tree n).parent above
     parent_row lists are = parent_is.with_target (target_of_parent b.tree tree b.points n lo lt target) lists are
 
-    pub radius_made : (lists : TreeLists) → AreTreeLists 16 b.points b.cap lists → above.radius + (v_losses_of P b n + x_losses_of P b n) ≡ local_radius b.points b.cap P lists (square_of b.tree n)
+    pub radius_made : (lists : TreeLists) → AreTreeLists b.tree.grid b.points b.cap lists → above.radius + (v_losses_of P b n + x_losses_of P b n) ≡ local_radius b.points b.cap P lists (square_of b.tree n)
     radius_made lists are =
         ap (λ r. r + (v_losses_of P b n + x_losses_of P b n)) ((parent_row lists are).radius_is ∙ ap (λ c. local_radius b.points b.cap P lists c) (parent_before b.tree tree n lo lt).is_parent)
         ∙ radius_is P b is n lt lists are level
 
-    pub radius_light : above.radius + (v_losses_of P b n + x_losses_of P b n) ≤ 2 ^ 80
+    pub radius_light : above.radius + (v_losses_of P b n + x_losses_of P b n) ≤ 2 ^ 84
     radius_light =
         let some = some_lists P b is in
         omega (arith, radius_made some.0 some.1, radius_small P b is n lt some.0 some.1)

@@ -1,5 +1,6 @@
 -- Places that are written one after another.
-use Rattle.std.proofs.Common.{ℕ, ◌+◌, ◌<◌, inl, inr, List, length, sym, subst, ◌∙◌, arith, get_or-set_same, get_or-set_other}
+use Rattle.std.proofs.Common.{ℕ, ◌+◌, ◌-◌, ◌≡◌, ◌<◌, inl, inr, List, ◌++◌, length, ap, sym, subst, ◌∙◌, arith, get_or-set_same, get_or-set_other}
+use Rattle.std.proofs.lemmas.List.{set-append_right, length-set}
 use Rattle.std.specs.Prelude.{slice_set}
 use Rattle.std.proofs.lemmas.Bool.{cases_lt}
 use Rattle.places.specs.Place.{PlaceModel, OthersStay, no_place, place_at}
@@ -14,3 +15,10 @@ one_place_more Q old moved n x lt stay before here m h = elim (cases_lt m n) [
       let R : ℕ → Type 0 = λ j. Q j (place_at (slice_set moved n x) j) in
       subst R (omega arith) own
 ]
+
+-- the first of the rest is written
+pub rest_written : (places above rest : List PlaceModel) (n : ℕ) (x : PlaceModel) → places ≡ above ++ rest → length above ≡ n → OthersStay n places (above ++ slice_set rest 0 x)
+rest_written places above rest n x whole len =
+    let start : n - n ≡ 0 = omega arith in
+    let moved : slice_set places n x ≡ above ++ slice_set rest 0 x = ap (λ l. slice_set l n x) whole ∙ set-append_right above rest n n x len (omega arith) ∙ ap (λ k. above ++ slice_set rest k x) start in
+    subst (OthersStay n places) moved (record { as_many = length-set places n x; others = λ m other. get_or-set_other places n m x no_place other })

@@ -13,7 +13,7 @@ use Rattle.quadtree.specs.TreeModel.{size, square_of, node_of}
 use Rattle.quadtree.proofs.Lists.{All-from_members, range_below}
 use Rattle.tree_field.proofs.Sums.{sum_by-map, sum_by-same}
 use Rattle.field_basis.proofs.PlaceSums.{sum_by_number}
-use Rattle.field_basis.proofs.Trees.{some_tree}
+use Rattle.field_basis.proofs.Trees.{some_tree, tree_of_basis}
 use Rattle.field_basis.specs.Basis.{BasisModel, IsBasis}
 use Rattle.field_basis.specs.Counts.{translations_into}
 use Rattle.downward_rows.specs.Translations.{all_translations_into}
@@ -33,15 +33,15 @@ module _ (P : ℕ) (b : BasisModel) (is : IsBasis P b) where
   no_entries n lt out = elim (cases_lt 0 (length (list_at b.lists.v n))) [
     | inr le ↦ omega arith
     | inl lo ↦
-        let e = entry_at b.tree b.lists b.points is.tree_is n lt V 0 0 lo in
-        let root : n ≡ 0 → (square_of b.tree n).level ≡ 0 = λ z. ap (λ m. (square_of b.tree m).level) z ∙ first_level b.tree (some_tree b.points b.tree is.tree_is.tree_is) (omega arith) in
+        let e = entry_at P b is n lt V 0 0 lo in
+        let root : n ≡ 0 → (square_of b.tree n).level ≡ 0 = λ z. ap (λ m. (square_of b.tree m).level) z ∙ first_level b.tree (some_tree b.points b.tree (tree_of_basis P b is)) (omega arith) in
         let below : 0 < n = elim (cases_lt 0 n) [ inl l ↦ l | inr le ↦ absurd (omega (arith, root (omega arith), e.pair.come_apart.below_root)) ] in
         absurd (true≢false (sym (and_from (nat_lt 0 n) (node_of b.tree n).has_target (lt-ltb 0 n below) ((is.is_tree.nodes_are n lt).target.1 e.target)) ∙ out))
   ]
 
   sum_by_numbers : sum_by (λ list. length list) b.lists.v ≡ sum_by (λ n. length (list_at b.lists.v n)) (range_with_len 0 (size b.tree))
   sum_by_numbers =
-      ap (sum_by (λ list. length list)) (fill_by_all (list_at b.lists.v) b.lists.v (size b.tree) [] (is.tree_is.lists_are.as_many V) (λ k lt. refl))
+      ap (sum_by (λ list. length list)) (fill_by_all (list_at b.lists.v) b.lists.v (size b.tree) [] (is.lists_are.as_many V) (λ k lt. refl))
       ∙ sum_by-map (λ list. length list) (list_at b.lists.v) (range_with_len 0 (size b.tree))
 
   translations_of_all : sum_by (translations_into b) (range_with_len 0 (size b.tree)) ≡ all_translations_into b

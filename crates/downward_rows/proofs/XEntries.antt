@@ -1,7 +1,8 @@
 -- The points of a far cell, as they are read.
-use Rattle.std.proofs.Common.{ℕ, ◌≡◌, ◌≤◌, ◌^◌, ◌<◌, List, length, ap, ap₂, ◌∙◌, sym, subst, arith}
+use Rattle.std.proofs.Common.{ℕ, ◌≡◌, ◌≤◌, ◌<◌, List, length, ap, ap₂, ◌∙◌, sym, subst, arith}
 use Rattle.std.specs.Prelude.{All}
 use Rattle.cell_name.specs.Square.{Square}
+use Rattle.limits.specs.Limits.{most_points, widest_grid}
 use Rattle.points.specs.declared.Point.{Point}
 use Rattle.quadtree.specs.TreeModel.{size, square_of, node_of}
 use Rattle.soundness.specs.Computed.{total_row}
@@ -17,7 +18,7 @@ module _ (P : ℕ) (b : BasisModel) (is : IsBasis P b) (n : ℕ) (lt : n < size 
       let S : List Point → Type 0 = λ l. All (IsFarPosition l cell) members in
       subst S (sym points_are) (subst R (sym cell_is) (subst Q (sym members_are) far.each))
 
-  pub few_positions : length members ≤ 2 ^ 16
+  pub few_positions : length members ≤ most_points widest_grid
   few_positions = omega (arith, far.few, ap (λ l. length l) members_are)
 
   pub positions_read : (k : ℕ) → total_row (far_row_at points cell) members k ≡ x_entry b n c k

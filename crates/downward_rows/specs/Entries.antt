@@ -1,10 +1,11 @@
 -- What the entries of a cell add to its local row.
-use Rattle.std.specs.Prelude.{ℕ, ◌^◌, ◌<◌, ◌≤◌, List, length, All}
+use Rattle.std.specs.Prelude.{ℕ, ◌<◌, ◌≤◌, List, length, All}
 use Rattle.exact_math.specs.Ends.{BoxEnds, add_box}
 use Rattle.cell_name.specs.Square.{Square}
 use Rattle.cell_lists.specs.ListAt.{list_at}
 use Rattle.cell_lists.specs.EntryLists.{EntryListsModel}
 use Rattle.kernel_table.specs.Kernel.{IsKernelDistance}
+use Rattle.limits.specs.Limits.{most_cells, most_points, widest_grid}
 use Rattle.points.specs.Limits.{InRange}
 use Rattle.points.specs.Points.{place}
 use Rattle.points.specs.declared.Point.{Point}
@@ -21,16 +22,16 @@ pub record IsVEntryAt (tree : TreeModel) (b c : ℕ) : Type 0 where
   pub in_range : c < size tree
   pub distance : IsKernelDistance (sides_between (square_of tree b) (square_of tree c))
 
--- the point at a position is in range and far from the cell b
+-- the point at a position is in range on the grid of the cell b and far from it
 pub record IsFarPosition (points : List Point) (b : Square) (k : ℕ) : Type 0 where
   pub inside : k < length points
-  pub range : InRange (point_at points k)
+  pub range : InRange b.grid (point_at points k)
   pub far : IsFarFrom b (place (point_at points k))
 
 -- the points of cell c are
 pub record IsFarCell (tree : TreeModel) (points : List Point) (b : Square) (c : ℕ) : Type 0 where
   pub in_range : c < size tree
-  pub few : length (node_of tree c).members ≤ 2 ^ 16
+  pub few : length (node_of tree c).members ≤ most_points widest_grid
   pub each : All (IsFarPosition points b) (node_of tree c).members
 
 -- the V and X entries of cell n: short lists, the V cells a distance of the kernel away and the points of the X cells far from it
@@ -38,7 +39,7 @@ pub record HasFarEntries (tree : TreeModel) (lists : EntryListsModel) (points : 
   pub v_entries : All (IsVEntryAt tree n) (list_at lists.v n)
   pub short : length (list_at lists.v n) ≤ 27
   pub far : All (IsFarCell tree points (square_of tree n)) (list_at lists.x n)
-  pub few : length (list_at lists.x n) ≤ 2 ^ 16
+  pub few : length (list_at lists.x n) ≤ most_cells widest_grid
 
 -- ---- what they add
 -- the point at a position, to the row of the cell b

@@ -2,6 +2,7 @@
 ghost use Rattle.std.specs.Prelude.{◌≡◌, ℕ, ◌+◌, ◌^◌, ◌≤◌, ◌<◌, length, All};
 ghost use Rattle.exact_math.specs.Orders.{IsOrder};
 ghost use Rattle.cell_name.specs.Cell.{square};
+ghost use Rattle.limits.specs.Limits.{most_points, widest_grid};
 ghost use Rattle.quadtree.specs.TreeModel.{size};
 ghost use Rattle.row_recursions.specs.Rows.{row_of, RowsAdd};
 ghost use Rattle.row_recursions.specs.Sizes.{RowWithin};
@@ -31,12 +32,12 @@ fn add_position<const P: usize>(cell: Cell, points: &[Point], k: u32, into: &mut
 fn add_positions<const P: usize>(cell: Cell, points: &[Point], list: &[u32], into: &mut [CBox])
     requires order { IsOrder P }
     requires far { All (IsFarPosition points.now (square cell)) list.now }
-    requires few { length list.now ≤ 2 ^ 16 }
+    requires few { length list.now ≤ most_points widest_grid }
     requires len { length into.old ≡ P }
     requires sum { RowWithin P (2 ^ 109) (row_of into.old) }
     ensures len { length into.new ≡ P }
     ensures adds { RowsAdd P (row_of into.old) (total_row (far_row_at points.now (square cell)) list.now) (row_of into.new) }
-    ensures size { (n : ℕ) → RowWithin P n (row_of into.old) → RowWithin P (n + 2 ^ 83) (row_of into.new) }
+    ensures size { (n : ℕ) → RowWithin P n (row_of into.old) → RowWithin P (n + 2 ^ 84) (row_of into.new) }
 {
     for k in list {
         add_position::<P>(cell, points, *k, into);

@@ -1,22 +1,25 @@
 -- What the members of a cell weigh together.
-use Rattle.std.proofs.Common.{ℕ, ◌≡◌, ◌+◌, ◌^◌, ◌≤◌, ◌<◌, ℤ, pos, ◌+ℤ◌, SFits, to_z, of_z, List, [], ◌∷◌, length, get_or, map, take, Bool, true, false, cond, not, filter, refl, sym, ap, ◌∙◌, subst, arith}
+use Rattle.std.proofs.Common.{ℕ, ◌≡◌, ◌+◌, ◌≤◌, ◌<◌, ℤ, pos, ◌+ℤ◌, SFits, to_z, of_z, List, [], ◌∷◌, length, get_or, map, take, Bool, true, false, cond, not, filter, refl, sym, ap, ◌∙◌, subst, arith}
 use Rattle.std.specs.Int.{w128}
 use Rattle.std.specs.Prelude.{Contains, sum_by}
 use Rattle.std.specs.List.{range_with_len}
 use Rattle.std.proofs.lemmas.Int.{ints}
-use Rattle.std.proofs.lemmas.List.Elements.{All-weaker, Contains-get_or}
+use Rattle.std.proofs.lemmas.List.Elements.{Contains-get_or}
 use Rattle.std.proofs.lemmas.List.Filters.{sum_by-filter_both}
 use Rattle.std.proofs.lemmas.List.Sums.{sum_by-cons, sum_by-le-sum_by, sum_by_more_le}
 use Rattle.cell_name.specs.Square.{Square}
 use Rattle.points.proofs.Slices.{first_point}
 use Rattle.points.specs.Points.{is_source}
-use Rattle.points.specs.Limits.{InRange, weight64, total_weight}
+use Rattle.limits.proofs.Grids.{within_widest}
+use Rattle.limits.specs.Limits.{most_weight, widest_grid}
+use Rattle.points.specs.Limits.{weight64, total_weight}
 use Rattle.points.specs.declared.Point.{Point}
+use Rattle.quadtree.proofs.Limits.{in_grid}
 use Rattle.quadtree.specs.Members.{holds_position, members_of}
 use Rattle.quadtree.specs.TreeModel.{TreeModel, size, square_of, node_of}
 use Rattle.quadtree.proofs.Distinct.{Contains-filter}
-use Rattle.row_recursions.specs.Sources.{source_at, source_of}
-use Rattle.row_recursions.proofs.Points.{grid_of, weight-le-weight64, source_weight-nothing}
+use Rattle.row_recursions.specs.Sources.{source_of}
+use Rattle.row_recursions.proofs.Points.{weight-le-weight64, source_weight-nothing}
 use Rattle.truncation.specs.Entries.{weight}
 use Rattle.tree_field.specs.Field.{is_source_in, weight_in}
 use Rattle.quadtree.proofs.Lists.{range_below}
@@ -46,12 +49,12 @@ sum_of_kept {X} f p (x ∷ xs) none = step (p x) refl (sum_of_kept f p xs none)
     step false e rest = omega (arith, sum_by-cons f x xs, none x e, rest)
 
 -- ---- sums of weights, as they are computed
-pub light_fits : (total w : ℤ) (a b : ℕ) → total ≡ pos a → w ≡ pos b → a + b ≤ 2 ^ 32 → SFits w128 (total +ℤ to_z w128 (of_z w128 w))
+pub light_fits : (total w : ℤ) (a b : ℕ) → total ≡ pos a → w ≡ pos b → a + b ≤ most_weight widest_grid → SFits w128 (total +ℤ to_z w128 (of_z w128 w))
 light_fits total w a b t e small =
     let i : to_z w128 (of_z w128 w) ≡ pos b = omega (arith, ints, e, small) in
     omega (arith, ints, i, t, small)
 
-pub light_sum : (total w : ℤ) (a b : ℕ) → total ≡ pos a → w ≡ pos b → a + b ≤ 2 ^ 32 → to_z w128 (of_z w128 (total +ℤ to_z w128 (of_z w128 w))) ≡ pos (a + b)
+pub light_sum : (total w : ℤ) (a b : ℕ) → total ≡ pos a → w ≡ pos b → a + b ≤ most_weight widest_grid → to_z w128 (of_z w128 (total +ℤ to_z w128 (of_z w128 w))) ≡ pos (a + b)
 light_sum total w a b t e small =
     let i : to_z w128 (of_z w128 w) ≡ pos b = omega (arith, ints, e, small) in
     omega (arith, ints, i, t, small)
@@ -68,13 +71,17 @@ module _ (points : List Point) (tree : TreeModel) (h : IsTreeOfPoints points tre
 
   pub members_weigh : (P : ℕ) → sum_by (weighs_at P points) (node_of tree n).members ≡ weight_in points P (square_of tree n)
   members_weigh P =
-      let in_grid = All-weaker InRange _ (λ p r. grid_of p.x p.y r.grid) points h.range in
+      let inside = in_grid tree.grid points h.within.range in
       sym (sum_by-map (weighs P) (λ k. get_or points k first_point) (node_of tree n).members)
       ∙ sym (sum_of_kept (weighs P) (λ p. is_source p.kind) (map (λ k. get_or points k first_point) (node_of tree n).members) (source_weight-nothing P))
-      ∙ ap (sum_by (weighs P)) ((nodes_of_tree tree points h.cap in_grid h.is_tree n lt).members first_point)
+      ∙ ap (sum_by (weighs P)) ((nodes_of_tree tree points h.cap inside h.is_tree n lt).members first_point)
+
+  -- all points weigh no more than a list of the widest grid may
+  pub all_light : total_weight points ≤ most_weight widest_grid
+  all_light = let w = (within_widest tree.grid h.is_tree.known_grid).weight in omega (arith, w, h.within.weight)
 
   -- the members so far and the next one weigh no more than a list may
-  pub members_light : (P i : ℕ) → P ≤ 32 → i < length (node_of tree n).members → sum_by (weighs_at P points) (take i (node_of tree n).members) + weighs_at P points (get_or (node_of tree n).members i 0) ≤ 2 ^ 32
+  pub members_light : (P i : ℕ) → P ≤ 32 → i < length (node_of tree n).members → sum_by (weighs_at P points) (take i (node_of tree n).members) + weighs_at P points (get_or (node_of tree n).members i 0) ≤ most_weight widest_grid
   members_light P i few inside =
       let a = sum_by_more_le (weighs_at P points) (node_of tree n).members i 0 inside in
-      omega (arith, a, members_weigh P, cell_light points P (square_of tree n) few, h.light)
+      omega (arith, a, members_weigh P, cell_light points P (square_of tree n) few, all_light)

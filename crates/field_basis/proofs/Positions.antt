@@ -71,10 +71,10 @@ few_positions points =
     omega (arith, length-filter p (range_with_len 0 (length points)), count_by-le-length p (range_with_len 0 (length points)), length-range_with_len 0 (length points))
 
 -- ---- the leaf of a target
-pub leaf_at_position : (tree : TreeModel) (points : List Point) (cap : ℕ) → IsTreeOf 16 tree points cap → (k : ℕ) (d : Point) → k < length points → IsLeafOf 16 tree points cap (leaf_of tree k) (get_or points k d)
+pub leaf_at_position : (tree : TreeModel) (points : List Point) (cap : ℕ) → IsTreeOf tree points cap → (k : ℕ) (d : Point) → k < length points → IsLeafOf tree points cap (leaf_of tree k) (get_or points k d)
 leaf_at_position tree points cap h k d lt = h.leaves_are k (get_or points k d) (slice_get-get_or points k d lt)
 
-module _ (points : List Point) (cap : ℕ) (tree : TreeModel) (h : IsTreeOf 16 tree points cap) (k : ℕ) (is : IsTargetPosition points k) where
+module _ (points : List Point) (cap : ℕ) (tree : TreeModel) (h : IsTreeOf tree points cap) (k : ℕ) (is : IsTargetPosition points k) where
   pub has_target : HasTarget points (square_of tree (leaf_of tree k))
   has_target = record {
     target = point_at points k;
@@ -82,7 +82,7 @@ module _ (points : List Point) (cap : ℕ) (tree : TreeModel) (h : IsTreeOf 16 t
     is_target = ap not is.is_target;
   }
 
-pub leaf_in_tree : (points : List Point) (cap : ℕ) (tree : TreeModel) → IsTreeOf 16 tree points cap → (positions : List ℕ) → positions ≡ target_positions points → (i : ℕ) → i < length positions → (b : ℕ) → b ≡ leaf_of tree (get_or positions i 0) → b < size tree
+pub leaf_in_tree : (points : List Point) (cap : ℕ) (tree : TreeModel) → IsTreeOf tree points cap → (positions : List ℕ) → positions ≡ target_positions points → (i : ℕ) → i < length positions → (b : ℕ) → b ≡ leaf_of tree (get_or positions i 0) → b < size tree
 leaf_in_tree points cap tree h positions e i lt b is =
     let l = leaf_at_position tree points cap h (get_or positions i 0) no_point (position_at points positions e i lt).inside in
     omega (arith, is, l.in_range)

@@ -1,13 +1,14 @@
 -- What the rows of a field are made from, and how it fits together.
 use Rattle.std.specs.Prelude.{ℕ, ℤ, ◌≡◌, List, length, All, slice_index_or}
 use Rattle.exact_math.specs.Gaussian.{Gaussian}
-use Rattle.exact_math.specs.Orders.{IsOrder}
+use Rattle.exact_math.specs.Orders.{IsCapacity, IsOrder}
 use Rattle.cell_lists.specs.EntryLists.{EntryListsModel}
+use Rattle.cell_lists.specs.Lists.{AreLists, VListsAreShort}
+use Rattle.points.specs.Limits.{AreWithin}
 use Rattle.points.specs.Points.{place}
 use Rattle.points.specs.declared.Point.{Point}
 use Rattle.quadtree.specs.TreeModel.{TreeModel, size, leaf_of, IsTreeOf}
 use Rattle.field_basis.specs.Targets.{point_at, target_positions}
-use Rattle.field_basis.specs.Trees.{IsTreeWithLists}
 use Rattle.field_basis.specs.Weights.{AreWeights, IsWeight}
 
 -- points, a leaf capacity, the tree, its lists, the weights of its cells, and the positions of the targets
@@ -29,11 +30,14 @@ target_place b k = place (target_of b k)
 abbrev pub target_leaf : BasisModel → ℕ → ℕ
 target_leaf b k = leaf_of b.tree (slice_index_or b.targets k 0)
 
--- the points are within their limits, the tree is theirs at the capacity, lists and weights are those of its cells, and the positions those of the targets
+-- the points are within the limits of the grid, the tree is theirs at the capacity, lists and weights are those of its cells, positions those of the targets
 pub record IsBasis (P : ℕ) (b : BasisModel) : Type 0 where
   pub order : IsOrder P
-  pub tree_is : IsTreeWithLists b.points b.tree b.lists
-  pub is_tree : IsTreeOf 16 b.tree b.points b.cap
+  pub within : AreWithin b.tree.grid b.points
+  pub capacity : IsCapacity b.cap
+  pub is_tree : IsTreeOf b.tree b.points b.cap
+  pub lists_are : AreLists b.tree b.lists
+  pub short : VListsAreShort b.lists
   pub weight_each : length b.weights ≡ size b.tree
   pub weights_are : AreWeights b.points P b.tree b.weights
   pub weights_small : All IsWeight b.weights

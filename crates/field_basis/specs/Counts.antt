@@ -1,10 +1,9 @@
 -- How the counts of work are raised, and how many translations and pairs a row or a box takes.
-use Rattle.std.specs.Prelude.{ℕ, ◌+◌, Bool, ◌&&◌, not, nat_lt, cond, List, length, map, filter, sum_by}
+use Rattle.std.specs.Prelude.{ℕ, ◌+◌, ◌&&◌, not, nat_lt, cond, List, length, map, filter, sum_by}
 use Rattle.std.specs.List.{count_by}
 use Rattle.exact_math.specs.Gaussian.{Gaussian}
 use Rattle.cell_lists.specs.ListAt.{list_at}
 use Rattle.cell_name.specs.Quarters.{quarters}
-use Rattle.cell_name.specs.Square.{Square}
 use Rattle.complex_box.specs.Counts.{Counts}
 use Rattle.near_field.specs.Pair.{is_at}
 use Rattle.points.specs.Points.{is_source}

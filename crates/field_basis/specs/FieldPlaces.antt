@@ -24,7 +24,7 @@ AreSameRows P m n = (k : ℕ) → k < P → m k ≡ n k
 -- ---- multipole rows
 -- the row of cell n, with each capacity that gives the tree, and the radius 0
 pub record IsMultipolePlace (P : ℕ) (points : List Point) (tree : TreeModel) (n : ℕ) (place : PlaceModel) : Type 0 where
-  pub row_is : (cap : ℕ) → IsTreeOf 16 tree points cap → AreSameRows P (row_of place.row) (multipole_row points cap (square_of tree n))
+  pub row_is : (cap : ℕ) → IsTreeOf tree points cap → AreSameRows P (row_of place.row) (multipole_row points cap (square_of tree n))
   pub radius_is : place.radius ≡ 0
 
 -- there is a place for each of these cells, which holds its row
@@ -48,7 +48,8 @@ pub record HasNoRow (P : ℕ) (place : PlaceModel) : Type 0 where
 
 -- those of cell n where it has a target, and zero where it has none
 pub record IsLocalPlace (P : ℕ) (b : BasisModel) (n : ℕ) (place : PlaceModel) : Type 0 where
-  pub with_target : HasTarget b.points (square_of b.tree n) → (lists : TreeLists) → AreTreeLists 16 b.points b.cap lists → HasLocalRow P b lists n place
+  pub with_target : HasTarget b.points (square_of b.tree n) → (lists : TreeLists)
+      → AreTreeLists b.tree.grid b.points b.cap lists → HasLocalRow P b lists n place
   pub without : (HasTarget b.points (square_of b.tree n) → ⊥) → HasNoRow P place
 
 -- there is a place for each cell, which holds these
@@ -64,11 +65,12 @@ pub record HasLocalPlace (P : ℕ) (b : BasisModel) (places : List PlaceModel) (
 -- ---- boxes
 -- the box of the k-th target, over the lists of the tree
 abbrev pub IsTargetBox : ℕ → BasisModel → ℕ → CBox → Type 0
-IsTargetBox P b k value = (lists : TreeLists) → AreTreeLists 16 b.points b.cap lists → box_ends value ≡ target_box b.points b.cap P lists 16 (target_place b k)
+IsTargetBox P b k value = (lists : TreeLists) → AreTreeLists b.tree.grid b.points b.cap lists → box_ends value ≡ target_box b.points b.cap P lists (target_place b k)
 
 -- the boxes of all targets, in the order of the list
 abbrev pub AreTargetBoxes : ℕ → BasisModel → List CBox → Type 0
-AreTargetBoxes P b values = (lists : TreeLists) → AreTreeLists 16 b.points b.cap lists → map box_ends values ≡ target_boxes b.points b.cap P lists 16
+AreTargetBoxes P b values =
+    (lists : TreeLists) → AreTreeLists b.tree.grid b.points b.cap lists → map box_ends values ≡ target_boxes b.points b.cap P lists
 
 -- the box of each target contains the direct sum there
 abbrev pub BoxesContain : List Point → List CBox → Type 0
@@ -76,4 +78,4 @@ BoxesContain points values = AllZip (λ t v. BoxContains unit v (direct_sum (pla
 
 -- the pairs of all targets
 abbrev pub AreAllPairs : BasisModel → ℕ → Type 0
-AreAllPairs b count = (lists : TreeLists) → AreTreeLists 16 b.points b.cap lists → count ≡ pairs b.points lists
+AreAllPairs b count = (lists : TreeLists) → AreTreeLists b.tree.grid b.points b.cap lists → count ≡ pairs b.points lists

@@ -1,5 +1,6 @@
 -- The weights of the cells of a tree.
-use Rattle.std.specs.Prelude.{ℕ, ◌^◌, ◌<◌, ◌≡◌, ℤ, pos, ◌≤ℤ◌, List, slice_index_or, unsigned_abs}
+use Rattle.std.specs.Prelude.{ℕ, ◌<◌, ◌≡◌, ℤ, pos, ◌≤ℤ◌, List, slice_index_or, unsigned_abs}
+use Rattle.limits.specs.Limits.{most_weight, widest_grid}
 use Rattle.points.specs.declared.Point.{Point}
 use Rattle.quadtree.specs.TreeModel.{TreeModel, size, square_of}
 use Rattle.tree_field.specs.Field.{weight_in}
@@ -7,7 +8,7 @@ use Rattle.tree_field.specs.Field.{weight_in}
 -- what a weight may be: 0 to the greatest total of a list
 pub record IsWeight (w : ℤ) : Type 0 where
   pub least : pos 0 ≤ℤ w
-  pub most : w ≤ℤ pos (2 ^ 32)
+  pub most : w ≤ℤ pos (most_weight widest_grid)
 
 -- the weights of all cells
 pub record AreWeights (points : List Point) (P : ℕ) (tree : TreeModel) (weights : List ℤ) : Type 0 where

@@ -1,7 +1,7 @@
 //! The basis.
 ghost use Rattle.std.specs.Prelude.{◌≡◌, ◌≤◌, length, All, IfOk};
 ghost use Rattle.exact_math.specs.Orders.{IsCapacity, IsOrder};
-ghost use Rattle.points.specs.Limits.{InRange, most_points, most_weight, total_weight};
+ghost use Rattle.points.specs.Limits.{AreWithin};
 ghost use Rattle.quadtree.specs.TreeModel.{IsTreeOf, size};
 ghost use Rattle.field_basis.specs.Basis.{IsBasis};
 ghost use Rattle.field_basis.specs.Trees.{IsTreeOfPoints};
@@ -16,7 +16,7 @@ use quadtree::Tree;
 use std::alloc::{AllocError, Global};
 use std::marker::Model;
 
-/// What all rows of a field are made from: points within their limits, the leaf capacity, the tree of the points with its lists, the kernel of
+/// What all rows of a field are made from: points within the limits of their grid, the leaf capacity, the tree of the points with its lists, the kernel of
 /// the order `P`, the weight of each cell's sources at this order, and the positions of the targets.
 #[derive(Drop)]
 pub struct Basis<const P: usize> {
@@ -63,7 +63,8 @@ fn cell_weights(
 impl<const P: usize> Basis<P> {
     /// The basis over the tree of the points, which are copied.
     ///
-    /// Conditions: `P` is one of the orders, the points are within their limits, and the tree is theirs at the capacity, which is 8 to 1024.
+    /// Conditions: `P` is one of the orders, the points are within the limits of the tree's grid, and the tree is theirs at the capacity, which
+    /// is 8 to 1024.
     pub fn over(
         alloc: Global,
         points: &[Point],
@@ -71,11 +72,9 @@ impl<const P: usize> Basis<P> {
         tree: Tree,
     ) -> Result<Basis<P>, AllocError>
         requires order { IsOrder P }
-        requires range { All InRange points.now }
-        requires few { length points.now ≤ most_points }
-        requires light { total_weight points.now ≤ most_weight }
+        requires within { AreWithin tree.grid points.now }
         requires capacity { IsCapacity cap }
-        requires tree { IsTreeOf 16 tree points.now cap }
+        requires tree { IsTreeOf tree points.now cap }
         ensures stands { IfOk result (λ basis. IsBasis P basis) }
         ensures points { IfOk result (λ basis. basis.points ≡ points.now) }
         ensures cap { IfOk result (λ basis. basis.cap ≡ cap) }

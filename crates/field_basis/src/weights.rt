@@ -27,7 +27,7 @@ fn cell_weight(tree: &Tree, points: &[Point], n: usize, order: u32) -> i128
 
 /// Writes the weight of each cell, the sum of `abs(a) + 2 order abs(b)` over the sources in it.
 ///
-/// Conditions: the tree is that of the points, which are within the limits; `order` is 1 to 32; there is a weight for each cell.
+/// Conditions: the tree is that of the points, which are within the limits of its grid; `order` is 1 to 32; there is a weight for each cell.
 pub(crate) fn weigh_cells(tree: &Tree, points: &[Point], order: u32, weights: &mut [i128])
     requires tree { IsTreeOfPoints points.now tree.now }
     requires least { 1 ≤ order }

@@ -16,8 +16,8 @@ use Rattle.upward_rows.proofs.FieldRows.{row_small}
 
 -- the first P boxes are the row of the cell, and so no larger than it
 pub record HoldsRow (P : ℕ) (points : List Point) (tree : TreeModel) (m : ℕ) (row : List CBox) : Type 0 where
-  pub row_is : (cap : ℕ) → IsTreeOf 16 tree points cap → AreSameRows P (row_of row) (multipole_row points cap (square_of tree m))
-  pub small : RowWithin P (2 ^ 72) (row_of row)
+  pub row_is : (cap : ℕ) → IsTreeOf tree points cap → AreSameRows P (row_of row) (multipole_row points cap (square_of tree m))
+  pub small : RowWithin P (2 ^ 76) (row_of row)
 
 module _ (P : ℕ) (points : List Point) (tree : TreeModel) (behind : List PlaceModel) (m : ℕ) (inside : m < size tree) where
   -- what is read at the place of a cell
@@ -31,7 +31,7 @@ module _ (P : ℕ) (points : List Point) (tree : TreeModel) (behind : List Place
       record {
         row_is = λ cap is k lt. ap (λ l. row_of l k) whole ∙ h.row.row_is cap is k lt;
         small = λ k lt.
-            subst (BoxEndsWithin (2 ^ 72)) (sym (ap (λ l. row_of l k) whole ∙ h.row.row_is t.cap t.is_tree k lt)) (row_small tree points t t.cap t.is_tree m inside P (omega (arith, order)) k lt);
+            subst (BoxEndsWithin (2 ^ 76)) (sym (ap (λ l. row_of l k) whole ∙ h.row.row_is t.cap t.is_tree k lt)) (row_small tree points t t.cap t.is_tree m inside P (omega (arith, order)) k lt);
       }
 
   -- a cell behind the cell n has its place among those behind it

@@ -29,7 +29,7 @@ module _ (points : List Point) (tree : TreeModel) (h : IsTreeOfPoints points tre
     listed = subst (λ l. Contains l (get_or children k 0)) are (Contains-get_or children k 0 lk)
 
     pub child_at : IsChildOf tree n (get_or children k 0)
-    child_at = child_of tree points h.cap (in_grid points h.range) h.is_tree n (get_or children k 0) lt listed
+    child_at = child_of tree points h.cap (in_grid tree.grid points h.within.range) h.is_tree n (get_or children k 0) lt listed
 
     child_with_source : (node_of tree (get_or children k 0)).has_source ≡ true → Contains (source_children tree n) (get_or children k 0)
     child_with_source source =
@@ -46,14 +46,14 @@ module _ (points : List Point) (tree : TreeModel) (h : IsTreeOfPoints points tre
 
   pub source_child_is : (m : ℕ) → Contains (source_children tree n) m → IsChildOf tree n m
   source_child_is m kept =
-      child_of tree points h.cap (in_grid points h.range) h.is_tree n m lt
+      child_of tree points h.cap (in_grid tree.grid points h.within.range) h.is_tree n m lt
       (subst (λ l. Contains l m) (sym (h.is_tree.nodes_are n lt).children_are) (Contains-filter (λ c. (node_of tree c).has_source) (children_of tree n) m kept).0)
 
   -- ---- how many they are
   pub children_few : (node_of tree n).is_leaf ≡ false → length (node_of tree n).children ≤ 4
   children_few e =
       let inner = inner_is tree points h.cap h.is_tree n lt e in
-      let are = ap length (children_squares tree points h.cap (in_grid points h.range) h.is_tree n lt inner.room ∙ below-split points h.cap (square_of tree n) inner.over) in
+      let are = ap length (children_squares tree points h.cap (in_grid tree.grid points h.within.range) h.is_tree n lt inner.room ∙ below-split points h.cap (square_of tree n) inner.over) in
       let as_many = length-map (node_of tree n).children (square_of tree) in
       let kept = length-filter (λ q. nat_lt 0 (count_in points q)) (quarters (square_of tree n)) in
       let few = count_by-le-length (λ q. nat_lt 0 (count_in points q)) (quarters (square_of tree n)) in
@@ -62,7 +62,7 @@ module _ (points : List Point) (tree : TreeModel) (h : IsTreeOfPoints points tre
   pub shifts_of_cell : (node_of tree n).is_leaf ≡ false → length (source_children tree n) ≡ shifts_into points tree n
   shifts_of_cell e =
       sym (length-map (source_children tree n) (square_of tree))
-      ∙ ap length ((nodes_of_tree tree points h.cap (in_grid points h.range) h.is_tree n lt).children e)
+      ∙ ap length ((nodes_of_tree tree points h.cap (in_grid tree.grid points h.within.range) h.is_tree n lt).children e)
       ∙ length-filter (has_source points) (quarters (square_of tree n))
       ∙ ap (λ b. cond {A = ℕ} b 0 (count_by (has_source points) (quarters (square_of tree n)))) (sym e)
 

@@ -11,6 +11,7 @@ use Rattle.cell_name.specs.Cell.{square}
 use Rattle.cell_name.specs.Square.{Square, parent}
 use Rattle.complex_box.specs.Counts.{Counts}
 use Rattle.field_basis.specs.Counts.{shifts_into, translated}
+use Rattle.limits.proofs.Grids.{grid_positive}
 use Rattle.points.specs.declared.Point.{Point}
 use Rattle.cell_name.specs.Quarters.{quarters}
 use Rattle.quadtree.specs.Tree.{AreInGrid, IsTreeCell, IsSplit, IsLeaf}
@@ -66,7 +67,10 @@ shifted_is points tree n q h = step (node_of tree n).is_leaf refl h
         let kept = Contains-filter (has_source points) (quarters (square_of tree n)) q h in
         record { inner = e; quarter = All-contains (IsQuarter (square_of tree n)) (quarters (square_of tree n)) q (quarters_are (square_of tree n)) kept.0; source = kept.1 }
 
-module _ (tree : TreeModel) (points : List Point) (capacity : ℕ) (is : IsTreeOf 16 tree points capacity) (inside : AreInGrid 16 points) where
+module _ (tree : TreeModel) (points : List Point) (capacity : ℕ) (is : IsTreeOf tree points capacity) (inside : AreInGrid tree.grid points) where
+  some : 0 < tree.grid
+  some = grid_positive tree.grid is.known_grid
+
   in_squares : (n : ℕ) → n < size tree → n < length (squares tree)
   in_squares n lt = omega (arith, length-map tree.cells square)
 
@@ -76,7 +80,7 @@ module _ (tree : TreeModel) (points : List Point) (capacity : ℕ) (is : IsTreeO
   parent_number : (n : ℕ) (q : Square) → Contains (range_with_len 0 (size tree)) n → Contains (shifted_quarters points tree n) q → number (squares tree) (parent q) ≡ n
   parent_number n q listed h =
       ap (number (squares tree)) (shifted_is points tree n q h).quarter.parent_is
-      ∙ number_of_cell 16 points capacity (squares tree) (omega arith) inside is.cells_are n (in_squares n (range_below (size tree) n listed))
+      ∙ number_of_cell tree.grid points capacity (squares tree) some inside is.cells_are n (in_squares n (range_below (size tree) n listed))
 
   shifted_differ : AllPairs (λ a b. a ≢ b) (flat_map (shifted_quarters points tree) (range_with_len 0 (size tree)))
   shifted_differ = different-flat_map (shifted_quarters points tree) (λ q. number (squares tree) (parent q)) (range_with_len 0 (size tree)) range_differs
@@ -96,12 +100,12 @@ module _ (tree : TreeModel) (points : List Point) (capacity : ℕ) (is : IsTreeO
       let kept = Contains-filter (is_shifted points) (squares tree) q h in
       let parts = and_parts (nat_lt 0 q.level) (has_source points q) kept.1 in
       let lo : 0 < q.level = ltb-true 0 q.level parts.0 in
-      let here : IsTreeCell 16 points capacity q = All-contains (IsTreeCell 16 points capacity) (squares tree) q is.cells_are.in_tree kept.0 in
-      let above = IsTreeCell-parent 16 points capacity q (omega arith) inside here lo in
+      let here : IsTreeCell tree.grid points capacity q = All-contains (IsTreeCell tree.grid points capacity) (squares tree) q is.cells_are.in_tree kept.0 in
+      let above = IsTreeCell-parent tree.grid points capacity q some inside here lo in
       let n : ℕ = number (squares tree) (parent q) in
-      let lt : n < size tree = omega (arith, number_below 16 points capacity (squares tree) (omega arith) inside is.cells_are (parent q) above, length-map tree.cells square) in
-      let e : square_of tree n ≡ parent q = cell_of_number 16 points capacity (squares tree) (omega arith) inside is.cells_are (parent q) above in
-      let split = (IsTreeCell-below 16 points capacity q lo here.level_in_grid here).1 in
+      let lt : n < size tree = omega (arith, number_below tree.grid points capacity (squares tree) some inside is.cells_are (parent q) above, length-map tree.cells square) in
+      let e : square_of tree n ≡ parent q = cell_of_number tree.grid points capacity (squares tree) some inside is.cells_are (parent q) above in
+      let split = (IsTreeCell-below tree.grid points capacity q lo here.level_in_grid here).1 in
       let listed : Contains (quarters (square_of tree n)) q = subst (λ c. Contains (quarters c) q) (sym e) (quarters_contain q lo) in
       Contains-flat_map (shifted_quarters points tree) (range_with_len 0 (size tree)) n q (Contains-range (size tree) n lt)
       (kept_in (node_of tree n).is_leaf n q (λ t. leaf_not n q lt e lo here.level_in_grid split t) listed parts.1)
@@ -110,9 +114,9 @@ module _ (tree : TreeModel) (points : List Point) (capacity : ℕ) (is : IsTreeO
       kept_in true n q never h t = absurd (never refl)
       kept_in false n q never h t = Contains-into_filter (has_source points) (quarters (square_of tree n)) q h t
 
-      leaf_not : (n : ℕ) (q : Square) → n < size tree → square_of tree n ≡ parent q → 0 < q.level → q.level ≤ 16 → IsSplit points capacity (parent q) → (node_of tree n).is_leaf ≡ true → ⊥
+      leaf_not : (n : ℕ) (q : Square) → n < size tree → square_of tree n ≡ parent q → 0 < q.level → q.level ≤ tree.grid → IsSplit points capacity (parent q) → (node_of tree n).is_leaf ≡ true → ⊥
       leaf_not n q lt e lo hi split t =
-          let leaf = subst (IsLeaf 16 points capacity) e ((is.nodes_are n lt).leaf.0 t) in
+          let leaf = subst (IsLeaf tree.grid points capacity) e ((is.nodes_are n lt).leaf.0 t) in
           elim leaf.ends [ inl few ↦ omega (arith, few, split.over_cap) | inr last ↦ omega (arith, last) ]
 
   pub shifts_of_all : sum_by (shifts_into points tree) (range_with_len 0 (size tree)) ≡ count_by (is_shifted points) (squares tree)

@@ -1,10 +1,13 @@
 -- The multipole row of a cell from those of its quarters.
-use Rattle.std.proofs.Common.{ℕ, ◌≡◌, ◌^◌, ◌<◌, ◌≤◌, List, filter, false, sym, ap, ◌∙◌, arith}
+use Rattle.std.proofs.Common.{ℕ, ◌≡◌, ◌*◌, ◌^◌, ◌<◌, ◌≤◌, List, filter, false, sym, ap, ◌∙◌, arith}
 use Rattle.exact_math.specs.Ends.{BoxEnds}
 use Rattle.cell_name.specs.Quarters.{quarters}
 use Rattle.cell_name.specs.Square.{Square}
 use Rattle.field_basis.specs.Trees.{IsTreeOfPoints}
-use Rattle.field_sizes.proofs.MultipoleSizes.{multipole_row-light}
+use Rattle.field_sizes.proofs.CellWeights.{weight64_in, weight64_in-light}
+use Rattle.field_sizes.proofs.MultipoleSizes.{multipole_row-within}
+use Rattle.field_sizes.proofs.RowTotals.{wider}
+use Rattle.limits.proofs.Grids.{within_widest}
 use Rattle.points.specs.declared.Point.{Point}
 use Rattle.quadtree.proofs.Limits.{in_grid}
 use Rattle.quadtree.proofs.TreeChildren.{tree_cell_at}
@@ -24,11 +27,11 @@ use Rattle.upward_rows.proofs.Trees.{inner_is}
 abbrev pub shifted_row : List Point → ℕ → TreeModel → ℕ → ℕ → BoxEnds
 shifted_row points cap tree m = shifted_up (multipole_row points cap (square_of tree m)) (quadrant (square_of tree m))
 
-module _ (tree : TreeModel) (points : List Point) (of_points : IsTreeOfPoints points tree) (cap : ℕ) (is : IsTreeOf 16 tree points cap) (n : ℕ) (lt : n < size tree) where
+module _ (tree : TreeModel) (points : List Point) (of_points : IsTreeOfPoints points tree) (cap : ℕ) (is : IsTreeOf tree points cap) (n : ℕ) (lt : n < size tree) where
   -- a sum over the quarters is one over their numbers
   over_numbers : (f : Square → BoxEnds) → (node_of tree n).is_leaf ≡ false → total_box f (filter (has_source points) (quarters (square_of tree n))) ≡ total_box (λ m. f (square_of tree m)) (source_children tree n)
   over_numbers f inner =
-      ap (total_box f) (sym ((nodes_of_tree tree points of_points.cap (in_grid points of_points.range) of_points.is_tree n lt).children inner))
+      ap (total_box f) (sym ((nodes_of_tree tree points of_points.cap (in_grid tree.grid points of_points.within.range) of_points.is_tree n lt).children inner))
       ∙ total_box-map f (square_of tree) (source_children tree n)
 
   pub row_of_inner : (node_of tree n).is_leaf ≡ false → (k : ℕ) → total_row (shifted_row points cap tree) (source_children tree n) k ≡ multipole_row points cap (square_of tree n) k
@@ -37,7 +40,10 @@ module _ (tree : TreeModel) (points : List Point) (of_points : IsTreeOfPoints po
       sym (over_numbers (λ q. shifted_up (multipole_row points cap q) (quadrant q) k) e)
       ∙ sym (multipole_row-split points cap (square_of tree n) (omega (arith, inner.of_grid, inner.room)) inner.over k)
 
-  pub row_small : (P : ℕ) → P ≤ 64 → RowWithin P (2 ^ 72) (multipole_row points cap (square_of tree n))
+  pub row_small : (P : ℕ) → P ≤ 64 → RowWithin P (2 ^ 76) (multipole_row points cap (square_of tree n))
   row_small P few =
       let cell = tree_cell_at tree points cap n is lt in
-      multipole_row-light P points cap (square_of tree n) few (omega (arith, cell.of_grid, cell.level_in_grid)) of_points.light
+      let light = weight64_in-light points (square_of tree n) in
+      let most = (within_widest tree.grid is.known_grid).weight in
+      wider P (2 ^ 40 * weight64_in points (square_of tree n)) (2 ^ 76) (multipole_row points cap (square_of tree n)) (omega (arith, light, of_points.within.weight, most))
+      (multipole_row-within P points cap (square_of tree n) few (omega (arith, cell.of_grid, cell.level_in_grid)))

@@ -21,27 +21,27 @@ use Rattle.tree_field.specs.Field.{has_source, leaf_row, multipole_row}
 use Rattle.tree_field.proofs.Occupants.{occupied_from_source}
 use Rattle.tree_field.proofs.MultipoleRows.{multipole_row-leaf}
 
-module _ (tree : TreeModel) (points : List Point) (capacity : ℕ) (is : IsTreeOf 16 tree points capacity) where
+module _ (tree : TreeModel) (points : List Point) (capacity : ℕ) (is : IsTreeOf tree points capacity) where
   -- ---- leaves
   pub row_of_leaf : (n : ℕ) → n < size tree → (node_of tree n).is_leaf ≡ true → (k : ℕ) → multipole_row points capacity (square_of tree n) k ≡ leaf_row points (square_of tree n) k
   row_of_leaf n lt e k =
       let leaf = (is.nodes_are n lt).leaf.0 e in
       multipole_row-leaf points capacity (square_of tree n) (ends leaf.in_tree.of_grid leaf.ends) k
     where
-      ends : (square_of tree n).grid ≡ 16 → (count_in points (square_of tree n) ≤ capacity) ⊎ ((square_of tree n).level ≡ 16) → (count_in points (square_of tree n) ≤ capacity) ⊎ ((square_of tree n).grid ≤ (square_of tree n).level)
+      ends : (square_of tree n).grid ≡ tree.grid → (count_in points (square_of tree n) ≤ capacity) ⊎ ((square_of tree n).level ≡ tree.grid) → (count_in points (square_of tree n) ≤ capacity) ⊎ ((square_of tree n).grid ≤ (square_of tree n).level)
       ends g (inl few) = inl few
       ends g (inr last) = inr (omega arith)
 
   -- ---- other cells
   pub record IsInner (n : ℕ) : Type 0 where
-    pub of_grid : (square_of tree n).grid ≡ 16
-    pub room : (square_of tree n).level < 16
+    pub of_grid : (square_of tree n).grid ≡ tree.grid
+    pub room : (square_of tree n).level < tree.grid
     pub over : capacity < count_in points (square_of tree n)
 
   pub inner_is : (n : ℕ) → n < size tree → (node_of tree n).is_leaf ≡ false → IsInner n
   inner_is n lt e =
       let here = tree_cell_at tree points capacity n is lt in
-      elim (leaf_or_split 16 points capacity (square_of tree n) here) [
+      elim (leaf_or_split tree.grid points capacity (square_of tree n) here) [
         | inl leaf ↦ absurd (false≢true (sym e ∙ (is.nodes_are n lt).leaf.1 leaf))
         | inr split ↦ record { of_grid = here.of_grid; room = split.1; over = split.0.over_cap }
       ]
@@ -49,7 +49,7 @@ module _ (tree : TreeModel) (points : List Point) (capacity : ℕ) (is : IsTreeO
   -- a quarter with a source is in the tree
   pub quarter_listed : (n : ℕ) (q : Square) → IsInner n → IsQuarter (square_of tree n) q → has_source points q ≡ true → Contains (squares tree) q
   quarter_listed n q inner is_quarter e =
-      is.cells_are.whole q (IsTreeCell-from_below 16 points capacity q (is_quarter.of_grid ∙ inner.of_grid) (omega (arith, is_quarter.level)) (omega (arith, is_quarter.level, inner.room)) (occupied_from_source points q e)
+      is.cells_are.whole q (IsTreeCell-from_below tree.grid points capacity q (is_quarter.of_grid ∙ inner.of_grid) (omega (arith, is_quarter.level)) (omega (arith, is_quarter.level, inner.room)) (occupied_from_source points q e)
       (subst (IsSplit points capacity) (sym is_quarter.parent_is) (record { over_cap = inner.over })))
 
 -- ---- the quadrant of a quarter

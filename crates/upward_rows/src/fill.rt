@@ -33,7 +33,7 @@ fn sum_row<const P: usize>(
     requires behind { AreBehind P points.now tree.now behind.now (source_children tree.now n) }
     requires len { length row.old ≡ P }
     requires room { work.old.translations < 2 ^ 62 }
-    ensures row { (cap : ℕ) → IsTreeOf 16 tree.now points.now cap → AreSameRows P (row_of row.new) (multipole_row points.now cap (square_of tree.now n)) }
+    ensures row { (cap : ℕ) → IsTreeOf tree.now points.now cap → AreSameRows P (row_of row.new) (multipole_row points.now cap (square_of tree.now n)) }
     ensures work { work.new ≡ translated (shifts_into points.now tree.now n) work.old }
 {
     let cells = tree.cells();
@@ -57,7 +57,7 @@ fn sum_row<const P: usize>(
 /// that have a source, shifted up, which raises the translations by one each. A cell without a source gets zeros. The radius of the place
 /// becomes 0, and its translations stay. `behind` are the places of the last cells, and is only read.
 ///
-/// Conditions: `P` is one of the orders, the tree is that of the points, which are within the limits, `n` is a cell's number, those of its
+/// Conditions: `P` is one of the orders, the tree is that of the points, which are within the limits of its grid, `n` is a cell's number, those of its
 /// quarters that have a source have their rows in `behind`, and the count of translations is below 2^62.
 pub fn make_place<const P: usize>(
     tree: &Tree,

@@ -17,7 +17,7 @@ use quadtree::Tree;
 /// Makes the multipole rows of all cells, from the last to the first, whatever stood in their places, with the radius 0, and keeps in each place
 /// how many translations its row took: together one for each cell below the root that has a source.
 ///
-/// Conditions: `P` is one of the orders, the tree is that of the points, which are within the limits, and there is a place for each cell.
+/// Conditions: `P` is one of the orders, the tree is that of the points, which are within the limits of its grid, and there is a place for each cell.
 pub fn upward_pass<const P: usize>(tree: &Tree, points: &[Point], places: &mut [Place<P>])
     requires order { IsOrder P }
     requires tree { IsTreeOfPoints points.now tree.now }

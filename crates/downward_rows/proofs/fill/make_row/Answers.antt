@@ -10,7 +10,7 @@ use Rattle.local_shift.proofs.Sums.{nothing_at}
 use Rattle.row_recursions.specs.Cells.{quadrant_of}
 use Rattle.row_recursions.specs.Rows.{row_of, shifted_down}
 use Rattle.soundness.specs.Squares.{quadrant}
-use Rattle.field_basis.proofs.Trees.{some_tree}
+use Rattle.field_basis.proofs.Trees.{some_tree, tree_of_basis}
 use Rattle.field_basis.specs.Basis.{IsBasis}
 use Rattle.downward_rows.specs.Entries.{v_rows_of, x_rows_of}
 use Rattle.downward_rows.proofs.FilledRows.{zero_row_within, three_added, quadrant_read}
@@ -20,7 +20,7 @@ pub quadrant-requires : goal.quadrant-requires
 quadrant-requires g c =
     let b = c.args.basis.now in
     let s : IsBasis g.row.P b = subst (IsBasis g.row.P) c.basis.view_is c.basis.invariant in
-    let level = level_positive b.tree (some_tree b.points b.tree s.tree_is.tree_is) c.args.n c.requires.below c.requires.cell in
+    let level = level_positive b.tree (some_tree b.points b.tree (tree_of_basis g.row.P b s)) c.args.n c.requires.below c.requires.cell in
     let e = read_at b.tree c.cells.result.now c.args.n c.index-cells-n.result (c.cells.ensures.all ∙ ap (λ b. b.tree.cells) c.basis.view_is) c.requires.cell c.index-cells-n.is in
     omega (arith, level, ap (λ q. q.level) e)
 
@@ -41,7 +41,7 @@ add_v_entries-requires g c =
               (
                 wider g.row.P (2 ^ 90 + 0) (2 ^ 90) (row_of c.shift_down.new.into) (omega arith)
                     (c.shift_down.ensures.size (2 ^ 90) 0 c.requires.parent (zero_row_within g.row.P c.clear.new.cells (c.clear.auto.cells ∙ c.requires.len) c.clear.ensures)),
-                omega (arith, c.requires.room, c.shift_down.ensures.translations),
+                omega (arith, c.requires.room, c.shift_down.ensures.work.translations),
               ),
             ),
           ),

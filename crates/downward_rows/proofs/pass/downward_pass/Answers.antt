@@ -1,12 +1,12 @@
 -- One place more.
-use Rattle.std.proofs.Common.{◌≡◌, ◌<◌, ◌≤◌, length, ap, ◌∙◌, sym, subst, refl, arith, lit<}
+use Rattle.std.proofs.Common.{rules, ◌≡◌, ◌<◌, ◌≤◌, length, ap, ◌∙◌, sym, subst, refl, arith, lit<}
 use Rattle.exact_math.proofs.Orders.{order_bounds}
 use Rattle.cell_lists.proofs.CellNumbers.{parent_before}
 use Rattle.cell_lists.specs.ListAt.{list_at}
 use Rattle.letters.specs.declared.Letter.TheVariants.{V}
 use Rattle.places.specs.Place.{place_at}
 use Rattle.quadtree.specs.TreeModel.{size, node_of}
-use Rattle.field_basis.proofs.Trees.{some_tree}
+use Rattle.field_basis.proofs.Trees.{some_tree, tree_of_basis}
 use Rattle.field_basis.specs.Basis.{IsBasis}
 use Rattle.field_basis.specs.Counts.{translations_into}
 use Rattle.field_basis.specs.FieldPlaces.{IsLocalPlace}
@@ -38,7 +38,7 @@ fill_place-requires g c =
             (
               λ k d h. let m = number_in g.row.P b s V n lt (list_at b.lists.v n) refl k d h in (omega (arith, m, c.requires.rows.as_many), c.requires.rows.each _ m),
               (
-                λ lo. let p = parent_before b.tree (some_tree b.points b.tree s.tree_is.tree_is) n lo lt in record { in_range = omega (arith, p.in_range, len); place_is = c.loop-n.invariant.local (node_of b.tree n).parent p.before },
+                λ lo. let p = parent_before b.tree (some_tree b.points b.tree (tree_of_basis g.row.P b s)) n lo lt in record { in_range = omega (arith, p.in_range, len); place_is = c.loop-n.invariant.local (node_of b.tree n).parent p.before },
                 omega (arith, c.new-work.ensures.translations),
               ),
             ),
@@ -84,3 +84,9 @@ returns-clause-translations g c =
     let s : IsBasis g.row.P b = subst (IsBasis g.row.P) c.basis.view_is c.basis.invariant in
     let last : size b.tree ≤ c.loop-n.n = omega (arith, c.loop-n-test.false, ap (λ l. length l) c.cells-n-end.ensures.all, ap (λ b. length b.tree.cells) c.basis.view_is) in
     translations_all g.row.P b s c.loop-n.places (c.loop-n.auto.places ∙ c.requires.len) (λ n lt. c.loop-n.invariant.translations n (omega (arith, lt, last)))
+
+pub offset_bounds-places-n : goal.offset_bounds-places-n
+offset_bounds-places-n g c =
+    let b = c.args.basis.now in
+    let inside : c.loop-n.n < length c.args.places.now = omega (arith, c.loop-n-test.true, c.requires.len, ap (λ l. length l) c.cells-n-end.ensures.all, ap (λ b. length b.tree.cells) c.basis.view_is) in
+    search rules

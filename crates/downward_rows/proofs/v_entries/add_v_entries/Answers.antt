@@ -37,7 +37,7 @@ add_v_entry-requires g c =
     let b = c.args.basis.now in
     let s : IsBasis g.row.P b = subst (IsBasis g.row.P) c.basis.view_is c.basis.invariant in
     let same = c.v_list-c-items.ensures ∙ ap (λ b. list_at b.lists.v c.args.n) c.basis.view_is in
-    let entries = far_entries b.tree b.lists b.points s.tree_is c.args.n c.requires.cell in
+    let entries = far_entries g.row.P b s c.args.n c.requires.cell in
     let Q : List ℕ → Type 0 = λ l. All (IsVEntryAt b.tree c.args.n) l in
     let R : List ℕ → Type 0 = λ l. AreMultipolePlaces g.row.P b.points b.tree c.args.up.now l in
     let small : c.loop-c.c-index < 27 = omega (arith, entries.short, ap (λ l. length l) same, c.loop-c-test.true) in
@@ -88,7 +88,7 @@ returns-clause-size g c =
     let b = c.args.basis.now in
     let s : IsBasis g.row.P b = subst (IsBasis g.row.P) c.basis.view_is c.basis.invariant in
     let same = c.v_list-c-items.ensures ∙ ap (λ b. list_at b.lists.v c.args.n) c.basis.view_is in
-    let short = (far_entries b.tree b.lists b.points s.tree_is c.args.n c.requires.cell).short in
+    let short = (far_entries g.row.P b s c.args.n c.requires.cell).short in
     wider g.row.P (2 ^ 90 + 3 * 2 ^ 79 * c.loop-c.c-index) (2 ^ 91) (row_of c.loop-c.into) (omega (arith, short, ap (λ l. length l) same)) c.loop-c.invariant.size
 
 pub returns-clause-work : goal.returns-clause-work

@@ -25,4 +25,4 @@ loop-k-preserved g c = record {
 }
 
 pub returns-clause-size : goal.returns-clause-size
-returns-clause-size g c = λ n h. wider g.row.P (n + 2 ^ 67 * c.loop-k.k-index) (n + 2 ^ 83) (row_of c.loop-k.into) (omega (arith, c.requires.few, c.loop-k.auto.k-index-end)) (c.loop-k.invariant.size n h)
+returns-clause-size g c = λ n h. wider g.row.P (n + 2 ^ 67 * c.loop-k.k-index) (n + 2 ^ 84) (row_of c.loop-k.into) (omega (arith, c.requires.few, c.loop-k.auto.k-index-end)) (c.loop-k.invariant.size n h)

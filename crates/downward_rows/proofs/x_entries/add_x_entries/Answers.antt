@@ -29,7 +29,7 @@ pub loop-c-init : goal.loop-c-init
 loop-c-init g c = record {
   len = c.requires.len;
   adds = none_added g.row.P (x_entry c.args.basis.now c.args.n) c.x_list-c-items.result.now (row_of c.args.into.now);
-  size = wider g.row.P (2 ^ 91) (2 ^ 91 + 2 ^ 83 * 0) (row_of c.args.into.now) (omega arith) c.requires.sum;
+  size = wider g.row.P (2 ^ 91) (2 ^ 91 + 2 ^ 84 * 0) (row_of c.args.into.now) (omega arith) c.requires.sum;
 }
 
 pub members-requires : goal.members-requires
@@ -45,7 +45,7 @@ add_positions-requires-clause-far g c =
     let b = c.args.basis.now in
     let s : IsBasis g.row.P b = subst (IsBasis g.row.P) c.basis.view_is c.basis.invariant in
     let same = c.x_list-c-items.ensures ∙ ap (λ b. list_at b.lists.x c.args.n) c.basis.view_is in
-    let entries = far_entries b.tree b.lists b.points s.tree_is c.args.n c.requires.cell in
+    let entries = far_entries g.row.P b s c.args.n c.requires.cell in
     let k = get_or c.x_list-c-items.result.now c.loop-c.c-index 0 in
     let Q : List ℕ → Type 0 = λ l. All (IsFarCell b.tree b.points (square_of b.tree c.args.n)) l in
     let far : IsFarCell b.tree b.points (square_of b.tree c.args.n) k = subst Q (sym same) entries.far c.loop-c.c-index 0 c.loop-c-test.true in
@@ -59,7 +59,7 @@ add_positions-requires-clause-few g c =
     let b = c.args.basis.now in
     let s : IsBasis g.row.P b = subst (IsBasis g.row.P) c.basis.view_is c.basis.invariant in
     let same = c.x_list-c-items.ensures ∙ ap (λ b. list_at b.lists.x c.args.n) c.basis.view_is in
-    let entries = far_entries b.tree b.lists b.points s.tree_is c.args.n c.requires.cell in
+    let entries = far_entries g.row.P b s c.args.n c.requires.cell in
     let k = get_or c.x_list-c-items.result.now c.loop-c.c-index 0 in
     let Q : List ℕ → Type 0 = λ l. All (IsFarCell b.tree b.points (square_of b.tree c.args.n)) l in
     let far : IsFarCell b.tree b.points (square_of b.tree c.args.n) k = subst Q (sym same) entries.far c.loop-c.c-index 0 c.loop-c-test.true in
@@ -73,15 +73,15 @@ add_positions-requires-clause-sum g c =
     let b = c.args.basis.now in
     let s : IsBasis g.row.P b = subst (IsBasis g.row.P) c.basis.view_is c.basis.invariant in
     let same = c.x_list-c-items.ensures ∙ ap (λ b. list_at b.lists.x c.args.n) c.basis.view_is in
-    let entries = far_entries b.tree b.lists b.points s.tree_is c.args.n c.requires.cell in
-    wider g.row.P (2 ^ 91 + 2 ^ 83 * c.loop-c.c-index) (2 ^ 109) (row_of c.loop-c.into) (omega (arith, entries.few, ap (λ l. length l) same, c.loop-c-test.true)) c.loop-c.invariant.size
+    let entries = far_entries g.row.P b s c.args.n c.requires.cell in
+    wider g.row.P (2 ^ 91 + 2 ^ 84 * c.loop-c.c-index) (2 ^ 109) (row_of c.loop-c.into) (omega (arith, entries.few, ap (λ l. length l) same, c.loop-c-test.true)) c.loop-c.invariant.size
 
 pub loop-c-preserved : goal.loop-c-preserved
 loop-c-preserved g c =
     let b = c.args.basis.now in
     let s : IsBasis g.row.P b = subst (IsBasis g.row.P) c.basis.view_is c.basis.invariant in
     let same = c.x_list-c-items.ensures ∙ ap (λ b. list_at b.lists.x c.args.n) c.basis.view_is in
-    let entries = far_entries b.tree b.lists b.points s.tree_is c.args.n c.requires.cell in
+    let entries = far_entries g.row.P b s c.args.n c.requires.cell in
     let k = get_or c.x_list-c-items.result.now c.loop-c.c-index 0 in
     let Q : List ℕ → Type 0 = λ l. All (IsFarCell b.tree b.points (square_of b.tree c.args.n)) l in
     let far : IsFarCell b.tree b.points (square_of b.tree c.args.n) k = subst Q (sym same) entries.far c.loop-c.c-index 0 c.loop-c-test.true in
@@ -92,8 +92,8 @@ loop-c-preserved g c =
       len = c.add_positions.ensures.len;
       adds = one_added g.row.P (x_entry b c.args.n) c.x_list-c-items.result.now c.loop-c.c-index 0 (row_of c.args.into.now) (row_of c.loop-c.into) (row_of c.add_positions.new.into) c.loop-c-test.true c.loop-c.invariant.adds
           (λ j h. c.add_positions.ensures.adds j h ∙ ap (add_box (row_of c.loop-c.into j)) (positions_read g.row.P b s c.args.n c.requires.cell k far c.deref.result.now points (square c.index-cells-n.result) cell c.members.result.now members j));
-      size = wider g.row.P (2 ^ 91 + 2 ^ 83 * c.loop-c.c-index + 2 ^ 83) (2 ^ 91 + 2 ^ 83 * (c.loop-c.c-index + 1)) (row_of c.add_positions.new.into) (omega arith)
-          (c.add_positions.ensures.size (2 ^ 91 + 2 ^ 83 * c.loop-c.c-index) c.loop-c.invariant.size);
+      size = wider g.row.P (2 ^ 91 + 2 ^ 84 * c.loop-c.c-index + 2 ^ 84) (2 ^ 91 + 2 ^ 84 * (c.loop-c.c-index + 1)) (row_of c.add_positions.new.into) (omega arith)
+          (c.add_positions.ensures.size (2 ^ 91 + 2 ^ 84 * c.loop-c.c-index) c.loop-c.invariant.size);
     }
 
 pub returns-clause-adds : goal.returns-clause-adds

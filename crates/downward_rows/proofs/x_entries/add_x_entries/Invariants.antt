@@ -10,5 +10,5 @@ abbrev pub invariant-loop-c : goal.invariant-loop-c
 invariant-loop-c g l = record {
   len : length l.into ≡ g.row.P;
   adds : RowsAdd g.row.P (row_of l.fn.into) (total_row (x_entry l.basis l.n) (take l.c-index l.c-items)) (row_of l.into);
-  size : RowWithin g.row.P (2 ^ 91 + 2 ^ 83 * l.c-index) (row_of l.into);
+  size : RowWithin g.row.P (2 ^ 91 + 2 ^ 84 * l.c-index) (row_of l.into);
 }

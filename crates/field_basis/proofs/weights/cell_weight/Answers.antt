@@ -4,10 +4,11 @@ use Rattle.std.proofs.lemmas.Int.{ints}
 use Rattle.std.proofs.lemmas.List.{take_all}
 use Rattle.std.proofs.lemmas.List.Sums.{sum_by_more}
 use Rattle.std.specs.Prelude.{sum_by}
+use Rattle.points.proofs.Ranges.{range_in_widest}
 use Rattle.points.proofs.Slices.{first_point}
 use Rattle.quadtree.specs.TreeModel.{square_of, node_of}
 use Rattle.row_recursions.proofs.Points.{weight-source_of}
-use Rattle.field_basis.proofs.CellWeights.{weighs_at, position_inside, members_weigh, members_light, cell_light, light_fits, light_sum}
+use Rattle.field_basis.proofs.CellWeights.{weighs_at, position_inside, members_weigh, members_light, cell_light, all_light, light_fits, light_sum}
 use Rattle.field_basis.proofs.weights.cell_weight.Goals as goal
 
 inside : (c : goal.After-weight-total) → c.loop-k.k-index < length (node_of c.args.tree.now c.args.n).members
@@ -22,7 +23,9 @@ bounds-points-k c =
     omega (arith, ap (λ (l : List ℕ). get_or l i 0) e, h)
 
 pub weight-total-requires-clause-range : goal.weight-total-requires-clause-range
-weight-total-requires-clause-range c = c.requires.tree.range _ first_point (bounds-points-k c)
+weight-total-requires-clause-range c =
+    let p = get_or c.args.points.now (get_or c.members-k-items.result.now c.loop-k.k-index 0) first_point in
+    range_in_widest c.args.tree.now.grid p c.requires.tree.is_tree.known_grid (c.requires.tree.within.range _ first_point (bounds-points-k c))
 
 -- the next member's weight
 next : (c : goal.After-weight-total) → c.weight-total.result ≡ pos (weighs_at c.args.order c.args.points.now (get_or (node_of c.args.tree.now c.args.n).members c.loop-k.k-index 0))
@@ -50,5 +53,5 @@ pub returns-clause-size : goal.returns-clause-size
 returns-clause-size c =
     let e = returns-clause-weight c in
     let light = cell_light c.args.points.now c.args.order (square_of c.args.tree.now c.args.n) c.requires.most in
-    let limit = c.requires.tree.light in
+    let limit = all_light c.args.points.now c.args.tree.now c.requires.tree c.args.n c.requires.cell in
     record { least = omega (arith, ints, e); most = omega (arith, ints, e, light, limit) }

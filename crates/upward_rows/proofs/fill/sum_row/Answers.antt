@@ -8,6 +8,8 @@ use Rattle.cell_lists.proofs.TreeNumbers.{read_at}
 use Rattle.cell_name.specs.Cell.{square}
 use Rattle.cell_name.specs.Square.{Square}
 use Rattle.field_basis.specs.Counts.{translated}
+use Rattle.points.specs.Limits.{AreWithin}
+use Rattle.quadtree.proofs.TreeChildren.{tree_cell_at}
 use Rattle.quadtree.specs.TreeModel.{square_of, node_of}
 use Rattle.row_recursions.specs.Cells.{quadrant_of}
 use Rattle.row_recursions.specs.Rows.{row_of, shifted_up}
@@ -65,8 +67,8 @@ shift_up-requires g c =
         (
           omega (arith, c.loop-child.auto.row, c.clear.auto.cells, as_long),
           (
-            λ k h. box_wider (2 ^ 72) (2 ^ 80) _ (omega arith) (read.small k h),
-            (λ k h. box_wider (2 ^ 72 * c.loop-child.child-index) (2 ^ 80) _ (omega (arith, before)) (c.loop-child.invariant.size k h), omega (arith, raised, kept, room, before)),
+            λ k h. box_wider (2 ^ 76) (2 ^ 80) _ (omega arith) (read.small k h),
+            (λ k h. box_wider (2 ^ 76 * c.loop-child.child-index) (2 ^ 80) _ (omega (arith, before)) (c.loop-child.invariant.size k h), omega (arith, raised, kept, room, before)),
           ),
         ),
       ),
@@ -103,23 +105,31 @@ loop-child-preserved g c =
                 ∙ sym (total_row-more (shifted_row points cap tree) kept m j)
                 ∙ ap (λ l. total_row (shifted_row points cap tree) l j) (sym more);
             size = λ j h.
-                subst (λ l. BoxEndsWithin (2 ^ 72 * (k + 1)) (row_of l j)) (sym w.row-is)
-                (box_wider (2 ^ 72 * k + 2 ^ 72) (2 ^ 72 * (k + 1)) _ (omega arith)
-                (w.shift_up.ensures.size (2 ^ 72 * k) (2 ^ 72) c.loop-child.invariant.size read.small j h));
+                subst (λ l. BoxEndsWithin (2 ^ 76 * (k + 1)) (row_of l j)) (sym w.row-is)
+                (box_wider (2 ^ 76 * k + 2 ^ 76) (2 ^ 76 * (k + 1)) _ (omega arith)
+                (w.shift_up.ensures.size (2 ^ 76 * k) (2 ^ 76) c.loop-child.invariant.size read.small j h));
             work = w.work-is ∙ raised_by (length (with_source tree (take (k + 1) xs))) w.shift_up.new.work c.args.work.now
-                (omega (arith, w.shift_up.ensures.translations, ap (λ (v : Counts). v.translations) before, longer))
-                (w.shift_up.ensures.pairs ∙ ap (λ (v : Counts). v.pairs) before);
+                (omega (arith, w.shift_up.ensures.work.translations, ap (λ (v : Counts). v.translations) before, longer))
+                (w.shift_up.ensures.work.pairs ∙ ap (λ (v : Counts). v.pairs) before);
           }
       | else-has_source w ↦
           let same = kept_same (λ j. (node_of tree j).has_source) xs k lt (sym c.has_source.ensures ∙ w.if-has_source.false) in
           record {
             row = λ cap is j h. ap (λ l. row_of l j) w.row-is ∙ c.loop-child.invariant.row cap is j h ∙ ap (λ l. total_row (shifted_row points cap tree) l j) (sym same);
-            size = λ j h. subst (λ l. BoxEndsWithin (2 ^ 72 * (k + 1)) (row_of l j)) (sym w.row-is) (box_wider (2 ^ 72 * k) (2 ^ 72 * (k + 1)) _ (omega arith) (c.loop-child.invariant.size j h));
+            size = λ j h. subst (λ l. BoxEndsWithin (2 ^ 76 * (k + 1)) (row_of l j)) (sym w.row-is) (box_wider (2 ^ 76 * k) (2 ^ 76 * (k + 1)) _ (omega arith) (c.loop-child.invariant.size j h));
             work = w.work-is ∙ c.loop-child.invariant.work ∙ ap (λ (l : List ℕ). translated (length l) c.args.work.now) (sym same);
           }
     ]
 
 -- ---- a leaf
+pub sum_sources-requires-clause-within : goal.sum_sources-requires-clause-within
+sum_sources-requires-clause-within g c =
+    let tree = c.args.tree.now in
+    let points = c.args.points.now in
+    let here = read_at tree c.cells-cells.result.now c.args.n c.index-cells-n.result c.cells-cells.ensures.all c.requires.cell c.index-cells-n.is in
+    let same = ap (λ (s : Square). s.grid) here ∙ (tree_cell_at tree points c.requires.tree.cap c.args.n c.requires.tree.is_tree c.requires.cell).of_grid in
+    subst (λ grid. AreWithin grid points) (sym same) c.requires.tree.within
+
 pub returns-then-is_leaf-clause-row : goal.returns-then-is_leaf-clause-row
 returns-then-is_leaf-clause-row g c = λ cap is k h.
     let tree = c.args.tree.now in

@@ -13,7 +13,7 @@ use Rattle.upward_rows.proofs.fill.sum_row.Given as goal
 abbrev pub invariant-loop-child : goal.invariant-loop-child
 invariant-loop-child g l =
     record {
-      row : (cap : ℕ) → IsTreeOf 16 l.tree l.points cap → AreSameRows g.row.P (row_of l.row) (total_row (shifted_row l.points cap l.tree) (with_source l.tree (take l.child-index l.children)));
-      size : RowWithin g.row.P (2 ^ 72 * l.child-index) (row_of l.row);
+      row : (cap : ℕ) → IsTreeOf l.tree l.points cap → AreSameRows g.row.P (row_of l.row) (total_row (shifted_row l.points cap l.tree) (with_source l.tree (take l.child-index l.children)));
+      size : RowWithin g.row.P (2 ^ 76 * l.child-index) (row_of l.row);
       work : l.work ≡ translated (length (with_source l.tree (take l.child-index l.children))) l.initial.work;
     }

@@ -83,4 +83,4 @@ returns-clause-translations g c =
     let as_many : length places ≡ size tree = omega (arith, c.loop-n.auto.places, c.requires.len) in
     sum_by_number (λ (p : PlaceModel). p.translations) (shifts_into points tree) places no_place (λ m lt. c.loop-n.invariant.translations m (omega (arith, c.loop-n-test.false)) (omega (arith, lt, as_many)))
     ∙ ap (λ k. sum_by (shifts_into points tree) (range_with_len 0 k)) as_many
-    ∙ shifts_of_all tree points c.requires.tree.cap c.requires.tree.is_tree (in_grid points c.requires.tree.range)
+    ∙ shifts_of_all tree points c.requires.tree.cap c.requires.tree.is_tree (in_grid tree.grid points c.requires.tree.within.range)

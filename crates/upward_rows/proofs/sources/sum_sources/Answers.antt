@@ -6,6 +6,8 @@ use Rattle.exact_math.specs.Ends.{BoxEndsWithin, add_box}
 use Rattle.exact_math.proofs.Orders.{order_bounds}
 use Rattle.complex_box.proofs.Sizes.{box_wider}
 use Rattle.cell_name.specs.Cell.{square}
+use Rattle.limits.proofs.Grids.{within_widest}
+use Rattle.points.proofs.Ranges.{range_in_widest}
 use Rattle.points.proofs.Slices.{first_point}
 use Rattle.points.specs.declared.Point.{Point}
 use Rattle.points.specs.Limits.{weight64}
@@ -20,6 +22,11 @@ use Rattle.upward_rows.proofs.sources.sum_sources.Goals.{then-is_source, else-is
 pub bounds-points-k : goal.bounds-points-k
 bounds-points-k g c = (member_at c.args.points.now (square c.args.cell) c.args.members.now c.loop-k.k-index c.requires.members c.loop-k-test.true).inside
 
+pub add_source-requires-clause-range : goal.add_source-requires-clause-range
+add_source-requires-clause-range g c =
+    let k = get_or c.args.members.now c.loop-k.k-index 0 in
+    range_in_widest c.args.cell.grid (get_or c.args.points.now k first_point) c.args.cell.known_grid (c.requires.within.range k first_point (member_at c.args.points.now (square c.args.cell) c.args.members.now c.loop-k.k-index c.requires.members c.loop-k-test.true).inside)
+
 pub add_source-requires-clause-inside : goal.add_source-requires-clause-inside
 add_source-requires-clause-inside g c = (member_at c.args.points.now (square c.args.cell) c.args.members.now c.loop-k.k-index c.requires.members c.loop-k-test.true).held
 
@@ -30,7 +37,8 @@ add_source-requires-clause-size g c = λ k h.
     let i = c.loop-k.k-index in
     let few = order_bounds g.row.P c.requires.order in
     let light = weight_so_far points (square c.args.cell) members i c.requires.members in
-    let limit = c.requires.weight in
+    let limit = c.requires.within.weight in
+    let most = (within_widest c.args.cell.grid c.args.cell.known_grid).weight in
     subst (BoxEndsWithin (2 ^ 80)) (sym (c.loop-k.invariant k h))
     (box_wider (2 ^ 40 * sum_by weight64 (sources_at points (take i members))) (2 ^ 80) _ (omega arith)
     (sources_within g.row.P (square c.args.cell) (sources_at points (take i members)) (omega arith) (held_so_far points (square c.args.cell) members i c.requires.members) k h))
