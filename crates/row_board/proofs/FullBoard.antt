@@ -2,9 +2,9 @@
 use Rattle.std.proofs.Common.{ℕ, ◌≡◌, ◌<◌, false, sym, ◌∙◌, arith}
 use Rattle.std.proofs.lemmas.Bool.{cases_Bool, true≢false}
 use mathlib.Core.Logic.{⊎_elim}
+use Rattle.field_basis.proofs.Sizes.{inside}
 use Rattle.field_basis.specs.FieldPlaces.{HasNoRow, IsMultipolePlace, IsLocalPlace}
 use Rattle.places.specs.Place.{PlaceModel, place_at}
-use Rattle.quadtree.proofs.Limits.{in_grid}
 use Rattle.quadtree.proofs.TreeChildren.{tree_cell_at}
 use Rattle.quadtree.specs.TreeModel.{size, square_of, node_of}
 use Rattle.tree_field.proofs.MultipoleRows.{multipole_row-zero}
@@ -29,7 +29,7 @@ module _ (P : ℕ) (b : BoardParts) (is : IsBoard P b) (full : IsFull b) where
     without_source : (node_of b.basis.tree n).has_source ≡ false → (place : PlaceModel) → HasNoRow P place → IsMultipolePlace P b.basis.points b.basis.tree n place
     without_source none place zero = record {
       row_is = λ cap is_tree k h.
-          let source = (nodes_of_tree b.basis.tree b.basis.points cap (in_grid b.basis.points is.basis_is.tree_is.tree_is.range) is_tree n lt).source in
+          let source = (nodes_of_tree b.basis.tree b.basis.points cap (inside P b.basis is.basis_is) is_tree n lt).source in
           let cell = tree_cell_at b.basis.tree b.basis.points cap n is_tree lt in
           zero.row_is k h ∙ sym (multipole_row-zero b.basis.points cap (square_of b.basis.tree n) (omega (arith, cell.level_in_grid, cell.of_grid)) (sym source ∙ none) k);
       radius_is = zero.radius_is;

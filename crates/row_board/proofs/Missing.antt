@@ -7,8 +7,8 @@ use Rattle.std.proofs.lemmas.List.Elements.{All-cons, All-map}
 use Rattle.letters.specs.declared.Letter.{Letter}
 use Rattle.cell_lists.specs.EntryLists.{lists_of}
 use Rattle.cell_lists.specs.ListAt.{list_at}
+use Rattle.field_basis.proofs.Sizes.{inside}
 use Rattle.field_basis.specs.Basis.{BasisModel, IsBasis}
-use Rattle.quadtree.proofs.Limits.{in_grid}
 use Rattle.quadtree.specs.TreeModel.{size, node_of}
 use Rattle.row_board.specs.Names.{is_filled, needs, AreFilled, IsFirstMissing}
 use Rattle.row_board.specs.Parts.{BoardParts}
@@ -52,7 +52,7 @@ module _ (P : ℕ) (b : BasisModel) (is : IsBasis P b) where
   listed letter n lt = omega (arith, is.tree_is.lists_are.as_many letter)
 
   pub numbers : (letter : Letter) (n : ℕ) → n < size b.tree → All (λ c. c < size b.tree) (list_at (lists_of b.lists letter) n)
-  numbers letter n lt = (is.tree_is.lists_are.each b.points b.cap (in_grid b.points is.tree_is.tree_is.range) is.is_tree letter n lt).numbers
+  numbers letter n lt = (is.tree_is.lists_are.each b.points b.cap (inside P b is) is.is_tree letter n lt).numbers
 
   -- a position that was read
   pub target_read : (k target : ℕ) → k < length b.targets → target ≡ get_or b.targets k target → get_or b.targets k 0 ≡ target

@@ -33,7 +33,7 @@ module _ (P : ℕ) (b : BoardParts) (is : IsBoard P b) where
   pub values_are : ((k : ℕ) → k < length b.basis.targets → is_filled b (Value k) ≡ true) → AreTargetBoxes P b.basis b.values
   values_are full lists are =
       let points = b.basis.points in
-      let box : Point → BoxEnds = λ p. target_box points b.basis.cap P lists 16 (place p) in
+      let box : Point → BoxEnds = λ p. target_box points b.basis.cap P lists (place p) in
       let n = length-map b.basis.targets (point_at points) in
       same_lists (map box_ends b.values) (map box (map (point_at points) b.basis.targets)) (omega (arith, length-map b.values box_ends, length-map (map (point_at points) b.basis.targets) box, n, is.value_each))
       (λ k d lt.

@@ -1,9 +1,10 @@
 //! The board.
-ghost use Rattle.std.specs.Prelude.{◌≡◌, ◌^◌, false, IsTrue, ◌↔◌, MatchOption, IfSome};
+ghost use Rattle.std.specs.Prelude.{◌≡◌, false, IsTrue, ◌↔◌, MatchOption, IfSome};
 ghost use Rattle.exact_math.specs.Units.{unit};
 ghost use Rattle.complex_box.specs.Box.{BoxWithin, BoxContains};
 ghost use Rattle.field_basis.specs.Basis.{target_place};
 ghost use Rattle.field_basis.specs.FieldPlaces.{IsTargetBox};
+ghost use Rattle.limits.specs.Limits.{most_box};
 ghost use Rattle.near_field.specs.DirectSum.{direct_sum};
 ghost use Rattle.row_board.specs.Board.{IsBoard, IsFilledBox};
 ghost use Rattle.row_board.specs.Names.{IsName, is_filled};
@@ -70,7 +71,7 @@ impl<const P: usize> Board<P> {
         requires { IsName self.now (Name.Value k) }
         ensures value { MatchOption result (is_filled self.now (Name.Value k) ≡ false) (IsFilledBox self.now k) }
         ensures field { IfSome result (λ value. IsTargetBox P self.now.basis k value) }
-        ensures size { IfSome result (λ value. BoxWithin (2 ^ 84) value) }
+        ensures size { IfSome result (λ value. BoxWithin (most_box self.now.basis.tree.grid) value) }
         ensures contains { IfSome result (λ value. BoxContains unit value (direct_sum (target_place self.now.basis k) self.now.basis.points)) }
     {
         if self.has_value[k] {

@@ -1,9 +1,10 @@
 //! Making a board.
-ghost use Rattle.std.specs.Prelude.{◌≡◌, ◌≤◌, false, length, All, IfOk, IfErr, OnOk};
+ghost use Rattle.std.specs.Prelude.{◌≡◌, false, length, All, IfOk, IfErr, OnOk};
 ghost use Rattle.exact_math.specs.Orders.{IsCapacity, IsOrder};
 ghost use Rattle.complex_box.specs.Rows.{IsZero};
-ghost use Rattle.points.specs.Limits.{InRange, WithinLimits, most_points, most_weight, total_weight};
-ghost use Rattle.quadtree.specs.Faults.{most_cells, HasMoreCells, IsFaultOf, NoneIsCrowded};
+ghost use Rattle.limits.specs.Limits.{grid_of};
+ghost use Rattle.points.specs.Limits.{AreWithin, WithinLimits};
+ghost use Rattle.quadtree.specs.Faults.{HasTree, IsFaultOf};
 ghost use Rattle.quadtree.specs.TreeModel.{IsTreeOf};
 ghost use Rattle.row_board.specs.Board.{IsBoard};
 ghost use Rattle.row_board.specs.Names.{is_filled};
@@ -49,19 +50,19 @@ impl<const P: usize> Board<P> {
     ///
     /// # Errors
     ///
-    /// Where more than 4,096 points stand at one place, `Crowded` has the first such place by column and row, and how many they are; otherwise,
-    /// where the tree has more than 65,536 cells, it is `Cells`. `Memory` is want of memory.
+    /// Where too many points stand at one place, `Crowded` has the first such place by column and row, and how many they are; otherwise, where
+    /// the tree has too many cells for its grid, it is `Cells`. `Memory` is want of memory.
     pub fn new(alloc: Global, points: &Points, cap: u32) -> Result<Board<P>, TreeFault>
-        requires list { WithinLimits points.now.mode points.now.list }
+        requires list { WithinLimits points.now }
         requires order { IsOrder P }
         requires cap { IsCapacity cap }
         ensures board { IfOk result (λ board. IsBoard P board) }
         ensures points { IfOk result (λ board. board.basis.points ≡ points.now.list) }
         ensures cap { IfOk result (λ board. board.basis.cap ≡ cap) }
         ensures empty { IfOk result (λ board. (name : Name) → is_filled board name ≡ false) }
-        ensures none_crowded { OnOk result (NoneIsCrowded 16 points.now.list) }
-        ensures no_more { OnOk result (HasMoreCells 16 points.now.list cap most_cells → ⊥) }
-        ensures fault { IfErr result (IsFaultOf 16 points.now.list cap) }
+        ensures grid { IfOk result (λ board. board.basis.tree.grid ≡ grid_of points.now.version) }
+        ensures has_tree { OnOk result (HasTree (grid_of points.now.version) points.now.list cap) }
+        ensures fault { IfErr result (IsFaultOf (grid_of points.now.version) points.now.list cap) }
     {
         let tree = Tree::build(alloc, points, cap)?;
         Ok(Board::over(alloc, points.list.points(), cap, tree)?)
@@ -70,14 +71,13 @@ impl<const P: usize> Board<P> {
     /// The board over the tree of the points, with no place filled.
     fn over(alloc: Global, points: &[Point], cap: u32, tree: Tree) -> Result<Board<P>, AllocError>
         requires order { IsOrder P }
-        requires range { All InRange points.now }
-        requires few { length points.now ≤ most_points }
-        requires light { total_weight points.now ≤ most_weight }
+        requires within { AreWithin tree.grid points.now }
         requires capacity { IsCapacity cap }
-        requires tree { IsTreeOf 16 tree points.now cap }
+        requires tree { IsTreeOf tree points.now cap }
         ensures board { IfOk result (λ board. IsBoard P board) }
         ensures points { IfOk result (λ board. board.basis.points ≡ points.now) }
         ensures cap { IfOk result (λ board. board.basis.cap ≡ cap) }
+        ensures grid { IfOk result (λ board. board.basis.tree.grid ≡ tree.grid) }
         ensures empty { IfOk result (λ board. (name : Name) → is_filled board name ≡ false) }
     {
         let basis = Basis::<P>::over(alloc, points, cap, tree)?;

@@ -13,6 +13,8 @@ use Rattle.field_basis.specs.FieldPlaces.{AreAllMultipolePlaces, AreAllLocalPlac
 use Rattle.field_basis.proofs.Positions.{few_positions}
 use Rattle.field_basis.proofs.Sizes.{inside}
 use Rattle.letters.specs.declared.Letter.TheVariants.{V}
+use Rattle.limits.proofs.Grids.{within_widest}
+use Rattle.limits.specs.Limits.{most_box, most_cells, most_points, widest_grid}
 use Rattle.places.specs.Place.{PlaceModel, all_translations}
 use Rattle.places.specs.Target.{TargetModel, all_pairs, values_of}
 use Rattle.points.specs.declared.Point.{Point}
@@ -26,23 +28,25 @@ use Rattle.solve_phase.specs.Parts.{FieldParts, FitTogether}
 
 module _ (P : ℕ) (b : BasisModel) (is : IsBasis P b) where
   -- ---- how many translations and pairs there are at most
-  pub few_up : (n : ℕ) → n ≡ count_by (is_shifted b.points) (squares b.tree) → n ≤ 65536
-  few_up n e = let c = count_by-le-length (is_shifted b.points) (squares b.tree) in omega (arith, e, c, length-map b.tree.cells square, is.is_tree.few)
+  pub few_up : (n : ℕ) → n ≡ count_by (is_shifted b.points) (squares b.tree) → n ≤ most_cells widest_grid
+  few_up n e =
+      let c = count_by-le-length (is_shifted b.points) (squares b.tree) in
+      omega (arith, e, c, length-map b.tree.cells square, is.is_tree.few, (within_widest b.tree.grid is.is_tree.known_grid).cells)
 
-  pub few_local : (n : ℕ) → n ≡ all_translations_into b → n ≤ 65536 * 28
+  pub few_local : (n : ℕ) → n ≡ all_translations_into b → n ≤ most_cells widest_grid * 28
   few_local n e =
       let v = sum_by-le (λ list. length list) 27 b.lists.v is.tree_is.short in
       let t = count_by-le-length (λ n. nat_lt 0 n && (node_of b.tree n).has_target) (range_with_len 0 (size b.tree)) in
-      omega (arith, e, v, t, is.tree_is.lists_are.as_many V, length-range_with_len 0 (size b.tree), is.is_tree.few)
+      omega (arith, e, v, t, is.tree_is.lists_are.as_many V, length-range_with_len 0 (size b.tree), is.is_tree.few, (within_widest b.tree.grid is.is_tree.known_grid).cells)
 
   pub few_pairs : (n : ℕ) → n ≤ length b.targets * length b.points → n < 2 ^ 64
   few_pairs n le =
-      let targets : length b.targets ≤ 65536 = omega (arith, ap length is.targets_are, few_positions b.points, is.tree_is.tree_is.few) in
-      let points : length b.points ≤ 65536 = is.tree_is.tree_is.few in
-      omega (arith, le, product (length b.targets) (length b.points) targets points)
+      let points : length b.points ≤ most_points widest_grid = omega (arith, is.tree_is.tree_is.within.count, (within_widest b.tree.grid is.is_tree.known_grid).points) in
+      let targets : length b.targets ≤ most_points widest_grid = omega (arith, ap length is.targets_are, few_positions b.points, points) in
+      omega (arith, le, product (length b.targets) (length b.points) (most_points widest_grid) targets points)
     where
-      product : (m n : ℕ) → m ≤ 65536 → n ≤ 65536 → m * n ≤ 65536 * 65536
-      product m n l k = grind arith
+      product : (m n k : ℕ) → m ≤ k → n ≤ k → m * n ≤ k * k
+      product m n k a b = grind arith
 
   -- ---- the field
   module _ (up local : List PlaceModel) (values : List TargetModel) where
@@ -50,7 +54,7 @@ module _ (P : ℕ) (b : BasisModel) (is : IsBasis P b) where
     made = record { basis = b; up = up; local = local; values = values_of values; translations = all_translations up + all_translations local; pairs = all_pairs values }
 
     module _ (up_are : AreAllMultipolePlaces P b.points b.tree up) (local_are : AreAllLocalPlaces P b local) where
-      pub fit : length values ≡ length b.targets → All (BoxWithin (2 ^ 84)) (values_of values) → FitTogether P made
+      pub fit : length values ≡ length b.targets → All (BoxWithin (most_box b.tree.grid)) (values_of values) → FitTogether P made
       fit each small = record { basis_is = is; up_each = up_are.as_many; local_are = local_are; value_each = length-map values (λ (p : TargetModel). p.value) ∙ each; small = small }
 
       pub solved : all_translations up ≡ count_by (is_shifted b.points) (squares b.tree) → all_translations local ≡ all_translations_into b → AreTargetBoxes P b (values_of values) → AreAllPairs b (all_pairs values)

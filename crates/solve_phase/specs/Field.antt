@@ -14,7 +14,7 @@ use Rattle.solve_phase.specs.Parts.{FieldParts}
 
 -- Boxes of the targets and counts are those of the field over these lists. So the translations are at most the V entries and twice the cells.
 pub record IsFieldOver (points : List Point) (cap P : ℕ) (lists : TreeLists) (f : FieldParts) : Type 0 where
-  pub values_are : map box_ends f.values ≡ target_boxes points cap P lists 16
+  pub values_are : map box_ends f.values ≡ target_boxes points cap P lists
   pub translations_are : f.translations ≡ translations points lists
   pub few : f.translations ≤ sum_by (λ b. length (lists.entries V b)) lists.cells + 2 * length lists.cells
   pub pairs_are : f.pairs ≡ pairs points lists
@@ -24,8 +24,8 @@ pub record IsSolved (points : List Point) (cap P : ℕ) (f : FieldParts) : Type 
   pub order : IsOrder P
   pub points_are : f.basis.points ≡ points
   pub cap_is : f.basis.cap ≡ cap
-  pub is_tree : IsTreeOf 16 f.basis.tree points cap
+  pub is_tree : IsTreeOf f.basis.tree points cap
   pub lists_are : AreLists f.basis.tree f.basis.lists
   pub up_are : AreAllMultipolePlaces P f.basis.points f.basis.tree f.up
   pub local_are : AreAllLocalPlaces P f.basis f.local
-  pub over : (lists : TreeLists) → AreTreeLists 16 points cap lists → IsFieldOver points cap P lists f
+  pub over : (lists : TreeLists) → AreTreeLists f.basis.tree.grid points cap lists → IsFieldOver points cap P lists f

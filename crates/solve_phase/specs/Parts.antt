@@ -1,9 +1,10 @@
 -- The parts of a field, and how they fit together.
-use Rattle.std.specs.Prelude.{ℕ, ◌≡◌, ◌^◌, List, length, All}
+use Rattle.std.specs.Prelude.{ℕ, ◌≡◌, List, length, All}
 use Rattle.complex_box.specs.Box.{BoxWithin}
 use Rattle.complex_box.specs.declared.CBox.{CBox}
 use Rattle.field_basis.specs.Basis.{BasisModel, IsBasis}
 use Rattle.field_basis.specs.FieldPlaces.{AreAllLocalPlaces}
+use Rattle.limits.specs.Limits.{most_box}
 use Rattle.places.specs.Place.{PlaceModel}
 use Rattle.quadtree.specs.TreeModel.{size}
 
@@ -17,10 +18,10 @@ pub record FieldParts : Type 0 where
   pub translations : ℕ
   pub pairs : ℕ
 
--- there is a multipole place for each cell and a box for each target, the local places are those of the field, and no end of a box is larger than 2^84 in size
+-- there is a multipole place for each cell and a box for each target, the local places are those of the field, and no end of a box is larger in size than the limit of the grid
 pub record FitTogether (P : ℕ) (f : FieldParts) : Type 0 where
   pub basis_is : IsBasis P f.basis
   pub up_each : length f.up ≡ size f.basis.tree
   pub local_are : AreAllLocalPlaces P f.basis f.local
   pub value_each : length f.values ≡ length f.basis.targets
-  pub small : All (BoxWithin (2 ^ 84)) f.values
+  pub small : All (BoxWithin (most_box f.basis.tree.grid)) f.values

@@ -1,7 +1,8 @@
 //! The field that a solve gives.
-ghost use Rattle.std.specs.Prelude.{◌≡◌, ◌^◌, ◌<◌, true, false, length, pos, IfSome, MatchOption};
+ghost use Rattle.std.specs.Prelude.{◌≡◌, ◌<◌, true, false, length, pos, IfSome, MatchOption};
 ghost use Rattle.complex_box.specs.Box.{BoxWithin};
 ghost use Rattle.complex_box.specs.Rows.{at};
+ghost use Rattle.limits.specs.Limits.{most_box};
 ghost use Rattle.places.specs.Place.{place_at};
 ghost use Rattle.quadtree.specs.TreeModel.{size, node_of};
 
@@ -102,7 +103,7 @@ impl<const P: usize> Field<P> {
     pub fn value(&self, k: usize) -> CBox
         requires { k < length self.now.values }
         ensures value { result ≡ at self.now.values k }
-        ensures size { BoxWithin (2 ^ 84) result }
+        ensures size { BoxWithin (most_box self.now.basis.tree.grid) result }
     {
         self.values[k].value()
     }

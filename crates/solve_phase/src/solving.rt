@@ -1,9 +1,10 @@
 //! The solve.
-ghost use Rattle.std.specs.Prelude.{◌≤◌, length, All, IfErr, IfOk, OnOk};
+ghost use Rattle.std.specs.Prelude.{◌≡◌, IfErr, IfOk, OnOk};
 ghost use Rattle.exact_math.specs.Orders.{IsCapacity, IsOrder};
 ghost use Rattle.field_basis.specs.FieldPlaces.{BoxesContain};
-ghost use Rattle.points.specs.Limits.{InRange, WithinLimits, most_points, most_weight, total_weight};
-ghost use Rattle.quadtree.specs.Faults.{most_cells, HasMoreCells, IsFaultOf, NoneIsCrowded};
+ghost use Rattle.limits.specs.Limits.{grid_of};
+ghost use Rattle.points.specs.Limits.{AreWithin, WithinLimits};
+ghost use Rattle.quadtree.specs.Faults.{HasTree, IsFaultOf};
 ghost use Rattle.quadtree.specs.TreeModel.{IsTreeOf};
 ghost use Rattle.solve_phase.specs.Field.{IsSolved};
 
@@ -25,12 +26,11 @@ fn field_over<const P: usize>(
     tree: Tree,
 ) -> Result<Field<P>, AllocError>
     requires order { IsOrder P }
-    requires range { All InRange points.now }
-    requires few { length points.now ≤ most_points }
-    requires light { total_weight points.now ≤ most_weight }
+    requires within { AreWithin tree.grid points.now }
     requires capacity { IsCapacity cap }
-    requires tree { IsTreeOf 16 tree points.now cap }
+    requires tree { IsTreeOf tree points.now cap }
     ensures field { IfOk result (λ field. IsSolved points.now cap P field) }
+    ensures grid { IfOk result (λ field. field.basis.tree.grid ≡ tree.grid) }
     ensures contains { IfOk result (λ field. BoxesContain points.now field.values) }
 {
     let basis = Basis::<P>::over(alloc, points, cap, tree)?;
@@ -60,21 +60,21 @@ fn field_over<const P: usize>(
 ///
 /// # Errors
 ///
-/// Where more than 4,096 points stand at one place, `Crowded` has the first such place by column and row, and how many they are; otherwise, where
-/// the tree has more than 65,536 cells, it is `Cells`. `Memory` is want of memory.
+/// Where too many points stand at one place, `Crowded` has the first such place by column and row, and how many they are; otherwise, where
+/// the tree has too many cells for its grid, it is `Cells`. `Memory` is want of memory.
 pub fn solve<const P: usize>(
     alloc: Global,
     points: &Points,
     cap: u32,
 ) -> Result<Field<P>, TreeFault>
-    requires list { WithinLimits points.now.mode points.now.list }
+    requires list { WithinLimits points.now }
     requires order { IsOrder P }
     requires cap { IsCapacity cap }
     ensures field { IfOk result (λ field. IsSolved points.now.list cap P field) }
     ensures contains { IfOk result (λ field. BoxesContain points.now.list field.values) }
-    ensures none_crowded { OnOk result (NoneIsCrowded 16 points.now.list) }
-    ensures no_more { OnOk result (HasMoreCells 16 points.now.list cap most_cells → ⊥) }
-    ensures fault { IfErr result (IsFaultOf 16 points.now.list cap) }
+    ensures grid { IfOk result (λ field. field.basis.tree.grid ≡ grid_of points.now.version) }
+    ensures has_tree { OnOk result (HasTree (grid_of points.now.version) points.now.list cap) }
+    ensures fault { IfErr result (IsFaultOf (grid_of points.now.version) points.now.list cap) }
 {
     let tree = Tree::build(alloc, points, cap)?;
     Ok(field_over::<P>(alloc, points.list.points(), cap, tree)?)

@@ -14,7 +14,8 @@ use Rattle.field_basis.proofs.CellWeights.{position_inside}
 use Rattle.field_basis.proofs.Sizes.{inside}
 use Rattle.field_basis.specs.Basis.{BasisModel, IsBasis}
 use Rattle.letters.specs.declared.Letter.{Letter}
-use Rattle.points.specs.Limits.{most_points}
+use Rattle.limits.proofs.Grids.{within_widest}
+use Rattle.limits.specs.Limits.{most_cells, most_points, widest_grid}
 use Rattle.quadtree.specs.Members.{holds_position}
 use Rattle.quadtree.specs.TreeModel.{size, square_of, node_of}
 
@@ -44,21 +45,21 @@ module _ (P : ℕ) (b : BasisModel) (is : IsBasis P b) where
     pub number_below : (i : ℕ) → i < length items → get_or items i 0 < size b.tree
     number_below i l = list_of.numbers i 0 l
 
-    pub few_items : length items ≤ most_points
-    few_items = let f = few_below (size b.tree) items list_of.numbers list_of.ascending in omega (arith, f, is.is_tree.few)
+    pub few_items : length items ≤ most_cells widest_grid
+    few_items = let f = few_below (size b.tree) items list_of.numbers list_of.ascending in omega (arith, f, is.is_tree.few, (within_widest b.tree.grid is.is_tree.known_grid).cells)
 
-    pub entry_at : (i : ℕ) → i < length items → IsEntry 16 b.points b.cap letter (square_of b.tree n) (square_of b.tree (get_or items i 0))
+    pub entry_at : (i : ℕ) → i < length items → IsEntry b.tree.grid b.points b.cap letter (square_of b.tree n) (square_of b.tree (get_or items i 0))
     entry_at i l = (list_of.exact (get_or items i 0) (number_below i l)).0 (Contains-get_or items i 0 l)
 
   -- ---- the members of a cell
-  pub few_members : (n : ℕ) → n < size b.tree → (members : List ℕ) → members ≡ (node_of b.tree n).members → length members ≤ most_points
+  pub few_members : (n : ℕ) → n < size b.tree → (members : List ℕ) → members ≡ (node_of b.tree n).members → length members ≤ most_points widest_grid
   few_members n lt members are =
       let p : ℕ → _ = holds_position (square_of b.tree n) b.points in
       let e = ap length (are ∙ (is.is_tree.nodes_are n lt).members_are) in
       let f = length-filter p (range_with_len 0 (length b.points)) in
       let g = count_by-le-length p (range_with_len 0 (length b.points)) in
       let l = length-range_with_len 0 (length b.points) in
-      omega (arith, e, f, g, l, is.tree_is.tree_is.few)
+      omega (arith, e, f, g, l, is.tree_is.tree_is.within.count, (within_widest b.tree.grid is.is_tree.known_grid).points)
 
   pub member_below : (n : ℕ) → n < size b.tree → (members : List ℕ) → members ≡ (node_of b.tree n).members → (i : ℕ) → i < length members → get_or members i 0 < length b.points
   member_below n lt members are i l =

@@ -1,5 +1,5 @@
 -- A target takes at most one pair for each point.
-use Rattle.std.proofs.Common.{ℕ, ◌≡◌, ◌∙◌, ◌<◌, ◌≤◌, List, length, get_or, Bool, true, false, not, cond, sym, ap, arith, lit<}
+use Rattle.std.proofs.Common.{ℕ, ◌≡◌, ◌∙◌, ◌<◌, ◌≤◌, List, length, get_or, Bool, true, false, not, cond, sym, ap, arith}
 use Rattle.std.specs.Prelude.{sum_by}
 use Rattle.std.proofs.lemmas.List.Sums.{sum_by-le, sum_by-le-sum_by}
 use Rattle.exact_math.specs.Gaussian.{Gaussian}
@@ -11,6 +11,7 @@ use Rattle.field_basis.specs.Counts.{count_apart, sources_at, pairs_of_target}
 use Rattle.field_basis.specs.Targets.{no_point}
 use Rattle.quadtree.proofs.TreeChildren.{tree_cell_at}
 use Rattle.letters.specs.declared.Letter.TheVariants.{U}
+use Rattle.limits.proofs.Grids.{grid_positive}
 use Rattle.field_sizes.proofs.Disjoint.{entries_share_no_source}
 use Rattle.near_field.specs.Pair.{is_at}
 use Rattle.points.specs.declared.Point.{Point}
@@ -37,14 +38,15 @@ module _ (P : ℕ) (b : BasisModel) (is : IsBasis P b) where
   counted-le n lt z =
       let f : Square → ℕ = λ c. count (sources_in b.points c) in
       let g : ℕ → ℕ = λ c. count (sources_at b.points (node_of b.tree c).members) in
-      let field = each_list_has_tree 16 b.points b.cap (lit< tt) (inside P b is) in
+      let positive = grid_positive b.tree.grid is.is_tree.known_grid in
+      let field = each_list_has_tree b.tree.grid b.points b.cap positive (inside P b is) in
       let entries = (lists_of_tree b.tree b.lists b.points b.cap field.0 (inside P b is) is.is_tree is.tree_is.lists_are field.1).entries U n lt in
       let below = (is.tree_is.lists_are.each b.points b.cap (inside P b is) is.is_tree U n lt).numbers in
       let near = sum_by-le-sum_by (count_of_cell b z) g (list_at b.lists.u n) (λ c. count_apart-le z (sources_at b.points (node_of b.tree c).members)) in
       let same : sum_by g (list_at b.lists.u n) ≡ sum_by f (field.0.entries U (square_of b.tree n)) =
       sum_by-same g (λ c. f (square_of b.tree c)) (list_at b.lists.u n) (λ i d l. ap count ((nodes_of_tree b.tree b.points b.cap (inside P b is) is.is_tree (get_or (list_at b.lists.u n) i d) (below i d l)).members no_point))
       ∙ sym (ap (sum_by f) entries ∙ sum_by-map f (square_of b.tree) (list_at b.lists.u n)) in
-      let most = entries_share_no_source 16 b.points b.cap field.0 (lit< tt) (inside P b is) field.1 U (square_of b.tree n) (tree_cell_at b.tree b.points b.cap n is.is_tree lt) (λ p. 1) in
+      let most = entries_share_no_source b.tree.grid b.points b.cap field.0 positive (inside P b is) field.1 U (square_of b.tree n) (tree_cell_at b.tree b.points b.cap n is.is_tree lt) (λ p. 1) in
       let all = sum_by-le (λ (p : Point). 1) 1 b.points (λ k d l. omega arith) in
       omega (arith, near, same, most, all)
 

@@ -8,7 +8,9 @@ use Rattle.exact_math.specs.Ends.{BoxEnds, add_box, zero_box}
 use Rattle.exact_math.specs.Gaussian.{Gaussian, gaussian}
 use Rattle.points.specs.Points.{is_source}
 use Rattle.near_field.specs.Pair.{is_at, pair_box}
-use Rattle.points.specs.Limits.{InGrid, InRange, weight64}
+use Rattle.limits.specs.Grid.{IsInGrid}
+use Rattle.limits.specs.Limits.{widest_grid}
+use Rattle.points.specs.Limits.{InRange, weight64}
 use Rattle.points.specs.declared.Point.{Point}
 use Rattle.row_recursions.proofs.Points.{weight_bounded}
 use Rattle.soundness.specs.Computed.{total_box}
@@ -23,13 +25,13 @@ abbrev with_box : Gaussian → BoxEnds → Point → BoxEnds
 with_box t sum p = add_box sum (pair_box t p)
 
 -- ---- one pair, as the calls have it
-pub ends_at : (x y : ℤ) (p : Point) {e : BoxEnds} → InGrid x y → e ≡ pair_box (gaussian (to_z w64 (of_z w64 x)) (to_z w64 (of_z w64 y))) p → e ≡ pair_box (gaussian x y) p
+pub ends_at : (x y : ℤ) (p : Point) {e : BoxEnds} → IsInGrid widest_grid x y → e ≡ pair_box (gaussian (to_z w64 (of_z w64 x)) (to_z w64 (of_z w64 y))) p → e ≡ pair_box (gaussian x y) p
 ends_at x y p grid h =
     let f : SFits w64 x = omega (arith, ints) in
     let g : SFits w64 y = omega (arith, ints) in
     rw (to_z-of_z f, to_z-of_z g) at h
 
-pub pairs_at : (x y : ℤ) (p : Point) {m : ℕ} (n : ℕ) → InGrid x y → m ≡ n + (if is_at (gaussian (to_z w64 (of_z w64 x)) (to_z w64 (of_z w64 y))) p then 0 else 1) → m ≡ n + (if is_at (gaussian x y) p then 0 else 1)
+pub pairs_at : (x y : ℤ) (p : Point) {m : ℕ} (n : ℕ) → IsInGrid widest_grid x y → m ≡ n + (if is_at (gaussian (to_z w64 (of_z w64 x)) (to_z w64 (of_z w64 y))) p then 0 else 1) → m ≡ n + (if is_at (gaussian x y) p then 0 else 1)
 pairs_at x y p n grid h =
     let f : SFits w64 x = omega (arith, ints) in
     let g : SFits w64 y = omega (arith, ints) in
@@ -51,7 +53,7 @@ pair_counted t p old new source h same =
     one false = refl
 
 -- a point in range brings little
-pub weight-most : (p : Point) → InRange p → 2 ^ 40 * weight64 p ≤ 2 ^ 67
+pub weight-most : (p : Point) → InRange widest_grid p → 2 ^ 40 * weight64 p ≤ 2 ^ 67
 weight-most p range = let light = weight_bounded p range in omega arith
 
 -- ---- one position more

@@ -1,5 +1,5 @@
 -- The pairs of all targets, one after another, are those of all U entries.
-use Rattle.std.proofs.Common.{ℕ, ◌≡◌, ◌≢◌, ◌∙◌, ◌<◌, List, [], ◌∷◌, map, get_or, Bool, true, false, not, cond, filter, refl, sym, ap, arith, lit<}
+use Rattle.std.proofs.Common.{ℕ, ◌≡◌, ◌≢◌, ◌∙◌, ◌<◌, List, [], ◌∷◌, map, get_or, Bool, true, false, not, cond, filter, refl, sym, ap, arith}
 use Rattle.std.specs.Prelude.{Contains, sum_by}
 use Rattle.std.specs.List.{range_with_len}
 use Rattle.std.proofs.lemmas.List.Elements.{Contains-get_or}
@@ -10,6 +10,7 @@ use Rattle.cell_lists.specs.Lists.{AreLists}
 use Rattle.cell_lists.specs.ListAt.{list_at}
 use Rattle.cell_lists.proofs.CellNumbers.{same_number}
 use Rattle.letters.specs.declared.Letter.TheVariants.{U}
+use Rattle.limits.proofs.Grids.{grid_positive}
 use Rattle.points.specs.Points.{is_source, place}
 use Rattle.points.specs.declared.Point.{Point}
 use Rattle.quadtree.specs.TreeModel.{IsTreeOf, size, squares, square_of, node_of, leaf_of}
@@ -41,7 +42,7 @@ module _ (P : ℕ) (b : BasisModel) (stands : IsBasis P b) where
   are : AreLists b.tree b.lists
   are = stands.tree_is.lists_are
 
-  h : IsTreeOf 16 b.tree b.points b.cap
+  h : IsTreeOf b.tree b.points b.cap
   h = stands.is_tree
 
   -- where cell n holds the target
@@ -75,7 +76,7 @@ module _ (P : ℕ) (b : BasisModel) (stands : IsBasis P b) where
           let p : Point = point_at b.points k in
           let e = (l.exact c (numbers_below c m)).0 m in
           let here = Contains-get_or b.points k no_point is.inside in
-          let leaf = only_leaf 16 b.points b.cap (squares b.tree) (lit< tt) (inside P b stands) h.cells_are p here (square_of b.tree n) e.pair.first_leaf (Holds-from_test (square_of b.tree n) p.x p.y held) in
+          let leaf = only_leaf b.tree.grid b.points b.cap (squares b.tree) (grid_positive b.tree.grid h.known_grid) (inside P b stands) h.cells_are p here (square_of b.tree n) e.pair.first_leaf (Holds-from_test (square_of b.tree n) p.x p.y held) in
           ne (same_number b.tree h.cells_are.ascending n (leaf_of b.tree k) lt (leaf_at_position b.tree b.points b.cap h k no_point is.inside).in_range
           (leaf ∙ leaves_of_tree b.tree b.points b.cap (inside P b stands) h k p (slice_get-get_or b.points k no_point is.inside)))))
         where
@@ -98,7 +99,7 @@ module _ (P : ℕ) (b : BasisModel) (stands : IsBasis P b) where
       (λ n m ne. no_pairs n (range_below (size b.tree) n m) k is ne)
       ∙ ap (λ (t : Bool). cond t (count_at b (leaf_of b.tree k) k) 0) (test-from_Holds (square_of b.tree (leaf_of b.tree k)) p.x p.y l.held)
 
-  pub pairs_are : (field : TreeLists) → AreTreeLists 16 b.points b.cap field → sum_by (λ k. count_at b (leaf_of b.tree k) k) (target_positions b.points) ≡ pairs b.points field
+  pub pairs_are : (field : TreeLists) → AreTreeLists b.tree.grid b.points b.cap field → sum_by (λ k. count_at b (leaf_of b.tree k) k) (target_positions b.points) ≡ pairs b.points field
   pairs_are field given =
       let r : List ℕ = range_with_len 0 (size b.tree) in
       let positions : List ℕ = target_positions b.points in

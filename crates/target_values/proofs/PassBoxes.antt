@@ -1,5 +1,5 @@
 -- What holds of all places of targets, since it holds of each.
-use Rattle.std.proofs.Common.{ℕ, suc, inl, inr, ◌≡◌, ◌∙◌, ◌+◌, ◌*◌, ◌^◌, ◌<◌, ◌≤◌, List, [], ◌∷◌, length, map, get_or, slice_index_or, slice_set, get_or-set_same, get_or-set_other, sym, ap, ap₂, refl, subst, arith, lit<}
+use Rattle.std.proofs.Common.{ℕ, suc, inl, inr, ◌≡◌, ◌∙◌, ◌+◌, ◌*◌, ◌<◌, ◌≤◌, List, [], ◌∷◌, length, map, get_or, slice_index_or, slice_set, get_or-set_same, get_or-set_other, sym, ap, ap₂, refl, subst, arith}
 use Rattle.std.specs.Prelude.{All, sum_by}
 use Rattle.std.specs.List.{AllZip, range_with_len}
 use Rattle.std.proofs.lemmas.Bool.{cases_lt}
@@ -17,7 +17,8 @@ use Rattle.field_basis.specs.Basis.{BasisModel, IsBasis}
 use Rattle.field_basis.specs.Counts.{pairs_of_target}
 use Rattle.field_basis.specs.FieldPlaces.{IsTargetBox, AreTargetBoxes, BoxesContain, AreAllPairs}
 use Rattle.field_basis.specs.Targets.{point_at}
-use Rattle.field_sizes.proofs.Bounds.{boxes_within}
+use Rattle.limits.proofs.Grids.{grid_positive}
+use Rattle.limits.specs.Limits.{most_box}
 use Rattle.near_field.specs.DirectSum.{direct_sum}
 use Rattle.places.specs.Target.{TargetModel, no_target, target_at, values_of, all_pairs}
 use Rattle.points.specs.Points.{place}
@@ -26,7 +27,8 @@ use Rattle.quadtree.specs.TreeModel.{leaf_of}
 use Rattle.tree_field.specs.Field.{target_box, targets}
 use Rattle.tree_field.proofs.Whole.{field_contains}
 use Rattle.target_values.proofs.PairBounds.{few_pairs}
-use Rattle.field_basis.proofs.Sizes.{inside, some_lists, limited}
+use Rattle.field_basis.proofs.Sizes.{inside, some_lists}
+use Rattle.target_values.proofs.FieldBox.{boxes_small}
 use Rattle.target_values.proofs.Pairs.{count_at, pairs_are}
 
 -- ---- lists whose images are the same
@@ -66,7 +68,7 @@ pub record IsTargetPlaceOf (P : ℕ) (b : BasisModel) (k : ℕ) (place : TargetM
 module _ (P : ℕ) (b : BasisModel) (is : IsBasis P b) (places : List TargetModel) (long : length places ≡ length b.targets) (each : (k : ℕ) → k < length places → IsTargetPlaceOf P b k (target_at places k)) where
   pub boxes_are : AreTargetBoxes P b (values_of places)
   boxes_are lists are =
-      let box : Point → BoxEnds = λ p. target_box b.points b.cap P lists 16 (place p) in
+      let box : Point → BoxEnds = λ p. target_box b.points b.cap P lists (place p) in
       map-map box_ends (λ (p : TargetModel). p.value) places
       ∙ map_by_number (λ (p : TargetModel). box_ends p.value) (λ k. box (point_at b.points k)) places b.targets no_target 0 long (λ k lt. (each k lt).value lists are)
       ∙ sym (map-map box (point_at b.points) b.targets)
@@ -74,13 +76,13 @@ module _ (P : ℕ) (b : BasisModel) (is : IsBasis P b) (places : List TargetMode
 
   pub all_contain : BoxesContain b.points (values_of places)
   all_contain =
-      zip-from_images (λ t e. BoxEndsContain unit e (direct_sum (place t) b.points)) (λ t. target_box b.points b.cap P (some_lists P b is).0 16 (place t)) box_ends (targets b.points) (values_of places) (boxes_are (some_lists P b is).0 (some_lists P b is).1)
-      (field_contains 16 b.points b.cap P (some_lists P b is).0 (lit< tt) (order_bounds P is.order).0 (inside P b is) (some_lists P b is).1)
+      zip-from_images (λ t e. BoxEndsContain unit e (direct_sum (place t) b.points)) (λ t. target_box b.points b.cap P (some_lists P b is).0 (place t)) box_ends (targets b.points) (values_of places) (boxes_are (some_lists P b is).0 (some_lists P b is).1)
+      (field_contains b.tree.grid b.points b.cap P (some_lists P b is).0 (grid_positive b.tree.grid is.is_tree.known_grid) (order_bounds P is.order).0 (inside P b is) (some_lists P b is).1)
 
-  pub all_small : All (BoxWithin (2 ^ 84)) (values_of places)
+  pub all_small : All (BoxWithin (most_box b.tree.grid)) (values_of places)
   all_small =
-      all-from_images (BoxEndsWithin (2 ^ 84)) (λ t. target_box b.points b.cap P (some_lists P b is).0 16 (place t)) box_ends (targets b.points) (values_of places) (boxes_are (some_lists P b is).0 (some_lists P b is).1)
-      (boxes_within b.points b.cap P (some_lists P b is).0 is.order (limited P b is (some_lists P b is).0 (some_lists P b is).1))
+      all-from_images (BoxEndsWithin (most_box b.tree.grid)) (λ t. target_box b.points b.cap P (some_lists P b is).0 (place t)) box_ends (targets b.points) (values_of places) (boxes_are (some_lists P b is).0 (some_lists P b is).1)
+      (boxes_small P b is)
 
   pub all_pairs_are : AreAllPairs b (all_pairs places)
   all_pairs_are lists are =

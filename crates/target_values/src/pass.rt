@@ -1,8 +1,9 @@
 //! The boxes of all targets.
-ghost use Rattle.std.specs.Prelude.{◌≡◌, ℕ, ◌*◌, ◌^◌, ◌<◌, ◌≤◌, length, All};
+ghost use Rattle.std.specs.Prelude.{◌≡◌, ℕ, ◌*◌, ◌<◌, ◌≤◌, length, All};
 ghost use Rattle.complex_box.specs.Box.{BoxWithin};
 ghost use Rattle.field_basis.specs.Counts.{pairs_of_target};
 ghost use Rattle.field_basis.specs.FieldPlaces.{AreAllLocalPlaces, AreAllMultipolePlaces, AreAllPairs, AreTargetBoxes, BoxesContain};
+ghost use Rattle.limits.specs.Limits.{most_box};
 ghost use Rattle.places.specs.Target.{all_pairs, target_at, values_of};
 
 use crate::value::target_value;
@@ -11,7 +12,8 @@ use field_basis::Basis;
 use places::{Place, TargetPlace};
 
 /// Writes the box of each target, in the order of the list, and the pairs that were summed for it: together those of the U entries of all
-/// cells. The boxes are those of the field and contain the direct sums at the targets, and no end is larger than 2^84 in size.
+/// cells. The boxes are those of the field and contain the direct sums at the targets, and no end is larger in size
+/// than the limit of the grid.
 ///
 /// Conditions: `up` holds the multipole rows of all cells and `local` their local rows and radii, and there is a place for each target.
 pub fn value_pass<const P: usize>(
@@ -25,7 +27,7 @@ pub fn value_pass<const P: usize>(
     requires len { length values.old ≡ length basis.now.targets }
     ensures values { AreTargetBoxes P basis.now (values_of values.new) }
     ensures contains { BoxesContain basis.now.points (values_of values.new) }
-    ensures size { All (BoxWithin (2 ^ 84)) (values_of values.new) }
+    ensures size { All (BoxWithin (most_box basis.now.tree.grid)) (values_of values.new) }
     ensures each { (k : ℕ) → k < length basis.now.targets → (target_at values.new k).pairs ≡ pairs_of_target basis.now k }
     ensures pairs { AreAllPairs basis.now (all_pairs values.new) }
     ensures few { all_pairs values.new ≤ length basis.now.targets * length basis.now.points }

@@ -4,8 +4,10 @@ ghost use Rattle.exact_math.specs.Ends.{add_box};
 ghost use Rattle.cell_lists.specs.ListAt.{list_at};
 ghost use Rattle.complex_box.specs.Box.{box_ends, BoxWithin};
 ghost use Rattle.field_basis.specs.Counts.{paired, count_apart};
+ghost use Rattle.limits.specs.Grid.{IsInGrid};
+ghost use Rattle.limits.specs.Limits.{most_points, widest_grid};
 ghost use Rattle.near_field.specs.Pair.{pair_box};
-ghost use Rattle.points.specs.Limits.{InGrid, InRange, most_points};
+ghost use Rattle.points.specs.Limits.{InRange};
 ghost use Rattle.points.specs.Points.{is_source, place};
 ghost use Rattle.quadtree.specs.TreeModel.{size};
 ghost use Rattle.soundness.specs.Computed.{total_box};
@@ -18,8 +20,8 @@ use points::Point;
 
 /// The sum and the box of the pair of the point and the target, where the point is a source.
 fn with_pair(sum: CBox, p: &Point, target: &Point, work: &mut Work) -> CBox
-    requires range { InRange p.now }
-    requires grid { InGrid target.now.x target.now.y }
+    requires range { InRange widest_grid p.now }
+    requires grid { IsInGrid widest_grid target.now.x target.now.y }
     requires size { BoxWithin (2 ^ 100) sum }
     requires room { work.old.pairs < 2 ^ 63 }
     ensures ends { box_ends result ≡ fold (λ b q. add_box b (pair_box (place target.now) q)) (box_ends sum) (filter (λ q. is_source q.kind) (p.now ∷ [])) }
@@ -35,12 +37,12 @@ fn with_pair(sum: CBox, p: &Point, target: &Point, work: &mut Work) -> CBox
 /// The sum of the boxes of the pairs with the sources of the cell `c`.
 fn cell_pairs<const P: usize>(basis: &Basis<P>, c: usize, target: &Point, work: &mut Work) -> CBox
     requires number { c < size basis.now.tree }
-    requires grid { InGrid target.now.x target.now.y }
-    requires room { work.old.pairs + most_points < 2 ^ 63 }
+    requires grid { IsInGrid widest_grid target.now.x target.now.y }
+    requires room { work.old.pairs + most_points widest_grid < 2 ^ 63 }
     ensures ends { box_ends result ≡ pairs_of_cell basis.now (place target.now) c }
-    ensures size { BoxWithin (2 ^ 83) result }
+    ensures size { BoxWithin (2 ^ 67 * most_points widest_grid) result }
     ensures work { work.new ≡ paired (count_of_cell basis.now (place target.now) c) work.old }
-    ensures few { work.new.pairs ≤ work.old.pairs + most_points }
+    ensures few { work.new.pairs ≤ work.old.pairs + most_points widest_grid }
 {
     let mut sum = CBox::zero();
     for k in basis.tree.members(c) {
@@ -57,10 +59,10 @@ pub(crate) fn u_pairs<const P: usize>(
     work: &mut Work,
 ) -> CBox
     requires number { leaf < size basis.now.tree }
-    requires grid { InGrid target.now.x target.now.y }
+    requires grid { IsInGrid widest_grid target.now.x target.now.y }
     requires room { work.old.pairs < 2 ^ 62 }
     ensures ends { box_ends result ≡ total_box (pairs_of_cell basis.now (place target.now)) (list_at basis.now.lists.u leaf) }
-    ensures size { BoxWithin (2 ^ 99) result }
+    ensures size { BoxWithin (2 ^ 101) result }
     ensures work { work.new ≡ paired (sum_by (count_of_cell basis.now (place target.now)) (list_at basis.now.lists.u leaf)) work.old }
 {
     let mut sum = CBox::zero();

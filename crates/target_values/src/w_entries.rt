@@ -5,8 +5,8 @@ ghost use Rattle.cell_name.specs.Square.{side, Holds};
 ghost use Rattle.complex_box.specs.Box.{box_ends, BoxWithin};
 ghost use Rattle.exact_math.specs.Within.{GaussianBeyond};
 ghost use Rattle.field_basis.specs.FieldPlaces.{AreMultipolePlaces, IsMultipolePlace};
+ghost use Rattle.limits.specs.Grid.{IsInGrid};
 ghost use Rattle.places.specs.Place.{place_at};
-ghost use Rattle.points.specs.Limits.{InGrid};
 ghost use Rattle.points.specs.Points.{place};
 ghost use Rattle.quadtree.specs.TreeModel.{size, square_of};
 ghost use Rattle.soundness.specs.Computed.{total_box};
@@ -25,10 +25,10 @@ fn w_value<const P: usize>(basis: &Basis<P>, up: &[Place<P>], c: usize, target: 
     requires number { c < size basis.now.tree }
     requires few { c < length up.now }
     requires row { IsMultipolePlace P basis.now.points basis.now.tree c (place_at up.now c) }
-    requires grid { InGrid target.now.x target.now.y }
+    requires grid { IsInGrid basis.now.tree.grid target.now.x target.now.y }
     requires far { GaussianBeyond (3 * side (square_of basis.now.tree c)) (offset (square_of basis.now.tree c) (place target.now)) }
     ensures ends { box_ends result ≡ value_of_cell P basis.now (place target.now) c }
-    ensures size { BoxWithin (2 ^ 80) result }
+    ensures size { BoxWithin (2 ^ 83) result }
 {
     at_multipole(up[c].row(), basis.tree.cells()[c], target.x, target.y)
 }
@@ -42,10 +42,10 @@ pub(crate) fn w_values<const P: usize>(
 ) -> CBox
     requires number { leaf < size basis.now.tree }
     requires rows { AreMultipolePlaces P basis.now.points basis.now.tree up.now (list_at basis.now.lists.w leaf) }
-    requires grid { InGrid target.now.x target.now.y }
+    requires grid { IsInGrid basis.now.tree.grid target.now.x target.now.y }
     requires held { Holds (square_of basis.now.tree leaf) target.now.x target.now.y }
     ensures ends { box_ends result ≡ total_box (value_of_cell P basis.now (place target.now)) (list_at basis.now.lists.w leaf) }
-    ensures size { BoxWithin (2 ^ 96) result }
+    ensures size { BoxWithin (2 ^ 100) result }
 {
     let mut sum = CBox::zero();
     for c in basis.lists.w_list(leaf) {
@@ -57,9 +57,8 @@ pub(crate) fn w_values<const P: usize>(
 /// Adds what the entry of the cell `c` and far places can lose.
 fn add_loss<const P: usize>(basis: &Basis<P>, c: usize, ledger: &mut Ledger)
     requires number { c < size basis.now.tree }
-    requires room { ledger.old < 2 ^ 99 }
-    ensures added { ledger.new ≡ ledger.old + loss_of_cell P basis.now c }
-    ensures little { loss_of_cell P basis.now c ≤ 2 ^ 73 }
+    requires room { ledger.old + loss_of_cell P basis.now c < 2 ^ 100 }
+    ensures { ledger.new ≡ ledger.old + loss_of_cell P basis.now c }
 {
     ledger.add_single(basis.weights[c], basis.tree.cells()[c].side(), P as u32);
 }

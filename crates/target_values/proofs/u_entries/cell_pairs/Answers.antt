@@ -6,6 +6,8 @@ use Rattle.field_basis.specs.Basis.{BasisModel, IsBasis}
 use Rattle.field_basis.specs.Counts.{paired, sources_at, count_apart}
 use Rattle.field_basis.specs.Targets.{no_point, point_at}
 use Rattle.near_field.specs.Pair.{pair_box}
+use Rattle.limits.specs.Limits.{widest_grid}
+use Rattle.points.proofs.Ranges.{range_in_widest}
 use Rattle.points.specs.Limits.{InRange}
 use Rattle.points.specs.Points.{place}
 use Rattle.points.specs.declared.Point.{Point}
@@ -33,8 +35,8 @@ with_pair-sum-requires-clause-range g c =
     let is : IsBasis g.row.P b = subst (IsBasis g.row.P) c.basis.view_is c.basis.invariant in
     let same = c.members-k-items.ensures ∙ ap (λ (b : BasisModel). (node_of b.tree c.args.c).members) c.basis.view_is in
     let here = member_below g.row.P b is c.args.c c.requires.number c.members-k-items.result.now same c.loop-k.k-index c.loop-k-test.true in
-    subst InRange (sym c.index.ensures)
-    (c.basis.invariant.tree_is.tree_is.range (get_or c.members-k-items.result.now c.loop-k.k-index 0) c.index.result.now (subst (λ (b : BasisModel). get_or c.members-k-items.result.now c.loop-k.k-index 0 < length b.points) (sym c.basis.view_is) here))
+    subst (InRange widest_grid) (sym c.index.ensures)
+    (range_in_widest c.basis.inside.tree.grid _ c.basis.invariant.is_tree.known_grid (c.basis.invariant.tree_is.tree_is.within.range (get_or c.members-k-items.result.now c.loop-k.k-index 0) c.index.result.now (subst (λ (b : BasisModel). get_or c.members-k-items.result.now c.loop-k.k-index 0 < length b.points) (sym c.basis.view_is) here)))
 
 pub with_pair-sum-requires-clause-size : goal.with_pair-sum-requires-clause-size
 with_pair-sum-requires-clause-size g c =

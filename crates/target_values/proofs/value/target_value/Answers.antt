@@ -14,6 +14,7 @@ use Rattle.field_basis.specs.Basis.{BasisModel, IsBasis, target_leaf}
 use Rattle.field_basis.specs.Counts.{paired}
 use Rattle.field_basis.specs.FieldPlaces.{AreMultipolePlaces, IsTargetBox}
 use Rattle.field_sizes.proofs.RowTotals.{wider}
+use Rattle.limits.specs.Limits.{most_local, widest_grid}
 use Rattle.places.specs.Place.{PlaceModel, place_at}
 use Rattle.points.specs.Points.{place}
 use Rattle.points.specs.declared.Point.{Point}
@@ -24,7 +25,7 @@ use Rattle.row_recursions.specs.Rows.{row_of, local_value}
 use Rattle.row_recursions.specs.Sizes.{RowWithin}
 use Rattle.soundness.specs.Computed.{total_box}
 use Rattle.soundness.specs.Squares.{offset}
-use Rattle.target_values.proofs.FieldBox.{leaf_below, leaf_holds, target_in_grid, local_small, box_is, box_contains, box_small}
+use Rattle.target_values.proofs.FieldBox.{leaf_below, leaf_holds, target_in_grid, target_in_widest, local_small, box_is, box_contains, box_small}
 use Rattle.target_values.proofs.Losses.{lost_is}
 use Rattle.target_values.proofs.Read.{place_read, cell_read, position_below, target_read, leaf_read}
 use Rattle.target_values.specs.Values.{value_of_cell, pairs_of_cell, count_of_cell, loss_of_cell}
@@ -65,14 +66,14 @@ at_local-value-requires g c =
     let kept : PlaceModel = place_at c.args.local.now (target_leaf b c.args.k) in
     let kept_is : c.index-local-leaf.result ≡ kept = place_read c.args.local.now c.leaf_of-leaf.result c.index-local-leaf.result (omega (arith, leaf, c.requires.leaf.in_range)) c.index-local-leaf.is ∙ ap (place_at c.args.local.now) leaf in
     let row_is : c.row.result.cells.now ≡ kept.row = c.row.ensures ∙ ap (λ (p : PlaceModel). p.row) kept_is in
-    let small = subst (λ (cells : List CBox). RowWithin g.row.P (2 ^ 82) (row_of cells)) (sym row_is) (local_small g.row.P b is c.args.k c.requires.target kept c.requires.leaf.place_is) in
-    let grid = target_in_grid g.row.P b is c.args.k c.requires.target c.index-target.result.now target_is in
+    let small = subst (λ (cells : List CBox). RowWithin g.row.P (most_local widest_grid) (row_of cells)) (sym row_is) (local_small g.row.P b is c.args.k c.requires.target kept c.requires.leaf.place_is) in
+    let grid = target_in_widest g.row.P b is c.args.k c.requires.target c.index-target.result.now target_is in
     let f = grid_fits c.index-target.result.now.x c.index-target.result.now.y grid in
     let x = f.0 in
     let y = f.1 in
     let held = leaf_holds g.row.P b is c.args.k c.requires.target c.leaf_of-leaf.result leaf c.index-target.result.now target_is in
     let inside = subst (λ s. Holds s c.index-target.result.now.x c.index-target.result.now.y) (sym read) held in
-    simp to_z-of_z (search rules, (is.order, (inside, wider g.row.P (2 ^ 82) (2 ^ 90) _ (omega arith) small)))
+    simp to_z-of_z (search rules, (is.order, (inside, wider g.row.P (most_local widest_grid) (2 ^ 90) _ (omega arith) small)))
 
 pub w_values-far-requires : goal.w_values-far-requires
 w_values-far-requires g c =
@@ -94,7 +95,7 @@ u_pairs-near-requires g c =
     let target_is = target_read c.basis.view_is g.row.P is c.args.k c.requires.target c.index.result.now c.index.ensures c.index-target.result.now c.index-target.ensures in
     let leaf = leaf_read c.basis.view_is g.row.P is c.args.k c.requires.target c.index.result.now c.index.ensures c.leaf_of-leaf.result c.leaf_of-leaf.ensures in
     let in_tree = leaf_below g.row.P b is c.args.k c.requires.target c.leaf_of-leaf.result leaf in
-    let grid = target_in_grid g.row.P b is c.args.k c.requires.target c.index-target.result.now target_is in
+    let grid = target_in_widest g.row.P b is c.args.k c.requires.target c.index-target.result.now target_is in
     (search rules, (in_tree, (grid, c.requires.room)))
 
 pub w_radius-requires : goal.w_radius-requires
@@ -107,7 +108,7 @@ w_radius-requires g c =
 
 pub add-requires : goal.add-requires
 add-requires g c =
-    box_wider _ _ _ (omega arith) (add_box_within (2 ^ 96) (2 ^ 99) (box_ends c.w_values-far.result) (box_ends c.u_pairs-near.result) c.w_values-far.ensures.size c.u_pairs-near.ensures.size)
+    box_wider _ _ _ (omega arith) (add_box_within (2 ^ 100) (2 ^ 101) (box_ends c.w_values-far.result) (box_ends c.u_pairs-near.result) c.w_values-far.ensures.size c.u_pairs-near.ensures.size)
 
 pub add-requires-2 : goal.add-requires-2
 add-requires-2 g c =
@@ -118,11 +119,11 @@ add-requires-2 g c =
     let kept : PlaceModel = place_at c.args.local.now (target_leaf b c.args.k) in
     let kept_is : c.index-local-leaf.result ≡ kept = place_read c.args.local.now c.leaf_of-leaf.result c.index-local-leaf.result (omega (arith, leaf, c.requires.leaf.in_range)) c.index-local-leaf.is ∙ ap (place_at c.args.local.now) leaf in
     let row_is : c.row.result.cells.now ≡ kept.row = c.row.ensures ∙ ap (λ (p : PlaceModel). p.row) kept_is in
-    let small = subst (λ (cells : List CBox). RowWithin g.row.P (2 ^ 82) (row_of cells)) (sym row_is) (local_small g.row.P b is c.args.k c.requires.target kept c.requires.leaf.place_is) in
-    let inner = subst (BoxEndsWithin (2 ^ 96 + 2 ^ 99)) (sym c.add.ensures.ends) (add_box_within (2 ^ 96) (2 ^ 99) (box_ends c.w_values-far.result) (box_ends c.u_pairs-near.result) c.w_values-far.ensures.size c.u_pairs-near.ensures.size) in
+    let small = subst (λ (cells : List CBox). RowWithin g.row.P (most_local widest_grid) (row_of cells)) (sym row_is) (local_small g.row.P b is c.args.k c.requires.target kept c.requires.leaf.place_is) in
+    let inner = subst (BoxEndsWithin (2 ^ 100 + 2 ^ 101)) (sym c.add.ensures.ends) (add_box_within (2 ^ 100) (2 ^ 101) (box_ends c.w_values-far.result) (box_ends c.u_pairs-near.result) c.w_values-far.ensures.size c.u_pairs-near.ensures.size) in
     let orders = order_bounds g.row.P is.order in
-    let first = box_wider (g.row.P * 2 ^ 82) (2 ^ 88) _ (omega (arith, orders)) (c.at_local-value.ensures.size (2 ^ 82) small) in
-    let sum = add_box_within (2 ^ 88) (2 ^ 96 + 2 ^ 99) (box_ends c.at_local-value.result) (box_ends c.add.result) first inner in
+    let first = box_wider (g.row.P * most_local widest_grid) (2 ^ 91) _ (omega (arith, orders)) (c.at_local-value.ensures.size (most_local widest_grid) small) in
+    let sum = add_box_within (2 ^ 91) (2 ^ 100 + 2 ^ 101) (box_ends c.at_local-value.result) (box_ends c.add.result) first inner in
     box_wider _ _ _ (omega arith) sum
 
 pub widen-requires-clause-fits : goal.widen-requires-clause-fits
@@ -134,19 +135,19 @@ widen-requires-clause-fits g c =
     let kept : PlaceModel = place_at c.args.local.now (target_leaf b c.args.k) in
     let kept_is : c.index-local-leaf.result ≡ kept = place_read c.args.local.now c.leaf_of-leaf.result c.index-local-leaf.result (omega (arith, leaf, c.requires.leaf.in_range)) c.index-local-leaf.is ∙ ap (place_at c.args.local.now) leaf in
     let row_is : c.row.result.cells.now ≡ kept.row = c.row.ensures ∙ ap (λ (p : PlaceModel). p.row) kept_is in
-    let small = subst (λ (cells : List CBox). RowWithin g.row.P (2 ^ 82) (row_of cells)) (sym row_is) (local_small g.row.P b is c.args.k c.requires.target kept c.requires.leaf.place_is) in
-    let inner = subst (BoxEndsWithin (2 ^ 96 + 2 ^ 99)) (sym c.add.ensures.ends) (add_box_within (2 ^ 96) (2 ^ 99) (box_ends c.w_values-far.result) (box_ends c.u_pairs-near.result) c.w_values-far.ensures.size c.u_pairs-near.ensures.size) in
+    let small = subst (λ (cells : List CBox). RowWithin g.row.P (most_local widest_grid) (row_of cells)) (sym row_is) (local_small g.row.P b is c.args.k c.requires.target kept c.requires.leaf.place_is) in
+    let inner = subst (BoxEndsWithin (2 ^ 100 + 2 ^ 101)) (sym c.add.ensures.ends) (add_box_within (2 ^ 100) (2 ^ 101) (box_ends c.w_values-far.result) (box_ends c.u_pairs-near.result) c.w_values-far.ensures.size c.u_pairs-near.ensures.size) in
     let orders = order_bounds g.row.P is.order in
-    let first = box_wider (g.row.P * 2 ^ 82) (2 ^ 88) _ (omega (arith, orders)) (c.at_local-value.ensures.size (2 ^ 82) small) in
-    let sum = add_box_within (2 ^ 88) (2 ^ 96 + 2 ^ 99) (box_ends c.at_local-value.result) (box_ends c.add.result) first inner in
+    let first = box_wider (g.row.P * most_local widest_grid) (2 ^ 91) _ (omega (arith, orders)) (c.at_local-value.ensures.size (most_local widest_grid) small) in
+    let sum = add_box_within (2 ^ 91) (2 ^ 100 + 2 ^ 101) (box_ends c.at_local-value.result) (box_ends c.add.result) first inner in
     let m : ℕ = c.index-local-leaf.result.radius in
     let n : ℕ = sum_by (loss_of_cell g.row.P b) (list_at b.lists.w c.leaf_of-leaf.result) in
     let few : n ≤ 2 ^ 90 = omega (arith, ints, c.w_radius.ensures.sum, c.w_radius.ensures.size) in
     let lost = lost_is c.radius.result c.w_radius.result m n c.radius.ensures.radius c.w_radius.ensures.sum c.radius.ensures.bound few in
-    let whole = subst (BoxEndsWithin (2 ^ 88 + (2 ^ 96 + 2 ^ 99))) (sym c.add-2.ensures.ends) sum in
+    let whole = subst (BoxEndsWithin (2 ^ 91 + (2 ^ 100 + 2 ^ 101))) (sym c.add-2.ensures.ends) sum in
     let little : Within (2 ^ 91) (pos (m + n)) = record { above = omega (arith, ints, c.radius.ensures.bound, few); below = omega (arith, ints, c.radius.ensures.bound, few) } in
     subst (λ r. BoxEndsWithin (2 ^ 126) (widen_box (box_ends c.add-2.result) r)) (sym lost)
-    (box_wider _ _ _ (omega arith) (widen_box_within (2 ^ 88 + (2 ^ 96 + 2 ^ 99)) (2 ^ 91) (box_ends c.add-2.result) _ whole little))
+    (box_wider _ _ _ (omega arith) (widen_box_within (2 ^ 91 + (2 ^ 100 + 2 ^ 101)) (2 ^ 91) (box_ends c.add-2.result) _ whole little))
 
 pub returns : goal.returns
 returns g c =
@@ -159,7 +160,7 @@ returns g c =
     let kept : PlaceModel = place_at c.args.local.now (target_leaf b c.args.k) in
     let kept_is : c.index-local-leaf.result ≡ kept = place_read c.args.local.now c.leaf_of-leaf.result c.index-local-leaf.result (omega (arith, leaf, c.requires.leaf.in_range)) c.index-local-leaf.is ∙ ap (place_at c.args.local.now) leaf in
     let row_is : c.row.result.cells.now ≡ kept.row = c.row.ensures ∙ ap (λ (p : PlaceModel). p.row) kept_is in
-    let grid = target_in_grid g.row.P b is c.args.k c.requires.target c.index-target.result.now target_is in
+    let grid = target_in_widest g.row.P b is c.args.k c.requires.target c.index-target.result.now target_is in
     let f = grid_fits c.index-target.result.now.x c.index-target.result.now.y grid in
     let x = f.0 in
     let y = f.1 in

@@ -1,9 +1,9 @@
-use Rattle.std.proofs.Common.{◌∙◌, ◌+◌, ◌≤◌, ◌^◌, ap, subst, arith, to_z-of_z, SFits, w64}
+use Rattle.std.proofs.Common.{◌∙◌, ◌+◌, ap, subst, arith, to_z-of_z, SFits, w64}
 use Rattle.std.specs.Int.{w128}
 use Rattle.std.proofs.lemmas.Int.{ints}
 use Rattle.cell_name.specs.Cell.{square}
 use Rattle.field_basis.specs.Basis.{IsBasis}
-use Rattle.target_values.proofs.Losses.{loss_at, weight_small, loss_is}
+use Rattle.target_values.proofs.Losses.{weight_small, loss_is}
 use Rattle.target_values.proofs.Read.{cell_read, weight_read}
 use Rattle.target_values.proofs.w_entries.add_loss.Goals as goal
 
@@ -15,11 +15,12 @@ add_single-requires-clause-room g c =
     let weight = weight_small g.row.P b is c.args.c c.requires.number c.index.result.now read_weight in
     let w : SFits w128 c.index.result.now = omega (arith, ints, weight.least, weight.most) in
     let s : SFits w64 c.side.result = omega (arith, ints, c.side.ensures.at_least, c.side.ensures.at_most) in
-    let l = loss_at c.index.result.now g.row.P c.side.result weight c.side.ensures.at_least c.side.ensures.at_most in
+    let read = cell_read c.basis.view_is c.args.c c.requires.number c.cells.result.now c.index-cells-c.result c.cells.ensures.all c.index-cells-c.is in
+    let l = loss_is g.row.P b is c.args.c c.requires.number c.index.result.now read_weight c.side.result (square c.index-cells-c.result) c.side.ensures.value read in
     simp to_z-of_z (omega (arith, l, c.requires.room))
 
-pub returns-clause-added : goal.returns-clause-added
-returns-clause-added g c =
+pub returns : goal.returns
+returns g c =
     let b = c.args.basis.now in
     let is : IsBasis g.row.P b = subst (IsBasis g.row.P) c.basis.view_is c.basis.invariant in
     let read_weight = weight_read c.basis.view_is c.args.c (omega (arith, is.weight_each, c.requires.number)) c.index.result.now c.index.ensures in
@@ -29,12 +30,3 @@ returns-clause-added g c =
     let read = cell_read c.basis.view_is c.args.c c.requires.number c.cells.result.now c.index-cells-c.result c.cells.ensures.all c.index-cells-c.is in
     let e = simp to_z-of_z at c.add_single.ensures.added in
     e ∙ ap (λ n. c.args.ledger.now + n) (loss_is g.row.P b is c.args.c c.requires.number c.index.result.now read_weight c.side.result (square c.index-cells-c.result) c.side.ensures.value read)
-
-pub returns-clause-little : goal.returns-clause-little
-returns-clause-little g c =
-    let b = c.args.basis.now in
-    let is : IsBasis g.row.P b = subst (IsBasis g.row.P) c.basis.view_is c.basis.invariant in
-    let read_weight = weight_read c.basis.view_is c.args.c (omega (arith, is.weight_each, c.requires.number)) c.index.result.now c.index.ensures in
-    let read = cell_read c.basis.view_is c.args.c c.requires.number c.cells.result.now c.index-cells-c.result c.cells.ensures.all c.index-cells-c.is in
-    subst (λ n. n ≤ 2 ^ 73) (loss_is g.row.P b is c.args.c c.requires.number c.index.result.now read_weight c.side.result (square c.index-cells-c.result) c.side.ensures.value read)
-    (loss_at c.index.result.now g.row.P c.side.result (weight_small g.row.P b is c.args.c c.requires.number c.index.result.now read_weight) c.side.ensures.at_least c.side.ensures.at_most)

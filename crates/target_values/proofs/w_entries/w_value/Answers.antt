@@ -7,8 +7,12 @@ use Rattle.complex_box.proofs.Sizes.{box_wider}
 use Rattle.complex_box.specs.declared.CBox.{CBox}
 use Rattle.field_basis.specs.Basis.{IsBasis}
 use Rattle.field_sizes.proofs.RowTotals.{wider}
+use Rattle.limits.proofs.Grids.{in_widest}
+use Rattle.limits.specs.Grid.{IsInGrid}
+use Rattle.limits.specs.Limits.{most_multipole, widest_grid}
 use Rattle.places.specs.Place.{PlaceModel, place_at}
 use Rattle.points.specs.Points.{place}
+use Rattle.quadtree.proofs.TreeChildren.{tree_cell_at}
 use Rattle.quadtree.specs.TreeModel.{square_of}
 use Rattle.row_recursions.proofs.Points.{grid_fits}
 use Rattle.row_recursions.specs.Cells.{side_of, offset_from}
@@ -25,7 +29,7 @@ pub at_multipole-requires : goal.at_multipole-requires
 at_multipole-requires g c =
     let b = c.args.basis.now in
     let is : IsBasis g.row.P b = subst (IsBasis g.row.P) c.basis.view_is c.basis.invariant in
-    let f = grid_fits c.args.target.now.x c.args.target.now.y c.requires.grid in
+    let f = grid_fits c.args.target.now.x c.args.target.now.y (in_widest b.tree.grid c.args.target.now.x c.args.target.now.y is.is_tree.known_grid c.requires.grid) in
     let x = f.0 in
     let y = f.1 in
     let read = cell_read c.basis.view_is c.args.c c.requires.number c.cells.result.now c.index-cells-c.result c.cells.ensures.all c.index-cells-c.is in
@@ -33,14 +37,16 @@ at_multipole-requires g c =
     let here : c.row.result.cells.now ≡ (place_at c.args.up.now c.args.c).row =
     c.row.ensures ∙ ap (λ (p : PlaceModel). p.row) (place_read c.args.up.now c.args.c c.index-up-c.result c.requires.few c.index-up-c.is) in
     let small = subst (λ (cells : List CBox). RowWithin g.row.P (2 ^ 80) (row_of cells)) (sym here)
-    (wider g.row.P (2 ^ 74) (2 ^ 80) _ (omega arith) (multipole_small g.row.P b is c.args.c c.requires.number (place_at c.args.up.now c.args.c) c.requires.row)) in
-    simp to_z-of_z (search rules, (is.order, (c.requires.grid, (far, small))))
+    (wider g.row.P (most_multipole widest_grid) (2 ^ 80) _ (omega arith) (multipole_small g.row.P b is c.args.c c.requires.number (place_at c.args.up.now c.args.c) c.requires.row)) in
+    let cell = tree_cell_at b.tree b.points b.cap c.args.c is.is_tree c.requires.number in
+    let grid = subst (λ n. IsInGrid n c.args.target.now.x c.args.target.now.y) (sym (ap (λ (q : Square). q.grid) read ∙ cell.of_grid)) c.requires.grid in
+    simp to_z-of_z (search rules, (is.order, (grid, (far, small))))
 
 pub returns-clause-ends : goal.returns-clause-ends
 returns-clause-ends g c =
     let b = c.args.basis.now in
     let is : IsBasis g.row.P b = subst (IsBasis g.row.P) c.basis.view_is c.basis.invariant in
-    let f = grid_fits c.args.target.now.x c.args.target.now.y c.requires.grid in
+    let f = grid_fits c.args.target.now.x c.args.target.now.y (in_widest b.tree.grid c.args.target.now.x c.args.target.now.y is.is_tree.known_grid c.requires.grid) in
     let x = f.0 in
     let y = f.1 in
     let read = cell_read c.basis.view_is c.args.c c.requires.number c.cells.result.now c.index-cells-c.result c.cells.ensures.all c.index-cells-c.is in
@@ -60,6 +66,6 @@ returns-clause-size g c =
     let is : IsBasis g.row.P b = subst (IsBasis g.row.P) c.basis.view_is c.basis.invariant in
     let here : c.row.result.cells.now ≡ (place_at c.args.up.now c.args.c).row =
     c.row.ensures ∙ ap (λ (p : PlaceModel). p.row) (place_read c.args.up.now c.args.c c.index-up-c.result c.requires.few c.index-up-c.is) in
-    let small = subst (λ (cells : List CBox). RowWithin g.row.P (2 ^ 74) (row_of cells)) (sym here) (multipole_small g.row.P b is c.args.c c.requires.number (place_at c.args.up.now c.args.c) c.requires.row) in
+    let small = subst (λ (cells : List CBox). RowWithin g.row.P (most_multipole widest_grid) (row_of cells)) (sym here) (multipole_small g.row.P b is c.args.c c.requires.number (place_at c.args.up.now c.args.c) c.requires.row) in
     let orders = order_bounds g.row.P is.order in
-    box_wider (g.row.P * 2 ^ 74) (2 ^ 80) _ (omega (arith, orders)) (c.at_multipole.ensures.size (2 ^ 74) small)
+    box_wider (g.row.P * most_multipole widest_grid) (2 ^ 83) _ (omega (arith, orders)) (c.at_multipole.ensures.size (most_multipole widest_grid) small)

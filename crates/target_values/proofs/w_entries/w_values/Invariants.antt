@@ -12,5 +12,5 @@ abbrev pub invariant-loop-c : goal.invariant-loop-c
 invariant-loop-c g l =
     record {
       ends : box_ends l.sum ≡ total_box (value_of_cell g.row.P l.basis (place l.target)) (take l.c-index (list_at l.basis.lists.w l.leaf));
-      size : BoxEndsWithin (2 ^ 80 * l.c-index) (box_ends l.sum);
+      size : BoxEndsWithin (2 ^ 83 * l.c-index) (box_ends l.sum);
     }

@@ -1,7 +1,8 @@
 -- The box is one of those that are small.
-use Rattle.std.proofs.Common.{◌^◌, ◌<◌, ◌∙◌, length, sym, ap, subst, arith}
+use Rattle.std.proofs.Common.{◌<◌, ◌∙◌, length, sym, ap, subst, arith}
 use Rattle.std.proofs.lemmas.List.{get_or-map, length-map}
 use Rattle.complex_box.specs.Box.{BoxWithin}
+use Rattle.limits.specs.Limits.{most_box}
 use Rattle.places.specs.Target.{TargetModel}
 use Rattle.solve_phase.specs.Parts.{FieldParts}
 use Rattle.solve_phase.proofs.field.Field.value.Goals as goal
@@ -14,4 +15,5 @@ returns-clause-size g c =
     let seen = ap (λ (f : FieldParts). length f.values) c.self.view_is in
     let lt : k < length items = omega (arith, seen, as_many, c.requires) in
     let read = get_or-map (λ (p : TargetModel). p.value) items k c.index.result.now c.value.result lt in
-    subst (BoxWithin (2 ^ 84)) (read ∙ ap (λ (p : TargetModel). p.value) (sym c.index.ensures) ∙ sym c.value.ensures) (c.self.invariant.small k c.value.result (omega (arith, as_many, lt)))
+    subst (λ (f : FieldParts). BoxWithin (most_box f.basis.tree.grid) c.value.result) c.self.view_is
+    (subst (BoxWithin (most_box c.self.inside.basis.tree.grid)) (read ∙ ap (λ (p : TargetModel). p.value) (sym c.index.ensures) ∙ sym c.value.ensures) (c.self.invariant.small k c.value.result (omega (arith, as_many, lt))))
