@@ -18,7 +18,8 @@ pub record FieldParts : Type 0 where
   pub translations : ℕ
   pub pairs : ℕ
 
--- there is a multipole place for each cell and a box for each target, the local places are those of the field, and no end of a box is larger in size than the limit of the grid
+-- there is a multipole place for each cell and a box for each target, the local places are those of the field,
+-- and no end of a box is larger in size than the limit of the grid
 pub record FitTogether (P : ℕ) (f : FieldParts) : Type 0 where
   pub basis_is : IsBasis P f.basis
   pub up_each : length f.up ≡ size f.basis.tree
