@@ -15,7 +15,7 @@ module _ (P : ℕ) (b : BasisModel) (is : IsBasis P b) where
   few_translations n lt = either (nat_lt 0 n && (node_of b.tree n).has_target)
     where
       either : (below : Bool) → cond {A = ℕ} below (1 + length (list_at b.lists.v n)) 0 ≤ 28
-      either true = omega (arith, is.tree_is.short n [] (listed P b is V n lt))
+      either true = omega (arith, is.short n [] (listed P b is V n lt))
       either false = omega arith
 
   module _ (old new : Counts) where

@@ -49,10 +49,10 @@ same_basis basis inside now here view = here ∙ ap (λ (b : BoardParts). b.basi
 -- lists and targets of a basis
 module _ (P : ℕ) (b : BasisModel) (is : IsBasis P b) where
   pub listed : (letter : Letter) (n : ℕ) → n < size b.tree → n < length (lists_of b.lists letter)
-  listed letter n lt = omega (arith, is.tree_is.lists_are.as_many letter)
+  listed letter n lt = omega (arith, is.lists_are.as_many letter)
 
   pub numbers : (letter : Letter) (n : ℕ) → n < size b.tree → All (λ c. c < size b.tree) (list_at (lists_of b.lists letter) n)
-  numbers letter n lt = (is.tree_is.lists_are.each b.points b.cap (inside P b is) is.is_tree letter n lt).numbers
+  numbers letter n lt = (is.lists_are.each b.points b.cap (inside P b is) is.is_tree letter n lt).numbers
 
   -- a position that was read
   pub target_read : (k target : ℕ) → k < length b.targets → target ≡ get_or b.targets k target → get_or b.targets k 0 ≡ target

@@ -7,7 +7,7 @@ use mathlib.Core.Logic.{⊎_elim}
 use Rattle.cell_lists.proofs.CellNumbers.{first_level}
 use Rattle.cell_lists.specs.ListAt.{list_at}
 use Rattle.field_basis.proofs.Sizes.{inside}
-use Rattle.field_basis.proofs.Trees.{some_tree}
+use Rattle.field_basis.proofs.Trees.{some_tree, tree_of_basis}
 use Rattle.field_basis.specs.Basis.{BasisModel, target_leaf}
 use Rattle.field_basis.specs.FieldPlaces.{AreMultipolePlaces, HasLocalPlace, IsMultipolePlace}
 use Rattle.letters.specs.declared.Letter.TheVariants.{V}
@@ -55,9 +55,9 @@ module _ (P : ℕ) (b : BoardParts) (is : IsBoard P b) where
     -- the root's V list is empty
     none_of_root : n < size b.basis.tree → n ≡ 0 → (m : ℕ) → Contains (list_at b.basis.lists.v n) m → ⊥
     none_of_root lt e m h =
-        let list = is.basis_is.tree_is.lists_are.each b.basis.points b.basis.cap (inside P b.basis is.basis_is) is.basis_is.is_tree V n lt in
+        let list = is.basis_is.lists_are.each b.basis.points b.basis.cap (inside P b.basis is.basis_is) is.basis_is.is_tree V n lt in
         let entry = (list.exact m (All-contains (λ c. c < size b.basis.tree) (list_at b.basis.lists.v n) m list.numbers h)).0 h in
-        let root : (square_of b.basis.tree n).level ≡ 0 = ap (λ j. (square_of b.basis.tree j).level) e ∙ first_level b.basis.tree (some_tree b.basis.points b.basis.tree is.basis_is.tree_is.tree_is) (omega arith) in
+        let root : (square_of b.basis.tree n).level ≡ 0 = ap (λ j. (square_of b.basis.tree j).level) e ∙ first_level b.basis.tree (some_tree b.basis.points b.basis.tree (tree_of_basis P b.basis is.basis_is)) (omega arith) in
         omega (arith, entry.pair.come_apart.below_root, root)
 
     pub far_stand : n < size b.basis.tree → AreMultipolePlaces P b.basis.points b.basis.tree b.up (list_at b.basis.lists.v n)

@@ -35,13 +35,13 @@ module _ (P : ℕ) (b : BasisModel) (is : IsBasis P b) where
 
   pub few_local : (n : ℕ) → n ≡ all_translations_into b → n ≤ most_cells widest_grid * 28
   few_local n e =
-      let v = sum_by-le (λ list. length list) 27 b.lists.v is.tree_is.short in
+      let v = sum_by-le (λ list. length list) 27 b.lists.v is.short in
       let t = count_by-le-length (λ n. nat_lt 0 n && (node_of b.tree n).has_target) (range_with_len 0 (size b.tree)) in
-      omega (arith, e, v, t, is.tree_is.lists_are.as_many V, length-range_with_len 0 (size b.tree), is.is_tree.few, (within_widest b.tree.grid is.is_tree.known_grid).cells)
+      omega (arith, e, v, t, is.lists_are.as_many V, length-range_with_len 0 (size b.tree), is.is_tree.few, (within_widest b.tree.grid is.is_tree.known_grid).cells)
 
   pub few_pairs : (n : ℕ) → n ≤ length b.targets * length b.points → n < 2 ^ 64
   few_pairs n le =
-      let points : length b.points ≤ most_points widest_grid = omega (arith, is.tree_is.tree_is.within.count, (within_widest b.tree.grid is.is_tree.known_grid).points) in
+      let points : length b.points ≤ most_points widest_grid = omega (arith, is.within.count, (within_widest b.tree.grid is.is_tree.known_grid).points) in
       let targets : length b.targets ≤ most_points widest_grid = omega (arith, ap length is.targets_are, few_positions b.points, points) in
       omega (arith, le, product (length b.targets) (length b.points) (most_points widest_grid) targets points)
     where
@@ -64,11 +64,11 @@ module _ (P : ℕ) (b : BasisModel) (is : IsBasis P b) where
         points_are = refl;
         cap_is = refl;
         is_tree = is.is_tree;
-        lists_are = is.tree_is.lists_are;
+        lists_are = is.lists_are;
         up_are = up_are;
         local_are = local_are;
         over = λ lists are.
-            let work = work_of_tree b.tree b.lists b.points b.cap lists (inside P b is) is.is_tree is.tree_is.lists_are are in
+            let work = work_of_tree b.tree b.lists b.points b.cap lists (inside P b is) is.is_tree is.lists_are are in
             let total : all_translations up + all_translations local ≡ translations b.points lists =
             ap₂ (λ m n. m + n) (ups ∙ sources_counted b.tree b.points b.cap (inside P b is) is.is_tree) locals ∙ sym work.translations_are in
             record {

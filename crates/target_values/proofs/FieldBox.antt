@@ -17,10 +17,7 @@ use Rattle.field_basis.proofs.Positions.{IsTargetPosition, position_at, leaf_at_
 use Rattle.field_basis.specs.Basis.{BasisModel, IsBasis, target_of, target_place, target_leaf}
 use Rattle.field_basis.specs.FieldPlaces.{HasLocalRow, IsLocalPlace, IsMultipolePlace, IsTargetBox}
 use Rattle.field_basis.specs.Targets.{no_point, point_at}
-use Rattle.field_sizes.proofs.Bounds.{boxes_within}
-use Rattle.field_sizes.proofs.Disjoint.{entries_share_no_source}
-use Rattle.field_sizes.proofs.EntrySums.{sum_by-entries}
-use Rattle.field_sizes.proofs.Radii.{single_radius-within}
+use Rattle.field_sizes.proofs.Bounds.{boxes_within, losses_within}
 use Rattle.field_sizes.specs.Sizes.{IsLimited, RowsWithin}
 use Rattle.letters.specs.declared.Letter.{Letter}
 use Rattle.letters.specs.declared.Letter.TheVariants.{U, W}
@@ -33,8 +30,6 @@ use Rattle.places.specs.Place.{PlaceModel}
 use Rattle.points.specs.Limits.{total_weight}
 use Rattle.points.specs.Points.{place}
 use Rattle.points.specs.declared.Point.{Point}
-use Rattle.quadtree.proofs.TreeChildren.{tree_cell_at}
-use Rattle.quadtree.specs.Tree.{IsTreeCell}
 use Rattle.quadtree.specs.TreeModel.{IsLeafOf, size, square_of}
 use Rattle.row_recursions.specs.Rows.{row_of, local_value, multipole_value}
 use Rattle.row_recursions.specs.Sizes.{RowWithin}
@@ -46,7 +41,7 @@ use Rattle.tree_field.proofs.EachList.{each_list_has_tree}
 use Rattle.tree_field.proofs.Program.{lists_of_tree, leaves_of_tree}
 use Rattle.tree_field.proofs.Sums.{total_box-map, sum_by-map}
 use Rattle.tree_field.proofs.Whole.{field_contains}
-use Rattle.field_basis.proofs.Sizes.{inside, some_lists, limited, within}
+use Rattle.field_basis.proofs.Sizes.{inside, some_lists, limited, tree_cell_of_lists, within}
 use Rattle.target_values.proofs.SameValues.{local_value-same}
 use Rattle.target_values.specs.Values.{value_of_cell, loss_of_cell, pairs_of_cell}
 
@@ -59,7 +54,7 @@ module _ (P : ℕ) (b : BasisModel) (is : IsBasis P b) where
   -- ---- the entries of a cell, by the numbers of their cells
   module _ (lists : TreeLists) (are : AreTreeLists b.tree.grid b.points b.cap lists) (n : ℕ) (lt : n < size b.tree) where
     entries_same : (letter : Letter) → lists.entries letter (square_of b.tree n) ≡ map (square_of b.tree) (list_at (lists_of b.lists letter) n)
-    entries_same letter = (lists_of_tree b.tree b.lists b.points b.cap lists (inside P b is) is.is_tree is.tree_is.lists_are are).entries letter n lt
+    entries_same letter = (lists_of_tree b.tree b.lists b.points b.cap lists (inside P b is) is.is_tree is.lists_are are).entries letter n lt
 
     pairs_same : (z : Gaussian) → total_box (pairs_of_cell b z) (list_at b.lists.u n) ≡ pairs_at b.points b.cap P lists (square_of b.tree n) z
     pairs_same z =
@@ -77,17 +72,16 @@ module _ (P : ℕ) (b : BasisModel) (is : IsBasis P b) where
         sym (ap (sum_by f) (entries_same W) ∙ sum_by-map f (square_of b.tree) (list_at b.lists.w n))
 
     -- no source stands in two entries
-    losses_within : sum_by (loss_of_cell P b) (list_at b.lists.w n) ≤ 2 ^ 40 * total_weight b.points
-    losses_within =
+    losses_light : sum_by (loss_of_cell P b) (list_at b.lists.w n) ≤ 2 ^ 40 * total_weight b.points
+    losses_light =
         let few = order_bounds P is.order in
-        let cell = subst (λ grid. IsTreeCell grid b.points b.cap (square_of b.tree n)) (sym are.of_grid) (tree_cell_at b.tree b.points b.cap n is.is_tree lt) in
-        let most = sum_by-entries entries_share_no_source b.points b.cap lists (limited P b is lists are) W (square_of b.tree n) cell P (2 ^ 40) (λ c. single_radius_in b.points P (side c) c) (omega (arith, few)) (λ c. single_radius-within b.points P c c) in
+        let most = losses_within b.points b.cap P lists (omega (arith, few)) (limited P b is lists are) (square_of b.tree n) (tree_cell_of_lists P b is lists are n lt) in
         omega (arith, losses_same, most)
 
   pub losses_small : (n : ℕ) → n < size b.tree → sum_by (loss_of_cell P b) (list_at b.lists.w n) ≤ 2 ^ 76
   losses_small n lt =
-      let most = losses_within (some_lists P b is).0 (some_lists P b is).1 n lt in
-      omega (arith, most, is.tree_is.tree_is.within.weight, (within_widest b.tree.grid is.is_tree.known_grid).weight)
+      let most = losses_light (some_lists P b is).0 (some_lists P b is).1 n lt in
+      omega (arith, most, is.within.weight, (within_widest b.tree.grid is.is_tree.known_grid).weight)
 
   -- the boxes of all targets
   pub boxes_small : All (λ t. BoxEndsWithin (most_box b.tree.grid) (target_box b.points b.cap P (some_lists P b is).0 (place t))) (targets b.points)
@@ -118,7 +112,7 @@ module _ (P : ℕ) (b : BasisModel) (is : IsBasis P b) where
       leaf_holds t e = subst (λ (p : Point). Holds (square_of b.tree n) p.x p.y) (sym e) (subst (λ n. Holds (square_of b.tree n) (target_of b k).x (target_of b k).y) (sym leaf) leaf_is.held)
 
     pub target_in_grid : (t : Point) → t ≡ target_of b k → IsInGrid b.tree.grid t.x t.y
-    target_in_grid t e = subst (λ (p : Point). IsInGrid b.tree.grid p.x p.y) (sym e) (is.tree_is.tree_is.within.range (get_or b.targets k 0) no_point position.inside).place
+    target_in_grid t e = subst (λ (p : Point). IsInGrid b.tree.grid p.x p.y) (sym e) (is.within.range (get_or b.targets k 0) no_point position.inside).place
 
     pub target_in_widest : (t : Point) → t ≡ target_of b k → IsInGrid widest_grid t.x t.y
     target_in_widest t e = in_widest b.tree.grid t.x t.y is.is_tree.known_grid (target_in_grid t e)

@@ -12,6 +12,7 @@ use Rattle.cell_lists.specs.Lists.{IsListOf}
 use Rattle.cell_lists.specs.ListAt.{list_at}
 use Rattle.field_basis.proofs.CellWeights.{position_inside}
 use Rattle.field_basis.proofs.Sizes.{inside}
+use Rattle.field_basis.proofs.Trees.{tree_of_basis}
 use Rattle.field_basis.specs.Basis.{BasisModel, IsBasis}
 use Rattle.letters.specs.declared.Letter.{Letter}
 use Rattle.limits.proofs.Grids.{within_widest}
@@ -40,7 +41,7 @@ module _ (P : ℕ) (b : BasisModel) (is : IsBasis P b) where
   -- ---- a list of entries, as it is read
   module _ (letter : Letter) (n : ℕ) (lt : n < size b.tree) (items : List ℕ) (are : items ≡ list_at (lists_of b.lists letter) n) where
     list_of : IsListOf b.tree b.points b.cap letter n items
-    list_of = subst (IsListOf b.tree b.points b.cap letter n) (sym are) (is.tree_is.lists_are.each b.points b.cap (inside P b is) is.is_tree letter n lt)
+    list_of = subst (IsListOf b.tree b.points b.cap letter n) (sym are) (is.lists_are.each b.points b.cap (inside P b is) is.is_tree letter n lt)
 
     pub number_below : (i : ℕ) → i < length items → get_or items i 0 < size b.tree
     number_below i l = list_of.numbers i 0 l
@@ -59,9 +60,9 @@ module _ (P : ℕ) (b : BasisModel) (is : IsBasis P b) where
       let f = length-filter p (range_with_len 0 (length b.points)) in
       let g = count_by-le-length p (range_with_len 0 (length b.points)) in
       let l = length-range_with_len 0 (length b.points) in
-      omega (arith, e, f, g, l, is.tree_is.tree_is.within.count, (within_widest b.tree.grid is.is_tree.known_grid).points)
+      omega (arith, e, f, g, l, is.within.count, (within_widest b.tree.grid is.is_tree.known_grid).points)
 
   pub member_below : (n : ℕ) → n < size b.tree → (members : List ℕ) → members ≡ (node_of b.tree n).members → (i : ℕ) → i < length members → get_or members i 0 < length b.points
   member_below n lt members are i l =
-      let here = position_inside b.points b.tree is.tree_is.tree_is n lt i (omega (arith, ap length are, l)) in
+      let here = position_inside b.points b.tree (tree_of_basis P b is) n lt i (omega (arith, ap length are, l)) in
       subst (λ (xs : List ℕ). get_or xs i 0 < length b.points) (sym are) here

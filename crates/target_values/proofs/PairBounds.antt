@@ -40,8 +40,8 @@ module _ (P : ℕ) (b : BasisModel) (is : IsBasis P b) where
       let g : ℕ → ℕ = λ c. count (sources_at b.points (node_of b.tree c).members) in
       let positive = grid_positive b.tree.grid is.is_tree.known_grid in
       let field = each_list_has_tree b.tree.grid b.points b.cap positive (inside P b is) in
-      let entries = (lists_of_tree b.tree b.lists b.points b.cap field.0 (inside P b is) is.is_tree is.tree_is.lists_are field.1).entries U n lt in
-      let below = (is.tree_is.lists_are.each b.points b.cap (inside P b is) is.is_tree U n lt).numbers in
+      let entries = (lists_of_tree b.tree b.lists b.points b.cap field.0 (inside P b is) is.is_tree is.lists_are field.1).entries U n lt in
+      let below = (is.lists_are.each b.points b.cap (inside P b is) is.is_tree U n lt).numbers in
       let near = sum_by-le-sum_by (count_of_cell b z) g (list_at b.lists.u n) (λ c. count_apart-le z (sources_at b.points (node_of b.tree c).members)) in
       let same : sum_by g (list_at b.lists.u n) ≡ sum_by f (field.0.entries U (square_of b.tree n)) =
       sum_by-same g (λ c. f (square_of b.tree c)) (list_at b.lists.u n) (λ i d l. ap count ((nodes_of_tree b.tree b.points b.cap (inside P b is) is.is_tree (get_or (list_at b.lists.u n) i d) (below i d l)).members no_point))

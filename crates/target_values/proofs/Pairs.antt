@@ -40,7 +40,7 @@ count_at b n k = sum_by (count_of_cell b (place (point_at b.points k))) (list_at
 
 module _ (P : ℕ) (b : BasisModel) (stands : IsBasis P b) where
   are : AreLists b.tree b.lists
-  are = stands.tree_is.lists_are
+  are = stands.lists_are
 
   h : IsTreeOf b.tree b.points b.cap
   h = stands.is_tree

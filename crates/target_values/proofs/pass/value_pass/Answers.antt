@@ -20,7 +20,7 @@ target_value-value-requires g c =
     let lt : k < length b.targets = omega (arith, c.loop-k-test.true, c.len-k-end.ensures, long, c.basis.inside.targets.ok.0) in
     let leaf = target_leaf b k in
     let in_tree = (leaf_is g.row.P b is k lt).in_range in
-    let below = (is.tree_is.lists_are.each b.points b.cap (inside g.row.P b is) is.is_tree W leaf in_tree).numbers in
+    let below = (is.lists_are.each b.points b.cap (inside g.row.P b is) is.is_tree W leaf in_tree).numbers in
     let orders = order_bounds g.row.P is.order in (
       search rules,
       (

@@ -36,7 +36,7 @@ with_pair-sum-requires-clause-range g c =
     let same = c.members-k-items.ensures ∙ ap (λ (b : BasisModel). (node_of b.tree c.args.c).members) c.basis.view_is in
     let here = member_below g.row.P b is c.args.c c.requires.number c.members-k-items.result.now same c.loop-k.k-index c.loop-k-test.true in
     subst (InRange widest_grid) (sym c.index.ensures)
-    (range_in_widest c.basis.inside.tree.grid _ c.basis.invariant.is_tree.known_grid (c.basis.invariant.tree_is.tree_is.within.range (get_or c.members-k-items.result.now c.loop-k.k-index 0) c.index.result.now (subst (λ (b : BasisModel). get_or c.members-k-items.result.now c.loop-k.k-index 0 < length b.points) (sym c.basis.view_is) here)))
+    (range_in_widest c.basis.inside.tree.grid _ c.basis.invariant.is_tree.known_grid (c.basis.invariant.within.range (get_or c.members-k-items.result.now c.loop-k.k-index 0) c.index.result.now (subst (λ (b : BasisModel). get_or c.members-k-items.result.now c.loop-k.k-index 0 < length b.points) (sym c.basis.view_is) here)))
 
 pub with_pair-sum-requires-clause-size : goal.with_pair-sum-requires-clause-size
 with_pair-sum-requires-clause-size g c =

@@ -18,7 +18,7 @@ use Rattle.target_values.proofs.u_entries.u_pairs.Goals as goal
 
 pub u_list-c-items-requires : goal.u_list-c-items-requires
 u_list-c-items-requires g c =
-    let e = c.basis.invariant.tree_is.lists_are.as_many U in
+    let e = c.basis.invariant.lists_are.as_many U in
     let same : size c.basis.inside.tree ≡ size c.args.basis.now.tree = ap (λ (b : BasisModel). size b.tree) c.basis.view_is in
     omega (arith, e, same, c.requires.number)
 

@@ -13,7 +13,7 @@ use Rattle.target_values.proofs.w_entries.w_radius.Goals as goal
 
 pub w_list-c-items-requires : goal.w_list-c-items-requires
 w_list-c-items-requires g c =
-    let e = c.basis.invariant.tree_is.lists_are.as_many W in
+    let e = c.basis.invariant.lists_are.as_many W in
     let same : size c.basis.inside.tree ≡ size c.args.basis.now.tree = ap (λ (b : BasisModel). size b.tree) c.basis.view_is in
     omega (arith, e, same, c.requires.number)
 

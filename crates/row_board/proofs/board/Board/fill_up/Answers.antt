@@ -4,6 +4,7 @@ use Rattle.std.proofs.lemmas.List.{with_items_is}
 use Rattle.std.specs.Prelude.{List}
 use Rattle.std.specs.Vec.{with_items}
 use Rattle.exact_math.proofs.Orders.{order_bounds}
+use Rattle.field_basis.proofs.Trees.{tree_of_basis}
 use Rattle.field_basis.specs.Basis.{BasisModel}
 use Rattle.field_basis.specs.Trees.{IsTreeOfPoints}
 use Rattle.points.specs.declared.Point.{Point}
@@ -27,7 +28,7 @@ fill_place-requires g c =
     let named = subst (λ (b : BoardParts). IsName b (Up n)) (sym c.self.view_is) c.requires.name in
     let ready = subst (λ (b : BoardParts). AreFilled b (needs b (Up n))) (sym c.self.view_is) c.requires.ready in
     let trees = ap (λ (b : BasisModel). size b.tree) c.basis.view_is in
-    let tree = subst (λ (l : List Point). IsTreeOfPoints l c.basis.inside.tree) (sym c.deref.ensures.value) c.basis.invariant.tree_is.tree_is in
+    let tree = subst (λ (l : List Point). IsTreeOfPoints l c.basis.inside.tree) (sym c.deref.ensures.value) (tree_of_basis P _ c.basis.invariant) in
     let rows = quarters_stand P b is _ _ c.basis.view_is c.deref.ensures.value n _ c.deref_mut.ensures.value ready in
     (omega (arith, few), (is.basis_is.order, (tree, (omega (arith, trees, named.0), (ap length c.deref_mut.ensures.value ∙ is.up_each ∙ sym trees, (rows, c.requires.room))))))
 
