@@ -46,12 +46,12 @@ fn no_marks(alloc: Global, count: usize) -> Result<Vec<bool>, AllocError>
 impl<const P: usize> Board<P> {
     /// The board of a list of points with a leaf capacity, with no place filled.
     ///
-    /// Conditions: the list is within the limits of its text, `P` is one of the orders, and the capacity is 8 to 1024.
+    /// Conditions: the list is within the limits of its version, `P` is one of the orders, and the capacity is 8 to 1024.
     ///
     /// # Errors
     ///
-    /// Where too many points stand at one place, `Crowded` has the first such place by column and row, and how many they are; otherwise, where
-    /// the tree has too many cells for its grid, it is `Cells`. `Memory` is want of memory.
+    /// Where more than 4,096 points stand at one place, `Crowded` has the first such place by column and row, and how many they are; otherwise,
+    /// where the tree has more cells than `limits::most_cells` of its grid, it is `Cells`. `Memory` is want of memory.
     pub fn new(alloc: Global, points: &Points, cap: u32) -> Result<Board<P>, TreeFault>
         requires list { WithinLimits points.now }
         requires order { IsOrder P }

@@ -56,12 +56,12 @@ fn field_over<const P: usize>(
 /// The field of a list of points with a leaf capacity, at the order `P`. Each row is made once, level by level, and each box of a target then
 /// contains the direct sum at that target.
 ///
-/// Conditions: the list is within the limits of its text, `P` is one of the orders, and the capacity is 8 to 1024.
+/// Conditions: the list is within the limits of its version, `P` is one of the orders, and the capacity is 8 to 1024.
 ///
 /// # Errors
 ///
-/// Where too many points stand at one place, `Crowded` has the first such place by column and row, and how many they are; otherwise, where
-/// the tree has too many cells for its grid, it is `Cells`. `Memory` is want of memory.
+/// Where more than 4,096 points stand at one place, `Crowded` has the first such place by column and row, and how many they are; otherwise, where
+/// the tree has more cells than `limits::most_cells` of its grid, it is `Cells`. `Memory` is want of memory.
 pub fn solve<const P: usize>(
     alloc: Global,
     points: &Points,
