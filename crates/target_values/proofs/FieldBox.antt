@@ -10,7 +10,6 @@ use Rattle.exact_math.proofs.Orders.{order_bounds}
 use Rattle.cell_name.specs.Square.{Square, side, Holds}
 use Rattle.cell_lists.specs.EntryLists.{lists_of}
 use Rattle.cell_lists.specs.ListAt.{list_at}
-use Rattle.complex_box.proofs.Sizes.{box_wider}
 use Rattle.complex_box.specs.Box.{box_ends, BoxContains, BoxWithin}
 use Rattle.complex_box.specs.declared.CBox.{CBox}
 use Rattle.field_basis.proofs.Positions.{IsTargetPosition, position_at, leaf_at_position, has_target, targets_at}
@@ -18,7 +17,6 @@ use Rattle.field_basis.specs.Basis.{BasisModel, IsBasis, target_of, target_place
 use Rattle.field_basis.specs.FieldPlaces.{HasLocalRow, IsLocalPlace, IsMultipolePlace, IsTargetBox}
 use Rattle.field_basis.specs.Targets.{no_point, point_at}
 use Rattle.field_sizes.proofs.Bounds.{boxes_within, losses_within}
-use Rattle.field_sizes.specs.Sizes.{IsLimited, RowsWithin}
 use Rattle.letters.specs.declared.Letter.{Letter}
 use Rattle.letters.specs.declared.Letter.TheVariants.{U, W}
 use Rattle.limits.proofs.Grids.{grid_positive, in_widest, within_widest}
@@ -37,19 +35,17 @@ use Rattle.soundness.specs.Computed.{total_box}
 use Rattle.soundness.specs.Squares.{offset}
 use Rattle.tree_field.specs.Field.{sources_in, multipole_row, local_row, single_radius_in, multipole_values_at, pairs_at, leaf_at, box_in, target_box, targets}
 use Rattle.tree_field.specs.Lists.{TreeLists, AreTreeLists}
-use Rattle.tree_field.proofs.EachList.{each_list_has_tree}
 use Rattle.tree_field.proofs.Program.{lists_of_tree, leaves_of_tree}
 use Rattle.tree_field.proofs.Sums.{total_box-map, sum_by-map}
 use Rattle.tree_field.proofs.Whole.{field_contains}
-use Rattle.field_basis.proofs.Sizes.{inside, some_lists, limited, tree_cell_of_lists, within}
+use Rattle.field_basis.proofs.Sizes.{inside, some_lists, limited, tree_cell_of_lists, multipole_within, local_within}
 use Rattle.target_values.proofs.SameValues.{local_value-same}
 use Rattle.target_values.specs.Values.{value_of_cell, loss_of_cell, pairs_of_cell}
 
 module _ (P : ℕ) (b : BasisModel) (is : IsBasis P b) where
   -- ---- how large rows are
   pub multipole_small : (n : ℕ) → n < size b.tree → (place : PlaceModel) → IsMultipolePlace P b.points b.tree n place → RowWithin P (most_multipole widest_grid) (row_of place.row)
-  multipole_small n lt place here k l =
-      subst (BoxEndsWithin (most_multipole widest_grid)) (sym (here.row_is b.cap is.is_tree k l)) (box_wider _ _ _ (within_widest b.tree.grid is.is_tree.known_grid).multipole ((within P b is n lt).multipole k l))
+  multipole_small n lt place here k l = subst (BoxEndsWithin (most_multipole widest_grid)) (sym (here.row_is b.cap is.is_tree k l)) (multipole_within P b is n lt k l)
 
   -- ---- the entries of a cell, by the numbers of their cells
   module _ (lists : TreeLists) (are : AreTreeLists b.tree.grid b.points b.cap lists) (n : ℕ) (lt : n < size b.tree) where
@@ -122,9 +118,7 @@ module _ (P : ℕ) (b : BasisModel) (is : IsBasis P b) where
       row_here lists are = here.with_target (has_target b.points b.cap b.tree is.is_tree (get_or b.targets k 0) position) lists are
 
       pub local_small : RowWithin P (most_local widest_grid) (row_of place.row)
-      local_small i l =
-          subst (BoxEndsWithin (most_local widest_grid)) (sym ((row_here (some_lists P b is).0 (some_lists P b is).1).row_is i l))
-          (box_wider _ _ _ (within_widest b.tree.grid is.is_tree.known_grid).local ((within P b is (target_leaf b k) leaf_is.in_range).local i l))
+      local_small i l = subst (BoxEndsWithin (most_local widest_grid)) (sym ((row_here (some_lists P b is).0 (some_lists P b is).1).row_is i l)) (local_within P b is (target_leaf b k) leaf_is.in_range i l)
 
       -- the box that the parts make
       abbrev parts_make : BoxEnds

@@ -1,5 +1,5 @@
 //! The pairs of a target with the sources of its leaf's U entries.
-ghost use Rattle.std.specs.Prelude.{◌≡◌, ℕ, ◌+◌, ◌^◌, ◌<◌, ◌≤◌, [], ◌∷◌, filter, fold, sum_by};
+ghost use Rattle.std.specs.Prelude.{◌≡◌, ℕ, ◌+◌, ◌*◌, ◌^◌, ◌<◌, ◌≤◌, [], ◌∷◌, filter, fold, sum_by};
 ghost use Rattle.exact_math.specs.Ends.{add_box};
 ghost use Rattle.cell_lists.specs.ListAt.{list_at};
 ghost use Rattle.complex_box.specs.Box.{box_ends, BoxWithin};
