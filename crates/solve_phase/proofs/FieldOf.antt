@@ -1,5 +1,5 @@
 -- The field that finished places make.
-use Rattle.std.proofs.Common.{ℕ, ◌≡◌, ◌+◌, ◌*◌, ◌^◌, ◌≤◌, ◌<◌, List, length, map, refl, sym, ap, ap₂, ◌∙◌, subst, arith}
+use Rattle.std.proofs.Common.{ℕ, ◌≡◌, ◌+◌, ◌*◌, ◌^◌, ◌≤◌, ◌<◌, List, length, refl, sym, ap, ap₂, ◌∙◌, subst, arith}
 use Rattle.std.specs.Prelude.{All, sum_by, nat_lt, ◌&&◌, count_by}
 use Rattle.std.specs.List.{range_with_len}
 use Rattle.std.proofs.lemmas.List.{length-map}
@@ -20,7 +20,6 @@ use Rattle.places.specs.Target.{TargetModel, all_pairs, values_of}
 use Rattle.points.specs.declared.Point.{Point}
 use Rattle.quadtree.specs.TreeModel.{squares, size, node_of}
 use Rattle.tree_field.proofs.Work.{sources_counted, work_of_tree, translations_are_few}
-use Rattle.tree_field.specs.Lists.{TreeLists, AreTreeLists}
 use Rattle.tree_field.specs.Work.{translations}
 use Rattle.upward_rows.specs.Shifted.{is_shifted}
 use Rattle.solve_phase.specs.Field.{IsSolved}

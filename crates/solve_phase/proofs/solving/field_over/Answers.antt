@@ -1,14 +1,13 @@
 -- The places of each pass are those that the next one reads, and what they make is the field.
-use Rattle.std.proofs.Common.{rules, ◌≡◌, ◌∙◌, ◌+◌, List, length, sym, subst, ap, arith, lit<}
-use Rattle.std.specs.Prelude.{All, count_by}
+use Rattle.std.proofs.Common.{rules, ◌≡◌, ◌∙◌, List, sym, subst, ap, arith, lit<}
+use Rattle.std.specs.Prelude.{count_by}
 use Rattle.std.specs.Vec.{with_items}
 use Rattle.std.proofs.lemmas.List.{with_items_is}
 use Rattle.exact_math.proofs.Orders.{order_bounds}
-use Rattle.complex_box.specs.Box.{BoxWithin}
 use Rattle.field_basis.specs.Basis.{BasisModel}
-use Rattle.field_basis.specs.FieldPlaces.{AreAllMultipolePlaces, AreAllLocalPlaces, AreTargetBoxes, AreAllPairs}
+use Rattle.field_basis.specs.FieldPlaces.{AreAllMultipolePlaces, AreAllLocalPlaces}
 use Rattle.places.specs.Place.{PlaceModel, all_translations}
-use Rattle.places.specs.Target.{TargetModel, all_pairs, values_of}
+use Rattle.places.specs.Target.{TargetModel, all_pairs}
 use Rattle.points.specs.declared.Point.{Point}
 use Rattle.quadtree.specs.TreeModel.{squares}
 use Rattle.upward_rows.specs.Shifted.{is_shifted}

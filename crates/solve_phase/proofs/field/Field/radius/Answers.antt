@@ -1,5 +1,5 @@
 -- A cell without a target has the radius 0.
-use Rattle.std.proofs.Common.{◌≡◌, ◌<◌, ◌∙◌, length, true, false, ap, sym, subst, pos, arith}
+use Rattle.std.proofs.Common.{◌≡◌, ◌<◌, ◌∙◌, length, ap, sym, subst, arith}
 use Rattle.std.proofs.lemmas.Bool.{true≢false}
 use Rattle.std.proofs.lemmas.Int.{ints}
 use Rattle.std.proofs.lemmas.List.{get_or_default}
