@@ -14,10 +14,12 @@ use Rattle.complex_box.specs.Box.{box_ends}
 use Rattle.complex_box.specs.Rows.{at, zero_cbox}
 use Rattle.complex_box.specs.declared.CBox.{CBox}
 use Rattle.io_ports.specs.Bytes.{AppendsPrefix, Writes}
+use Rattle.limits.specs.Limits.{first_grid}
 use Rattle.points.specs.Points.{is_source, place}
 use Rattle.points.specs.Limits.{InRange}
 use Rattle.points.specs.declared.Mode.{Mode}
 use Rattle.points.specs.declared.Point.{Point}
+use Rattle.points.specs.declared.Points.{Points}
 use Rattle.tree_field.specs.Field.{targets, target_box, target_boxes}
 use Rattle.tree_field.specs.Lists.{TreeLists, AreTreeLists}
 use Rattle.tree_field.specs.Work.{translations, pairs}
@@ -104,37 +106,37 @@ module _ (mode : Mode) (points : List Point) (cap P : ℕ) (lists : TreeLists) w
 
   -- the box of the target at a position, from the boxes of all
   pub value-at : (values : List CBox) (i k : ℕ) (d : Point) → i < length points → not (is_source (get_or points i d).kind) ≡ true → k ≡ length (targets (take i points))
-      → map box_ends values ≡ target_boxes points cap P lists 16 → box_ends (at values k) ≡ target_box points cap P lists 16 (place (get_or points i d))
+      → map box_ends values ≡ target_boxes points cap P lists → box_ends (at values k) ≡ target_box points cap P lists (place (get_or points i d))
   value-at values i k d lt h count e =
       let few = target-in_range points i d lt h in
       let b = box_ends zero_cbox in
-      let len : length values ≡ length (targets points) = sym (length-map values box_ends) ∙ ap length e ∙ length-map (targets points) (λ p. target_box points cap P lists 16 (place p)) in
+      let len : length values ≡ length (targets points) = sym (length-map values box_ends) ∙ ap length e ∙ length-map (targets points) (λ p. target_box points cap P lists (place p)) in
       sym (get_or-map box_ends values k zero_cbox b (omega arith))
       ∙ ap (λ bs. get_or bs k b) e
-      ∙ get_or-map (λ p. target_box points cap P lists 16 (place p)) (targets points) k d b (omega arith)
-      ∙ ap (λ p. target_box points cap P lists 16 (place p)) (ap (λ n. get_or (targets points) n d) count ∙ target-at points i d lt h)
+      ∙ get_or-map (λ p. target_box points cap P lists (place p)) (targets points) k d b (omega arith)
+      ∙ ap (λ p. target_box points cap P lists (place p)) (ap (λ n. get_or (targets points) n d) count ∙ target-at points i d lt h)
 
   -- there is a box for each target
   pub value-in_range : (values : List CBox) (i k : ℕ) (d : Point) → i < length points → not (is_source (get_or points i d).kind) ≡ true → k ≡ length (targets (take i points))
-      → map box_ends values ≡ target_boxes points cap P lists 16 → k < length values
+      → map box_ends values ≡ target_boxes points cap P lists → k < length values
   value-in_range values i k d lt h count e =
       let few = target-in_range points i d lt h in
-      let len : length values ≡ length (targets points) = sym (length-map values box_ends) ∙ ap length e ∙ length-map (targets points) (λ p. target_box points cap P lists 16 (place p)) in
+      let len : length values ≡ length (targets points) = sym (length-map values box_ends) ∙ ap length e ∙ length-map (targets points) (λ p. target_box points cap P lists (place p)) in
       omega arith
 
   -- the line of a target as it is written
   abbrev written : Point → CBox → List ℕ
   written p v = target_line mode (record { x = to_z w64 (of_z w64 p.x); y = to_z w64 (of_z w64 p.y); counts = target_counts mode (box_ends v) })
 
-  written-line : (p : Point) (v : CBox) → InRange p → box_ends v ≡ target_box points cap P lists 16 (place p) → written p v ≡ target_line mode (field_line mode points cap P lists p)
+  written-line : (p : Point) (v : CBox) → InRange first_grid p → box_ends v ≡ target_box points cap P lists (place p) → written p v ≡ target_line mode (field_line mode points cap P lists p)
   written-line p v range e =
-      let f : SFits w64 p.x = omega (arith, ints, range.grid) in
-      let g : SFits w64 p.y = omega (arith, ints, range.grid) in
+      let f : SFits w64 p.x = omega (arith, ints, range.place) in
+      let g : SFits w64 p.y = omega (arith, ints, range.place) in
       rw (to_z-of_z f, to_z-of_z g) (ap (λ b. target_line mode (record { x = p.x; y = p.y; counts = target_counts mode b })) e)
 
   -- one target more is written, or a part of its line
   module _ (values : List CBox) (i k : ℕ) (d : Point) (v : CBox) (lt : i < length points) (h : not (is_source (get_or points i d).kind) ≡ true) (count : k ≡ length (targets (take i points)))
-      (values_are : map box_ends values ≡ target_boxes points cap P lists 16) (range : InRange (get_or points i d)) (value_is : v ≡ at values k) (before mid after : Option (List ℕ))
+      (values_are : map box_ends values ≡ target_boxes points cap P lists) (range : InRange first_grid (get_or points i d)) (value_is : v ≡ at values k) (before mid after : Option (List ℕ))
       (held : Appends before mid (target_text mode points cap P lists (take i points)))
     where
       line : written (get_or points i d) v ≡ target_line mode (field_line mode points cap P lists (get_or points i d))
@@ -146,32 +148,36 @@ module _ (mode : Mode) (points : List Point) (cap P : ℕ) (lists : TreeLists) w
       pub written-exit : AppendsPrefix mid after (written (get_or points i d) v) → AppendsPrefix before after (target_text mode points cap P lists points)
       written-exit q = text-exit points i d lt h before mid after held (subst (AppendsPrefix mid after) line q)
 
+-- the lists of one grid are those of another that is the same
+pub on_grid : (grid other : ℕ) (points : List Point) (cap : ℕ) (lists : TreeLists) → grid ≡ other → AreTreeLists grid points cap lists → AreTreeLists other points cap lists
+on_grid grid other points cap lists e are = subst (λ n. AreTreeLists n points cap lists) e are
+
 -- what is said of the lines of a list with a capacity, said of those that are equal to them
-pub of-same : (mode : Mode) (list points : List Point) (limit cap P : ℕ) (lists : TreeLists) (F : List ℕ → Type 0) → list ≡ points → limit ≡ cap → (AreTreeLists 16 list limit lists → F (target_text mode list limit P lists list))
-    → AreTreeLists 16 points cap lists → F (target_text mode points cap P lists points)
+pub of-same : (mode : Mode) (list points : List Point) (limit cap P : ℕ) (lists : TreeLists) (F : List ℕ → Type 0) → list ≡ points → limit ≡ cap → (AreTreeLists first_grid list limit lists → F (target_text mode list limit P lists list))
+    → AreTreeLists first_grid points cap lists → F (target_text mode points cap P lists points)
 of-same mode list points limit cap P lists F e k h =
-    subst (λ n. AreTreeLists 16 points n lists → F (target_text mode points n P lists points)) k
-    (subst (λ ps. AreTreeLists 16 ps limit lists → F (target_text mode ps limit P lists ps)) e h)
+    subst (λ n. AreTreeLists first_grid points n lists → F (target_text mode points n P lists points)) k
+    (subst (λ ps. AreTreeLists first_grid ps limit lists → F (target_text mode ps limit P lists ps)) e h)
 
 -- ---- the whole report, in three pieces
-module _ (mode : Mode) (points : List Point) (order cap : ℕ) (lists : TreeLists) (made summed : ℕ) (made_is : made ≡ translations points lists) (summed_is : summed ≡ pairs points lists) where
-  whole : report_head mode order cap ++ (target_text mode points cap order lists points ++ last_lines made summed) ≡ field_text mode points order cap lists
+module _ (points : Points) (order cap : ℕ) (lists : TreeLists) (made summed : ℕ) (made_is : made ≡ translations points.list lists) (summed_is : summed ≡ pairs points.list lists) where
+  whole : report_head points.mode order cap ++ (target_text points.mode points.list cap order lists points.list ++ last_lines made summed) ≡ field_text points order cap lists
   whole =
-      ap₂ (λ m n. report_head mode order cap ++ (target_text mode points cap order lists points ++ last_lines m n)) made_is summed_is
-      ∙ sym (append_assoc (report_head mode order cap) _ _)
-      ∙ sym (append_assoc (report_head mode order cap ++ target_text mode points cap order lists points) (work_line (translations points lists) (pairs points lists)) end_line)
+      ap₂ (λ m n. report_head points.mode order cap ++ (target_text points.mode points.list cap order lists points.list ++ last_lines m n)) made_is summed_is
+      ∙ sym (append_assoc (report_head points.mode order cap) _ _)
+      ∙ sym (append_assoc (report_head points.mode order cap ++ target_text points.mode points.list cap order lists points.list) (work_line (translations points.list lists) (pairs points.list lists)) end_line)
 
-  pub head-exit : (before after : Option (List ℕ)) → AppendsPrefix before after (report_head mode order cap) → AppendsPrefix before after (field_text mode points order cap lists)
-  head-exit before after p = subst (AppendsPrefix before after) whole (AppendsPrefix-front before after (report_head mode order cap) (target_text mode points cap order lists points ++ last_lines made summed) p)
+  pub head-exit : (before after : Option (List ℕ)) → AppendsPrefix before after (report_head points.mode order cap) → AppendsPrefix before after (field_text points order cap lists)
+  head-exit before after p = subst (AppendsPrefix before after) whole (AppendsPrefix-front before after (report_head points.mode order cap) (target_text points.mode points.list cap order lists points.list ++ last_lines made summed) p)
 
-  pub targets-exit : (before mid after : Option (List ℕ)) → Appends before mid (report_head mode order cap) → AppendsPrefix mid after (target_text mode points cap order lists points)
-      → AppendsPrefix before after (field_text mode points order cap lists)
+  pub targets-exit : (before mid after : Option (List ℕ)) → Appends before mid (report_head points.mode order cap) → AppendsPrefix mid after (target_text points.mode points.list cap order lists points.list)
+      → AppendsPrefix before after (field_text points order cap lists)
   targets-exit before mid after p q = subst (AppendsPrefix before after) whole
-      (AppendsPrefix-then before mid after (report_head mode order cap) (target_text mode points cap order lists points ++ last_lines made summed) p
-      (AppendsPrefix-front mid after (target_text mode points cap order lists points) (last_lines made summed) q))
+      (AppendsPrefix-then before mid after (report_head points.mode order cap) (target_text points.mode points.list cap order lists points.list ++ last_lines made summed) p
+      (AppendsPrefix-front mid after (target_text points.mode points.list cap order lists points.list) (last_lines made summed) q))
 
-  pub end-written : {T E : Type 0} (result : Result T E) (before first second after : Option (List ℕ)) → Appends before first (report_head mode order cap) → Appends first second (target_text mode points cap order lists points)
-      → Writes result second after (last_lines made summed) → Writes result before after (field_text mode points order cap lists)
+  pub end-written : {T E : Type 0} (result : Result T E) (before first second after : Option (List ℕ)) → Appends before first (report_head points.mode order cap) → Appends first second (target_text points.mode points.list cap order lists points.list)
+      → Writes result second after (last_lines made summed) → Writes result before after (field_text points order cap lists)
   end-written result before first second after p q r = subst (Writes result before after) whole
-      (Writes-then result before first after (report_head mode order cap) (target_text mode points cap order lists points ++ last_lines made summed) p
-      (Writes-then result first second after (target_text mode points cap order lists points) (last_lines made summed) q r))
+      (Writes-then result before first after (report_head points.mode order cap) (target_text points.mode points.list cap order lists points.list ++ last_lines made summed) p
+      (Writes-then result first second after (target_text points.mode points.list cap order lists points.list) (last_lines made summed) q r))

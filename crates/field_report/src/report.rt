@@ -1,8 +1,9 @@
 //! The report of a field.
-ghost use Rattle.std.specs.Prelude.{All};
+ghost use Rattle.std.specs.Prelude.{◌≡◌, All};
 ghost use Rattle.field_report.specs.FieldText.{field_text, target_text};
 ghost use Rattle.io_ports.specs.Bytes.{Writes};
 ghost use Rattle.io_ports.specs.Faults.{HasCause};
+ghost use Rattle.limits.specs.Limits.{first_grid, grid_of};
 ghost use Rattle.points.specs.Limits.{InRange, WithinLimits};
 ghost use Rattle.solve_phase.specs.Field.{IsSolved};
 ghost use Rattle.tree_field.specs.Lists.{TreeLists, AreTreeLists};
@@ -20,9 +21,10 @@ fn write_targets<const P: usize, S: Sink>(
     field: &Field<P>,
     sink: &mut S,
 ) -> Result<(), WriteFault>
-    requires range { All InRange points.now }
+    requires range { All (InRange first_grid) points.now }
     requires field { IsSolved points.now field.now.basis.cap P field.now }
-    ensures bytes { (lists : TreeLists) → AreTreeLists 16 points.now field.now.basis.cap lists
+    requires grid { field.now.basis.tree.grid ≡ first_grid }
+    ensures bytes { (lists : TreeLists) → AreTreeLists first_grid points.now field.now.basis.cap lists
         → Writes result (S.held sink.old) (S.held sink.new) (target_text mode points.now field.now.basis.cap P lists points.now) }
     ensures cause { HasCause (S.faults sink.old) (S.faults sink.new) result }
 {
@@ -38,7 +40,8 @@ fn write_targets<const P: usize, S: Sink>(
 
 /// Appends the report of a field: its first line, the line of each target in the order of the list, the counts of work, and `end`.
 ///
-/// Conditions: the points are within their limits, and the field is theirs with the leaf capacity `cap`. No memory is taken.
+/// Conditions: the points are within their limits, and the field is theirs with the leaf capacity `cap`, on the grid of their version. No
+/// memory is taken.
 ///
 /// # Errors
 ///
@@ -49,10 +52,11 @@ pub fn write_report<const P: usize, S: Sink>(
     field: &Field<P>,
     sink: &mut S,
 ) -> Result<(), WriteFault>
-    requires list { WithinLimits points.now.mode points.now.list }
+    requires list { WithinLimits points.now }
     requires field { IsSolved points.now.list cap P field.now }
-    ensures bytes { (lists : TreeLists) → AreTreeLists 16 points.now.list cap lists
-        → Writes result (S.held sink.old) (S.held sink.new) (field_text points.now.mode points.now.list P cap lists) }
+    requires grid { field.now.basis.tree.grid ≡ grid_of points.now.version }
+    ensures bytes { (lists : TreeLists) → AreTreeLists (grid_of points.now.version) points.now.list cap lists
+        → Writes result (S.held sink.old) (S.held sink.new) (field_text points.now P cap lists) }
     ensures cause { HasCause (S.faults sink.old) (S.faults sink.new) result }
 {
     write_head(points.mode, P as u32, cap, sink)?;

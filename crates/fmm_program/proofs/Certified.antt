@@ -1,5 +1,5 @@
 -- A report is certified: the printed counts contain the exact direct sums, and one entry accounts for each target and source.
-use Rattle.std.proofs.Common.{◌≡◌, refl, subst, arith, Some, None, IfSome, ℕ, List, [], ◌∷◌, map, pos, ◌^◌}
+use Rattle.std.proofs.Common.{◌≡◌, refl, subst, Some, None, IfSome, ℕ, List, [], ◌∷◌, map, pos, ◌^◌}
 use Rattle.std.proofs.lemmas.List.Elements.{recursion_from_All}
 use Rattle.std.specs.Io.KnownBytes.{Appends, Consumes}
 use Rattle.std.specs.List.{AllZip, AllByRecursion}
@@ -9,10 +9,12 @@ use Rattle.exact_math.specs.Orders.{IsOrder}
 use Rattle.exact_math.proofs.Orders.{order_bounds}
 use Rattle.field_report.proofs.Bounds.{CountsContain-box}
 use Rattle.field_report.specs.FieldText.{field_line}
+use Rattle.limits.proofs.Grids.{grid_positive, version_has_grid}
+use Rattle.limits.specs.Limits.{grid_of}
 use Rattle.near_field.specs.DirectSum.{direct_sum}
 use Rattle.points.specs.Points.{place}
-use Rattle.points.specs.declared.Mode.{Mode}
 use Rattle.points.specs.declared.Point.{Point}
+use Rattle.points.specs.declared.Points.{Points}
 use Rattle.quadtree.proofs.Limits.{in_grid}
 use Rattle.quadtree.specs.Tree.{AreInGrid}
 use Rattle.tree_field.proofs.Whole.{field_contains}
@@ -24,29 +26,32 @@ use Rattle.fmm_program.specs.Answers.{IsCertified, IsReported, LineContains, Sol
 use Rattle.fmm_program.specs.declared.status.Status.{Status}
 use Rattle.fmm_program.specs.declared.status.Status.TheVariants.{Done}
 
-lines_contain : (mode : Mode) (points : List Point) (cap P : ℕ) (lists : TreeLists) (some : List Point)
-    → AllByRecursion (λ t. BoxEndsContain (pos (2 ^ 40)) (target_box points cap P lists 16 (place t)) (direct_sum (place t) points)) some
-    → AllZip (LineContains mode points) some (map (field_line mode points cap P lists) some)
-lines_contain mode points cap P lists [] h = tt
-lines_contain mode points cap P lists (t ∷ some) h =
-    (record { x = refl; y = refl; sum = CountsContain-box mode (target_box points cap P lists 16 (place t)) (direct_sum (place t) points) h.0 }, lines_contain mode points cap P lists some h.1)
+lines_contain : (points : Points) (cap P : ℕ) (lists : TreeLists) (some : List Point)
+    → AllByRecursion (λ t. BoxEndsContain (pos (2 ^ 40)) (target_box points.list cap P lists (place t)) (direct_sum (place t) points.list)) some
+    → AllZip (LineContains points) some (map (field_line points.mode points.list cap P lists) some)
+lines_contain points cap P lists [] h = tt
+lines_contain points cap P lists (t ∷ some) h = (
+  record { x = refl; y = refl; sum = CountsContain-box points.mode (target_box points.list cap P lists (place t)) (direct_sum (place t) points.list) h.0 },
+  lines_contain points cap P lists some h.1,
+)
 
 pub certified : (order cap : ℕ) (input out : List ℕ) → IsOrder order → IsReported order cap input out → IsCertified order cap input out
 certified order cap input out is_order s =
-    let inside : AreInGrid 16 s.points = in_grid s.points s.spelled.limits.range in
-    let boxes = field_contains 16 s.points cap order s.lists (omega arith) (order_bounds order is_order).0 inside s.lists_are in
+    let grid = grid_of s.points.version in
+    let some = grid_positive grid (version_has_grid s.points.version) in
+    let inside : AreInGrid grid s.points.list = in_grid grid s.points.list s.spelled.limits.within.range in
+    let boxes = field_contains grid s.points.list cap order s.lists some (order_bounds order is_order).0 inside s.lists_are in
     record {
-      mode = s.mode;
       points = s.points;
       within = s.within;
       spelled = s.spelled;
       lists = s.lists;
       lists_are = s.lists_are;
-      lines = map (field_line s.mode s.points cap order s.lists) (targets s.points);
+      lines = map (field_line s.points.mode s.points.list cap order s.lists) (targets s.points.list);
       report = s.report;
-      contain = lines_contain s.mode s.points cap order s.lists (targets s.points) (recursion_from_All _ (targets s.points) boxes);
-      one_entry = one_list_entry s.points cap s.lists inside s.lists_are;
-      few = translations_are_few s.points s.lists;
+      contain = lines_contain s.points cap order s.lists (targets s.points.list) (recursion_from_All _ (targets s.points.list) boxes);
+      one_entry = one_list_entry grid s.points.list cap s.lists some inside s.lists_are;
+      few = translations_are_few s.points.list s.lists;
     }
 
 -- what a run of `solve` that was carried out wrote

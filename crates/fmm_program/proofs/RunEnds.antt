@@ -5,13 +5,14 @@ use Rattle.std.specs.declared.option.Option.{Option}
 use Rattle.cell_name.specs.Cell.{square}
 use Rattle.field_report.specs.FieldText.{field_text}
 use Rattle.io_ports.specs.Bytes.{AppendsPrefix, GivesAll}
+use Rattle.limits.proofs.Grids.{grid_positive, version_has_grid}
+use Rattle.limits.specs.Limits.{grid_of}
 use Rattle.particle_text.specs.Faults.{FirstFault}
 use Rattle.particle_text.specs.Text.{Spells}
-use Rattle.points.specs.declared.Mode.{Mode}
-use Rattle.points.specs.declared.Point.{Point}
+use Rattle.points.specs.declared.Points.{Points}
 use Rattle.particle_text.specs.declared.TextKind.{TextKind}
 use Rattle.quadtree.proofs.Limits.{in_grid}
-use Rattle.quadtree.specs.Faults.{most_cells, HasMoreCells, IsFaultOf, NoneIsCrowded}
+use Rattle.quadtree.specs.Faults.{HasTree, IsFaultOf}
 use Rattle.quadtree.specs.declared.fault.TreeFault.{TreeFault}
 use Rattle.quadtree.specs.declared.fault.TreeFault.TheVariants.{Crowded, Cells, Memory as NoMemory}
 use Rattle.tree_field.proofs.EachList.{each_list_has_tree}
@@ -35,14 +36,14 @@ module _ (order cap : ℕ) (before after : Option (List ℕ)) where
   fault_ends input status number kind line within fault e r = refused_ends input status line (inr (inl (record { number = number; kind = kind; within = within; fault = fault; line = e }))) r
 
   -- a list that has no field
-  pub depth_ends : (input : List ℕ) (mode : Mode) (points : List Point) (fault : TreeFault) (status : Status) → length input ≤ most_input → Spells input mode points → IsFaultOf 16 points cap fault
+  pub depth_ends : (input : List ℕ) (points : Points) (fault : TreeFault) (status : Status) → length input ≤ most_input → Spells input points → IsFaultOf (grid_of points.version) points.list cap fault
       → DepthEnds fault status before after → SolveEnds order cap input status before after
-  depth_ends input mode points (Crowded cell count) status within spelled h r =
+  depth_ends input points (Crowded cell count) status within spelled h r =
       refused_ends input status (crowded_line (square cell) count)
-      (inr (inr (inl (record { mode = mode; points = points; within = within; spelled = spelled; cell = square cell; count = count; first = h; line = refl })))) r
-  depth_ends input mode points Cells status within spelled h r =
-      refused_ends input status cells_line (inr (inr (inr (record { mode = mode; points = points; within = within; spelled = spelled; too_many = h; line = refl })))) r
-  depth_ends input mode points NoMemory status within spelled h r = subst (λ s. SolveEnds order cap input s before after) (sym r.0) r.1
+      (inr (inr (inl (record { points = points; within = within; spelled = spelled; cell = square cell; count = count; first = h; line = refl })))) r
+  depth_ends input points Cells status within spelled h r =
+      refused_ends input status cells_line (inr (inr (inr (record { points = points; within = within; spelled = spelled; too_many = h; line = refl })))) r
+  depth_ends input points NoMemory status within spelled h r = subst (λ s. SolveEnds order cap input s before after) (sym r.0) r.1
 
   -- more came than an input may have
   pub long_ends : (status : Status) (left rest : Option (List ℕ)) (bytes : List ℕ) → Consumes left rest bytes → most_input < length bytes → RefusalEnds status before after long_line
@@ -64,17 +65,15 @@ all_came None rest bytes g = tt
 all_came (Some xs) rest bytes g = subst (λ r. Consumes (Some xs) r bytes) (sym g.1) (sym g.0 ∙ sym (append-nil bytes))
 
 -- what goes out with the report
-module _ (order cap : ℕ) (input : List ℕ) (mode : Mode) (points : List Point) (within : length input ≤ most_input) (spelled : Spells input mode points) (none : NoneIsCrowded 16 points)
-    (few : HasMoreCells 16 points cap most_cells → ⊥)
-  where
-    some : (lists : TreeLists) × AreTreeLists 16 points cap lists
-    some = each_list_has_tree 16 points cap (omega arith) (in_grid points spelled.limits.range)
+module _ (order cap : ℕ) (input : List ℕ) (points : Points) (within : length input ≤ most_input) (spelled : Spells input points) (has : HasTree (grid_of points.version) points.list cap) where
+  some : (lists : TreeLists) × AreTreeLists (grid_of points.version) points.list cap lists
+  some = each_list_has_tree (grid_of points.version) points.list cap (grid_positive (grid_of points.version) (version_has_grid points.version)) (in_grid (grid_of points.version) points.list spelled.limits.within.range)
 
-    reported : IsReported order cap input (field_text mode points order cap some.0)
-    reported = record { mode = mode; points = points; within = within; spelled = spelled; none_crowded = none; no_more = few; lists = some.0; lists_are = some.1; report = refl }
+  reported : IsReported order cap input (field_text points order cap some.0)
+  reported = record { points = points; within = within; spelled = spelled; has_tree = has; lists = some.0; lists_are = some.1; report = refl }
 
-    pub report_ends : (before after : Option (List ℕ)) → ((lists : TreeLists) → AreTreeLists 16 points cap lists → Appends before after (field_text mode points order cap lists)) → SolveEnds order cap input Done before after
-    report_ends before after h = (field_text mode points order cap some.0, reported, h some.0 some.1)
+  pub report_ends : (before after : Option (List ℕ)) → ((lists : TreeLists) → AreTreeLists (grid_of points.version) points.list cap lists → Appends before after (field_text points order cap lists)) → SolveEnds order cap input Done before after
+  report_ends before after h = (field_text points order cap some.0, reported, h some.0 some.1)
 
-    pub part_ends : (before after : Option (List ℕ)) → ((lists : TreeLists) → AreTreeLists 16 points cap lists → AppendsPrefix before after (field_text mode points order cap lists)) → SolveEnds order cap input WriteFault before after
-    part_ends before after h = (Done, field_text mode points order cap some.0, reported, h some.0 some.1)
+  pub part_ends : (before after : Option (List ℕ)) → ((lists : TreeLists) → AreTreeLists (grid_of points.version) points.list cap lists → AppendsPrefix before after (field_text points order cap lists)) → SolveEnds order cap input WriteFault before after
+  part_ends before after h = (Done, field_text points order cap some.0, reported, h some.0 some.1)

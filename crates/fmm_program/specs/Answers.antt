@@ -9,16 +9,17 @@ use Rattle.cell_name.specs.Cell.{square}
 use Rattle.cell_name.specs.Square.{Square}
 use Rattle.letters.specs.declared.Letter.TheVariants.{V}
 use Rattle.io_ports.specs.Bytes.{AppendsPrefix}
+use Rattle.limits.specs.Limits.{grid_of}
 use Rattle.near_field.specs.DirectSum.{direct_sum}
 use Rattle.number_text.specs.Parts.{line_feed}
 use Rattle.particle_text.specs.Faults.{FirstFault}
 use Rattle.points.specs.Points.{place}
 use Rattle.particle_text.specs.Text.{Spells}
-use Rattle.points.specs.declared.Mode.{Mode}
 use Rattle.points.specs.declared.Point.{Point}
+use Rattle.points.specs.declared.Points.{Points}
 use Rattle.particle_text.specs.declared.TextKind.{TextKind}
 use Rattle.particle_text.specs.declared.TextKind.TheVariants.{Syntax, Range, Mixed, Many, Strength}
-use Rattle.quadtree.specs.Faults.{most_cells, HasMoreCells, HasTooManyCells, IsFirstCrowded, NoneIsCrowded}
+use Rattle.quadtree.specs.Faults.{HasTree, HasTooManyCells, IsFirstCrowded}
 use Rattle.quadtree.specs.declared.fault.TreeFault.{TreeFault}
 use Rattle.quadtree.specs.declared.fault.TreeFault.TheVariants.{Crowded, Cells, Memory as NoMemory}
 use Rattle.tree_field.specs.Field.{targets}
@@ -76,44 +77,38 @@ pub record IsFaulty (input out : List ℕ) : Type 0 where
 
 -- too many points of the text stand at one place, and the line names the first such place by column and row, and how many they are
 pub record IsCrowdedText (input out : List ℕ) : Type 0 where
-  pub mode : Mode
-  pub points : List Point
+  pub points : Points
   pub within : length input ≤ most_input
-  pub spelled : Spells input mode points
+  pub spelled : Spells input points
   pub cell : Square
   pub count : ℕ
-  pub first : IsFirstCrowded 16 points cell count
+  pub first : IsFirstCrowded (grid_of points.version) points.list cell count
   pub line : out ≡ crowded_line cell count
 
 -- no place is crowded, and the tree of the text has too many cells
 pub record HasCellsFault (cap : ℕ) (input out : List ℕ) : Type 0 where
-  pub mode : Mode
-  pub points : List Point
+  pub points : Points
   pub within : length input ≤ most_input
-  pub spelled : Spells input mode points
-  pub too_many : HasTooManyCells 16 points cap
+  pub spelled : Spells input points
+  pub too_many : HasTooManyCells (grid_of points.version) points.list cap
   pub line : out ≡ cells_line
 
 -- the text has a tree, and the bytes are the report of the field over its lists
 pub record IsReported (order cap : ℕ) (input out : List ℕ) : Type 0 where
-  pub mode : Mode
-  pub points : List Point
+  pub points : Points
   pub within : length input ≤ most_input
-  pub spelled : Spells input mode points
-  pub none_crowded : NoneIsCrowded 16 points
-  pub no_more : HasMoreCells 16 points cap most_cells → ⊥
+  pub spelled : Spells input points
+  pub has_tree : HasTree (grid_of points.version) points.list cap
   pub lists : TreeLists
-  pub lists_are : AreTreeLists 16 points cap lists
-  pub report : out ≡ field_text mode points order cap lists
+  pub lists_are : AreTreeLists (grid_of points.version) points.list cap lists
+  pub report : out ≡ field_text points order cap lists
 
 -- the input is a text with no crowded place, whose tree has no more cells than a tree may have
 pub record HasDepth (cap : ℕ) (input : List ℕ) : Type 0 where
-  pub mode : Mode
-  pub points : List Point
+  pub points : Points
   pub within : length input ≤ most_input
-  pub spelled : Spells input mode points
-  pub none_crowded : NoneIsCrowded 16 points
-  pub no_more : HasMoreCells 16 points cap most_cells → ⊥
+  pub spelled : Spells input points
+  pub has_tree : HasTree (grid_of points.version) points.list cap
 
 -- the answer to this input, and what goes out with it
 abbrev pub Answers : ℕ → ℕ → List ℕ → Status → List ℕ → Type 0
@@ -141,10 +136,10 @@ UsageEnds _ before after = ⊥
 -- ---- the certified solve, in its own words
 
 -- a printed line for the target t: at its place, with counts that contain the exact direct sum
-pub record LineContains (mode : Mode) (points : List Point) (t : Point) (line : TargetLine) : Type 0 where
+pub record LineContains (points : Points) (t : Point) (line : TargetLine) : Type 0 where
   pub x : line.x ≡ t.x
   pub y : line.y ≡ t.y
-  pub sum : CountsContain mode line.counts (direct_sum (place t) points)
+  pub sum : CountsContain points.mode line.counts (direct_sum (place t) points.list)
 
 -- exactly one entry of the lists accounts for a target and a source
 pub record HasOneListEntry (lists : TreeLists) (target source : Point) : Type 0 where
@@ -159,17 +154,16 @@ pub record HasOneListEntry (lists : TreeLists) (target source : Point) : Type 0 
 -- The input is within its limit and spells points, and the bytes are a report with one line for each target, in order, whose counts contain the exact direct sum.
 -- Of the lists of the tree exactly one entry accounts for each target and source, and the counts of work are theirs.
 pub record IsCertified (order cap : ℕ) (input out : List ℕ) : Type 0 where
-  pub mode : Mode
-  pub points : List Point
+  pub points : Points
   pub within : length input ≤ most_input
-  pub spelled : Spells input mode points
+  pub spelled : Spells input points
   pub lists : TreeLists
-  pub lists_are : AreTreeLists 16 points cap lists
+  pub lists_are : AreTreeLists (grid_of points.version) points.list cap lists
   pub lines : List TargetLine
-  pub report : out ≡ report_text mode order cap lines (translations points lists) (pairs points lists)
-  pub contain : AllZip (LineContains mode points) (targets points) lines
-  pub one_entry : (target source : Point) → IsTargetAndSource points target source → HasOneListEntry lists target source
-  pub few : translations points lists ≤ sum_by (λ b. length (lists.entries V b)) lists.cells + 2 * length lists.cells
+  pub report : out ≡ report_text points.mode order cap lines (translations points.list lists) (pairs points.list lists)
+  pub contain : AllZip (LineContains points) (targets points.list) lines
+  pub one_entry : (target source : Point) → IsTargetAndSource points.list target source → HasOneListEntry lists target source
+  pub few : translations points.list lists ≤ sum_by (λ b. length (lists.entries V b)) lists.cells + 2 * length lists.cells
 
 -- what `out` took with one of the lines of refusal
 abbrev pub RefusalEnds : Status → Option (List ℕ) → Option (List ℕ) → List ℕ → Type 0

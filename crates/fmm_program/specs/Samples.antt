@@ -2,7 +2,7 @@
 use Rattle.std.specs.Prelude.{ℕ, ◌≡◌, ◌^◌, ◌<◌, ◌≤◌, List, [], ◌∷◌, codes}
 use Rattle.exact_math.specs.Orders.{IsOrder, IsCapacity}
 use Rattle.number_text.specs.Numbers.{IsUint}
-use Rattle.points.specs.Limits.{most_points}
+use Rattle.point_sample.specs.Sample.{most_sampled}
 
 -- the words are `sample SEED N ORDER CAP`
 pub record IsSample (words : List (List ℕ)) (seed n order cap : ℕ) : Type 0 where
@@ -17,7 +17,7 @@ pub record IsSample (words : List (List ℕ)) (seed n order cap : ℕ) : Type 0 
   pub spells_cap : IsUint cap_word cap
   pub seed_fits : seed < 2 ^ 32
   pub some_points : 1 ≤ n
-  pub few_points : n ≤ most_points
+  pub few_points : n ≤ most_sampled
   pub is_order : IsOrder order
   pub is_capacity : IsCapacity cap
 

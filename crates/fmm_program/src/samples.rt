@@ -2,8 +2,8 @@
 ghost use Rattle.std.specs.Prelude.{◌≡◌, ℕ, ◌≤◌, IfSome, IfNone};
 ghost use Rattle.exact_math.specs.Orders.{IsCapacity, IsOrder};
 ghost use Rattle.io_ports.specs.Faults.{Rose};
-ghost use Rattle.points.specs.Limits.{WithinLimits, most_points};
-ghost use Rattle.point_sample.specs.Sample.{sample_list};
+ghost use Rattle.points.specs.Limits.{WithinLimits};
+ghost use Rattle.point_sample.specs.Sample.{most_sampled, sample};
 ghost use Rattle.fmm_program.specs.SampleAnswers.{SampleEnds};
 ghost use Rattle.fmm_program.specs.Samples.{IsSample, IsNoSample};
 
@@ -12,13 +12,10 @@ use crate::refusals::refuse_depth;
 use crate::status::Status;
 use crate::words::{Words, capacity_of, number_in, order_of};
 use io_ports::Sink;
-use point_sample::sample_points;
+use point_sample::{most_sampled, sample_points};
 use points::Points;
 use sample_summary::write_summary;
 use std::alloc::Global;
-
-/// The greatest number of points of a sample.
-const MOST_POINTS: u32 = 65_536;
 
 /// The command `sample SEED N ORDER CAP`.
 #[derive(Clone, Copy, Debug, PartialEq, Eq)]
@@ -38,7 +35,7 @@ pub(crate) fn asked_sample(words: &Words) -> Option<SampleCommand>
         return None;
     }
     let seed = number_in(words.word(1), 0, u32::MAX)?;
-    let count = number_in(words.word(2), 1, MOST_POINTS)?;
+    let count = number_in(words.word(2), 1, most_sampled())?;
     let order = order_of(words.word(3))?;
     let cap = capacity_of(words.word(4))?;
     Some(SampleCommand {
@@ -57,10 +54,10 @@ fn summarize<const P: usize, O: Sink>(
     cap: u32,
     out: &mut O,
 ) -> Status
-    requires list { WithinLimits points.now.mode points.now.list }
+    requires list { WithinLimits points.now }
     requires order { IsOrder P }
     requires cap { IsCapacity cap }
-    ensures ends { (n : ℕ) → points.now.list ≡ sample_list seed n → SampleEnds seed n P cap result (O.held out.old) (O.held out.new) }
+    ensures ends { (n : ℕ) → points.now ≡ sample seed n → SampleEnds seed n P cap result (O.held out.old) (O.held out.new) }
     ensures cause { result ≡ Status.WriteFault → Rose (O.faults out.old) (O.faults out.new) }
 {
     match solve_phase::solve::<P>(alloc, points, cap) {
@@ -77,7 +74,7 @@ fn summarize<const P: usize, O: Sink>(
 /// The sink gets all that goes out with the answer; after a write fault it took a prefix of that, and after want of
 /// memory nothing.
 pub(crate) fn sample<O: Sink>(alloc: Global, command: SampleCommand, out: &mut O) -> Status
-    requires count { command.count ≤ most_points }
+    requires count { command.count ≤ most_sampled }
     requires order { IsOrder command.order }
     requires cap { IsCapacity command.cap }
     ensures ends { SampleEnds command.seed command.count command.order command.cap result (O.held out.old) (O.held out.new) }

@@ -27,10 +27,10 @@ fn answer_points<const P: usize, O: Sink>(
     cap: u32,
     out: &mut O,
 ) -> Status
-    requires list { WithinLimits points.now.mode points.now.list }
+    requires list { WithinLimits points.now }
     requires order { IsOrder P }
     requires cap { IsCapacity cap }
-    ensures ends { (input : List ℕ) → length input ≤ most_input → Spells input points.now.mode points.now.list
+    ensures ends { (input : List ℕ) → length input ≤ most_input → Spells input points.now
         → SolveEnds P cap input result (O.held out.old) (O.held out.new) }
     ensures cause { result ≡ Status.WriteFault → Rose (O.faults out.old) (O.faults out.new) }
     ensures later { O.faults out.old ≤ O.faults out.new }

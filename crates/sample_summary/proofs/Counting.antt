@@ -1,14 +1,14 @@
 -- The cells, leaves and entries of a tree of the program, counted by numbers and counted as cells.
-use Rattle.std.proofs.Common.{ℕ, ◌≡◌, ◌+◌, ◌<◌, ◌≤◌, inl, inr, List, [], length, take, get_or, Bool, true, false, cond, not, refl, sym, ap, ◌∙◌, arith}
+use Rattle.std.proofs.Common.{ℕ, ◌≡◌, ◌+◌, ◌<◌, ◌≤◌, inl, inr, List, length, take, get_or, Bool, true, false, cond, not, sym, ap, ◌∙◌, arith}
 use Rattle.std.specs.Prelude.{◌==◌, ◌↔◌, ◌⊎◌, IsTrue, nat_lt, sum_by}
 use Rattle.std.specs.List.{range_with_len, count_by}
 use Rattle.std.proofs.lemmas.Bool.{ltb-false, le-ltb, eqb-true, eq-eqb, not-true, not_from_false, or_cases, or_left, or_right}
 use Rattle.std.proofs.lemmas.List.{length-map}
-use Rattle.std.proofs.lemmas.List.FromFn.{fill_by_all, length-range_with_len, get_or-range_with_len}
+use Rattle.std.proofs.lemmas.List.FromFn.{length-range_with_len, get_or-range_with_len}
 use Rattle.std.proofs.lemmas.List.Sums.{count_by_more_yes, count_by_more_no}
 use mathlib.Core.Logic.{⊎_elim}
 use Rattle.cell_name.specs.Cell.{square}
-use Rattle.cell_name.specs.Square.{Square, root}
+use Rattle.cell_name.specs.Square.{Square}
 use Rattle.cell_lists.specs.EntryLists.{lists_of, EntryListsModel}
 use Rattle.cell_lists.specs.Lists.{AreLists}
 use Rattle.cell_lists.specs.ListAt.{list_at}
@@ -16,12 +16,10 @@ use Rattle.quadtree.proofs.TreeChildren.{tree_cell_at}
 use Rattle.letters.specs.declared.Letter.{Letter}
 use Rattle.points.specs.declared.Point.{Point}
 use Rattle.quadtree.specs.Tree.{count_in, AreInGrid, IsTreeCell, IsLeaf}
-use Rattle.quadtree.specs.TreeModel.{TreeModel, squares, size, square_of, node_of, IsTreeOf}
+use Rattle.quadtree.specs.TreeModel.{TreeModel, size, square_of, node_of, IsTreeOf}
 use Rattle.tree_field.specs.Lists.{TreeLists, AreTreeLists}
 use Rattle.tree_field.proofs.Leaves.{same_test}
-use Rattle.quadtree.proofs.Lists.{All-from_members, range_below}
 use Rattle.tree_field.proofs.Program.{lists_of_tree}
-use Rattle.tree_field.proofs.Sums.{sum_by-map, sum_by-same}
 use Rattle.tree_field.proofs.Work.{sum_by_numbers, sum_by_rows}
 use Rattle.sample_summary.specs.Summary.{is_leaf, entry_count}
 
@@ -38,30 +36,38 @@ counted_no p n k was now lt e at_k same =
     same ∙ e ∙ sym (count_by_more_no p (range_with_len 0 n) k 0 (omega (arith, length-range_with_len 0 n)) (ap p (number_at n k lt) ∙ at_k))
 
 -- ---- whether a cell is a leaf
-leaf_is : (points : List Point) (cap : ℕ) (c : Square) (b : Bool) → IsTreeCell 16 points cap c → IsTrue b ↔ IsLeaf 16 points cap c → b ≡ is_leaf points cap c
-leaf_is points cap c b here h = same_test b (is_leaf points cap c) (λ e. passes (h.0 e)) (λ e. h.1 (record { in_tree = here; ends = end e }))
+leaf_is : (grid : ℕ) (points : List Point) (cap : ℕ) (c : Square) (b : Bool) → IsTreeCell grid points cap c → IsTrue b ↔ IsLeaf grid points cap c → b ≡ is_leaf points cap c
+leaf_is grid points cap c b here h = same_test b (is_leaf points cap c) (λ e. passes (h.0 e)) (λ e. h.1 (record { in_tree = here; ends = end e }))
   where
     over : Bool
     over = nat_lt cap (count_in points c)
 
-    passes : IsLeaf 16 points cap c → is_leaf points cap c ≡ true
-    passes leaf = ⊎_elim (λ few. or_left (not over) (c.level == 16) (not_from_false over (le-ltb cap (count_in points c) few))) (λ last. or_right (not over) (c.level == 16) (eq-eqb c.level 16 last)) leaf.ends
+    passes : IsLeaf grid points cap c → is_leaf points cap c ≡ true
+    passes leaf = ⊎_elim
+        (λ few. or_left (not over) (c.level == c.grid) (not_from_false over (le-ltb cap (count_in points c) few)))
+        (λ last. or_right (not over) (c.level == c.grid) (eq-eqb c.level c.grid (last ∙ sym here.of_grid)))
+        leaf.ends
 
-    end : is_leaf points cap c ≡ true → (count_in points c ≤ cap) ⊎ (c.level ≡ 16)
-    end e = ⊎_elim (λ few. inl (ltb-false cap (count_in points c) (not-true over few))) (λ last. inr (eqb-true c.level 16 last)) (or_cases (not over) (c.level == 16) e)
+    end : is_leaf points cap c ≡ true → (count_in points c ≤ cap) ⊎ (c.level ≡ grid)
+    end e = ⊎_elim
+        (λ few. inl (ltb-false cap (count_in points c) (not-true over few)))
+        (λ last. inr (eqb-true c.level c.grid last ∙ here.of_grid))
+        (or_cases (not over) (c.level == c.grid) e)
 
-module _ (tree : TreeModel) (lists : EntryListsModel) (points : List Point) (cap : ℕ) (these : TreeLists) (inside : AreInGrid 16 points) (h : IsTreeOf 16 tree points cap) (are : AreLists tree lists) (a : AreTreeLists 16 points cap these) where
-  pub cells_are : size tree ≡ length these.cells
-  cells_are = sym (ap length (lists_of_tree tree lists points cap these inside h are a).cells ∙ length-map tree.cells square)
+module _ (tree : TreeModel) (lists : EntryListsModel) (points : List Point) (cap : ℕ) (these : TreeLists) (inside : AreInGrid tree.grid points) (h : IsTreeOf tree points cap) (are : AreLists tree lists)
+    (a : AreTreeLists tree.grid points cap these)
+  where
+    pub cells_are : size tree ≡ length these.cells
+    cells_are = sym (ap length (lists_of_tree tree lists points cap these inside h are a).cells ∙ length-map tree.cells square)
 
-  pub leaves_are : count_by (λ n. (node_of tree n).is_leaf) (range_with_len 0 (size tree)) ≡ count_by (is_leaf points cap) these.cells
-  leaves_are = sym (ap (count_by (is_leaf points cap)) (lists_of_tree tree lists points cap these inside h are a).cells
-      ∙ sum_by_numbers tree (λ c. cond (is_leaf points cap c) 1 0) (λ n. cond (node_of tree n).is_leaf 1 0)
-      (λ n lt. ap (λ (b : Bool). cond {A = ℕ} b 1 0) (sym (leaf_is points cap (square_of tree n) (node_of tree n).is_leaf (tree_cell_at tree points cap n h lt) (h.nodes_are n lt).leaf))))
+    pub leaves_are : count_by (λ n. (node_of tree n).is_leaf) (range_with_len 0 (size tree)) ≡ count_by (is_leaf points cap) these.cells
+    leaves_are = sym (ap (count_by (is_leaf points cap)) (lists_of_tree tree lists points cap these inside h are a).cells
+        ∙ sum_by_numbers tree (λ c. cond (is_leaf points cap c) 1 0) (λ n. cond (node_of tree n).is_leaf 1 0)
+        (λ n lt. ap (λ (b : Bool). cond {A = ℕ} b 1 0) (sym (leaf_is tree.grid points cap (square_of tree n) (node_of tree n).is_leaf (tree_cell_at tree points cap n h lt) (h.nodes_are n lt).leaf))))
 
-  pub entries_are : (letter : Letter) → sum_by (λ list. length list) (lists_of lists letter) ≡ entry_count these letter
-  entries_are letter =
-      let of = lists_of_tree tree lists points cap these inside h are a in
-      sum_by_rows (lists_of lists letter) (size tree) (λ list. length list) (are.as_many letter)
-      ∙ sym (ap (sum_by (λ b. length (these.entries letter b))) of.cells
-      ∙ sum_by_numbers tree (λ b. length (these.entries letter b)) (λ n. length (list_at (lists_of lists letter) n)) (λ n lt. ap length (of.entries letter n lt) ∙ length-map (list_at (lists_of lists letter) n) (square_of tree)))
+    pub entries_are : (letter : Letter) → sum_by (λ list. length list) (lists_of lists letter) ≡ entry_count these letter
+    entries_are letter =
+        let of = lists_of_tree tree lists points cap these inside h are a in
+        sum_by_rows (lists_of lists letter) (size tree) (λ list. length list) (are.as_many letter)
+        ∙ sym (ap (sum_by (λ b. length (these.entries letter b))) of.cells
+        ∙ sum_by_numbers tree (λ b. length (these.entries letter b)) (λ n. length (list_at (lists_of lists letter) n)) (λ n lt. ap length (of.entries letter n lt) ∙ length-map (list_at (lists_of lists letter) n) (square_of tree)))

@@ -1,10 +1,11 @@
 -- Summaries that are known from elsewhere.
-use Rattle.std.specs.Prelude.{ℕ, ℤ, pos, neg_ℤ, ◌^◌, ◌≡◌, List, [], ◌∷◌, codes}
+use Rattle.std.specs.Prelude.{pos, neg_ℤ, ◌^◌, ◌≡◌, List, [], ◌∷◌, codes}
 use Rattle.std.specs.Fmt.{digits}
 use mathlib.Core.Path.{refl}
 use Rattle.cell_name.specs.Square.{Square, root}
 use Rattle.letters.specs.declared.Letter.{Letter}
 use Rattle.letters.specs.declared.Letter.TheVariants.{U, V, W, X}
+use Rattle.limits.specs.Limits.{first_grid}
 use Rattle.points.specs.declared.Kind.TheVariants.{Charge, Target}
 use Rattle.points.specs.declared.Point.{Point}
 use Rattle.quadtree.specs.Splitting.{cells_to_level}
@@ -20,9 +21,9 @@ abbrev charges : List Point
 charges = record { x = neg_ℤ (pos 32527); y = neg_ℤ (pos 32483); kind = Charge (pos 748) } ∷ record { x = neg_ℤ (pos 30222); y = neg_ℤ (pos 31361); kind = Charge (pos 261) } ∷ []
 
 abbrev no_entries : TreeLists
-no_entries = record { cells = root 16 ∷ []; entries = λ letter b. [] }
+no_entries = record { grid = first_grid; cells = root first_grid ∷ []; entries = λ letter b. [] }
 
-charges_cells : cells_to_level 16 charges 32 16 ≡ no_entries.cells
+charges_cells : cells_to_level first_grid charges 32 first_grid ≡ no_entries.cells
 charges_cells = refl
 
 abbrev charges_numbers : Summary
@@ -55,10 +56,10 @@ abbrev pair : List Point
 pair = record { x = pos 0; y = pos 0; kind = Charge (pos 1) } ∷ record { x = pos 3; y = pos 4; kind = Target } ∷ []
 
 abbrev pair_lists : TreeLists
-pair_lists = record { cells = root 16 ∷ []; entries = given }
+pair_lists = record { grid = first_grid; cells = root first_grid ∷ []; entries = given }
   where
     given : Letter → Square → List Square
-    given U b = root 16 ∷ []
+    given U b = root first_grid ∷ []
     given V b = []
     given W b = []
     given X b = []

@@ -33,7 +33,7 @@ widest_im boxes = greatest (map (λ b. width (target_counts Field b).second) box
 
 -- a cell of the tree is a leaf where it has no more points than a leaf may have, or is of the last level
 abbrev pub is_leaf : List Point → ℕ → Square → Bool
-is_leaf points cap c = not (is_over points cap c) || (c.level == 16)
+is_leaf points cap c = not (is_over points cap c) || (c.level == c.grid)
 
 -- how many entries of a letter there are
 abbrev pub entry_count : TreeLists → Letter → ℕ
@@ -53,6 +53,6 @@ summary_of points cap P lists = record {
   x = entry_count lists X;
   translations = translations points lists;
   pairs = pairs points lists;
-  widest_re = widest_re (target_boxes points cap P lists 16);
-  widest_im = widest_im (target_boxes points cap P lists 16);
+  widest_re = widest_re (target_boxes points cap P lists);
+  widest_im = widest_im (target_boxes points cap P lists);
 }

@@ -1,6 +1,7 @@
 //! The numbers of a summary.
 ghost use Rattle.std.specs.Prelude.{◌≡◌};
 ghost use Rattle.std.specs.List.{range_with_len, count_by};
+ghost use Rattle.limits.specs.Limits.{first_grid};
 ghost use Rattle.points.specs.Points.{is_source};
 ghost use Rattle.quadtree.specs.TreeModel.{size, node_of};
 ghost use Rattle.sample_summary.specs.Summary.{summary_of};
@@ -53,10 +54,12 @@ fn leaf_count(tree: &Tree) -> u64
 }
 
 impl Summary {
-    /// The numbers of the field of some points.
+    /// The numbers of the field of some points on the grid of version 1.
     pub(crate) fn of<const P: usize>(points: &[Point], field: &Field<P>) -> Summary
-        requires { IsSolved points.now field.now.basis.cap P field.now }
-        ensures { (lists : TreeLists) → AreTreeLists 16 points.now field.now.basis.cap lists → result ≡ summary_of points.now field.now.basis.cap P lists }
+        requires field { IsSolved points.now field.now.basis.cap P field.now }
+        requires grid { field.now.basis.tree.grid ≡ first_grid }
+        ensures { (lists : TreeLists) → AreTreeLists first_grid points.now field.now.basis.cap lists
+            → result ≡ summary_of points.now field.now.basis.cap P lists }
     {
         let tree = field.tree();
         let lists = field.lists();

@@ -1,8 +1,9 @@
 //! The widths of printed counts.
-ghost use Rattle.std.specs.Prelude.{◌≡◌, ◌^◌, map, max};
+ghost use Rattle.std.specs.Prelude.{◌≡◌, map, max};
 ghost use Rattle.complex_box.specs.Box.{BoxWithin, box_ends};
 ghost use Rattle.field_report.specs.Counts.{count_ends};
 ghost use Rattle.fixed_interval.specs.Interval.{IntervalWithin, ends_of};
+ghost use Rattle.limits.specs.Limits.{first_grid, most_box};
 ghost use Rattle.sample_summary.specs.Summary.{width, widest_re, widest_im};
 
 use complex_box::CBox;
@@ -12,7 +13,7 @@ use solve_phase::Field;
 
 /// How far the printed counts of an interval are apart.
 fn width(i: Interval) -> u128
-    requires { IntervalWithin (2 ^ 84) i }
+    requires { IntervalWithin (most_box first_grid) i }
     ensures { result ≡ width (count_ends (ends_of i)) }
 {
     (to_count(i.hi, true) - to_count(i.lo, false)).unsigned_abs()
@@ -28,7 +29,7 @@ pub(crate) struct Widest {
 impl Widest {
     /// The greatest widths with one further box.
     fn with(self, v: CBox) -> Widest
-        requires { BoxWithin (2 ^ 84) v }
+        requires { BoxWithin (most_box first_grid) v }
         ensures re { result.re ≡ max self.re (width (count_ends (ends_of v.re))) }
         ensures im { result.im ≡ max self.im (width (count_ends (ends_of v.im))) }
     {
@@ -38,8 +39,9 @@ impl Widest {
         }
     }
 
-    /// Those of the boxes of all targets; 0 where there is none.
+    /// Those of the boxes of all targets; 0 where there is none. The field is on the grid of version 1.
     pub(crate) fn of<const P: usize>(field: &Field<P>) -> Widest
+        requires { field.now.basis.tree.grid ≡ first_grid }
         ensures re { result.re ≡ widest_re (map box_ends field.now.values) }
         ensures im { result.im ≡ widest_im (map box_ends field.now.values) }
     {

@@ -1,7 +1,8 @@
 //! Writing a summary.
-ghost use Rattle.std.specs.Prelude.{length};
+ghost use Rattle.std.specs.Prelude.{◌≡◌, length};
 ghost use Rattle.io_ports.specs.Bytes.{Writes};
 ghost use Rattle.io_ports.specs.Faults.{HasCause};
+ghost use Rattle.limits.specs.Limits.{first_grid};
 ghost use Rattle.sample_summary.specs.Summary.{summary_of};
 ghost use Rattle.sample_summary.specs.Text.{summary_text};
 ghost use Rattle.solve_phase.specs.Field.{IsSolved};
@@ -16,6 +17,8 @@ use solve_phase::Field;
 /// Appends the summary of a sample, the points that a seed gave and their field with a leaf capacity: its seven lines count points, cells,
 /// entries and work, and name the greatest widths of the printed counts over all targets, in units of 10^-12.
 ///
+/// The field is that of the points with the leaf capacity `cap`, on the grid of version 1, as a sample is of that version.
+///
 /// # Errors
 ///
 /// `WriteFault` where a write failed. What was appended then is a prefix of the lines.
@@ -26,8 +29,9 @@ pub fn write_summary<const P: usize, S: Sink>(
     field: &Field<P>,
     sink: &mut S,
 ) -> Result<(), WriteFault>
-    requires { IsSolved points.now.list cap P field.now }
-    ensures bytes { (lists : TreeLists) → AreTreeLists 16 points.now.list cap lists
+    requires field { IsSolved points.now.list cap P field.now }
+    requires grid { field.now.basis.tree.grid ≡ first_grid }
+    ensures bytes { (lists : TreeLists) → AreTreeLists first_grid points.now.list cap lists
         → Writes result (S.held sink.old) (S.held sink.new) (summary_text seed (length points.now.list) P cap (summary_of points.now.list cap P lists)) }
     ensures cause { HasCause (S.faults sink.old) (S.faults sink.new) result }
 {

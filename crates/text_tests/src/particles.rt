@@ -121,11 +121,24 @@ fn the_list_has_a_limit(rt: HostRuntime) -> Result<(), Fail> {
 
 #[test]
 fn points_have_poles_and_weights(rt: HostRuntime) -> Result<(), Fail> {
-    let charge = parse_point(1, b"charge 1 -2 -3")?;
-    let kind = Kind::Charge(-3);
-    assert_eq!(rt; charge, Point { x: 1, y: -2, kind });
-    let dipole = parse_point(1, b"dipole 0 0 5 -6")?;
-    let vortex = parse_point(1, b"vortex 0 0 7")?;
+    let charge = Point {
+        x: 1,
+        y: -2,
+        kind: Kind::Charge(-3),
+    };
+    let dipole = Point {
+        x: 0,
+        y: 0,
+        kind: Kind::Dipole(5, -6),
+    };
+    let vortex = Point {
+        x: 0,
+        y: 0,
+        kind: Kind::Vortex(7),
+    };
+    assert_eq!(rt; parse_point(1, b"charge 1 -2 -3"), Ok(charge));
+    assert_eq!(rt; parse_point(1, b"dipole 0 0 5 -6"), Ok(dipole));
+    assert_eq!(rt; parse_point(1, b"vortex 0 0 7"), Ok(vortex));
     assert_eq!(rt;
         (charge.pole(), charge.dipole(), charge.weight64()),
         ((-3, 0), (0, 0), 3)

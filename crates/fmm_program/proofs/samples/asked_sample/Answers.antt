@@ -19,7 +19,7 @@ returns-clause-some c =
       spells_cap = c.in_ok-cap.ensures.some.0;
       seed_fits = omega (arith, c.in_ok-seed.ensures.some.2);
       some_points = c.in_ok-count.ensures.some.1;
-      few_points = c.in_ok-count.ensures.some.2;
+      few_points = omega (arith, c.in_ok-count.ensures.some.2, c.most_sampled.ensures);
       is_order = c.in_ok-order.ensures.some.1;
       is_capacity = c.in_ok-cap.ensures.some.1;
     }

@@ -3,12 +3,12 @@ use Rattle.fmm_program.proofs.solve.answer_points.Goals as goal
 
 pub returns-in-Ok-write_report-clause-ends : goal.returns-in-Ok-write_report-clause-ends
 returns-in-Ok-write_report-clause-ends g c input within spelled =
-    report_ends g.row.P c.args.cap input c.args.points.now.mode c.args.points.now.list within spelled c.in-Ok.ensures.none_crowded c.in-Ok.ensures.no_more _ _ c.in-Ok-write_report.ensures.bytes
+    report_ends g.row.P c.args.cap input c.args.points.now within spelled c.in-Ok.ensures.has_tree _ _ c.in-Ok-write_report.ensures.bytes
 
 pub returns-in-Ok-clause-ends : goal.returns-in-Ok-clause-ends
 returns-in-Ok-clause-ends g c input within spelled =
-    part_ends g.row.P c.args.cap input c.args.points.now.mode c.args.points.now.list within spelled c.in-Ok.ensures.none_crowded c.in-Ok.ensures.no_more _ _ c.in-Err-write_report.ensures.bytes
+    part_ends g.row.P c.args.cap input c.args.points.now within spelled c.in-Ok.ensures.has_tree _ _ c.in-Err-write_report.ensures.bytes
 
 pub returns-clause-ends : goal.returns-clause-ends
 returns-clause-ends g c input within spelled =
-    depth_ends g.row.P c.args.cap _ _ input c.args.points.now.mode c.args.points.now.list c.in-Err.fault c.refuse_depth.result within spelled c.in-Err.ensures.fault c.refuse_depth.ensures.ends
+    depth_ends g.row.P c.args.cap _ _ input c.args.points.now c.in-Err.fault c.refuse_depth.result within spelled c.in-Err.ensures.fault c.refuse_depth.ensures.ends

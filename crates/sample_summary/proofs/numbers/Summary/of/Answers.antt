@@ -10,26 +10,28 @@ use Rattle.points.specs.declared.Point.{Point}
 use Rattle.quadtree.specs.Tree.{AreInGrid}
 use Rattle.quadtree.specs.TreeModel.{size, node_of, IsTree}
 use Rattle.tree_field.specs.Field.{targets, target_box}
+use Rattle.tree_field.specs.Lists.{AreTreeLists}
 use Rattle.sample_summary.specs.Summary.{widest_re, widest_im}
 use Rattle.sample_summary.proofs.Counting.{cells_are, leaves_are, entries_are}
 use Rattle.sample_summary.proofs.Grid.{points_in_grid}
 use Rattle.sample_summary.proofs.numbers.Summary.of.Goals as goal
 
 pub returns : goal.returns
-returns g c these a =
+returns g c these given =
     let tree = c.args.field.now.basis.tree in
     let lists = c.args.field.now.basis.lists in
     let values = c.args.field.now.values in
     let points : List Point = c.args.points.now in
     let cap = c.args.field.now.basis.cap in
-    let h = c.requires.is_tree in
-    let are = c.requires.lists_are in
+    let h = c.requires.field.is_tree in
+    let are = c.requires.field.lists_are in
+    let a = subst (λ n. AreTreeLists n points cap these) (sym c.requires.grid) given in
     let is_tree = c.tree-tree.ensures in
     let are_lists = c.lists-lists.ensures in
-    let inside : AreInGrid 16 points = points_in_grid tree points cap (subst IsTree is_tree c.cells.ensures.tree) h in
-    let over = c.requires.over these a in
+    let inside : AreInGrid tree.grid points = points_in_grid tree points cap (subst IsTree is_tree c.cells.ensures.tree) h in
+    let over = c.requires.field.over these a in
     let as_many : length values ≡ length (targets points) =
-    sym (length-map values box_ends) ∙ ap length over.values_are ∙ length-map (targets points) (λ p. target_box points cap g.row.P these 16 (place p)) in
+    sym (length-map values box_ends) ∙ ap length over.values_are ∙ length-map (targets points) (λ p. target_box points cap g.row.P these (place p)) in
     rw (
       c.source_count.ensures,
       c.targets.ensures ∙ as_many,
