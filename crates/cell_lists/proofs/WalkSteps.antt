@@ -8,7 +8,7 @@ use Rattle.std.proofs.lemmas.List.Elements.{All-append, All-cons, Contains-appen
 use Rattle.cell_name.specs.Square.{Square, parent, Touches}
 use Rattle.cell_name.proofs.Cells.{Touches-sym, Touches-parent, Touches-parents}
 use Rattle.quadtree.specs.TreeModel.{TreeModel, size, square_of, node_of, IsTree}
-use Rattle.quadtree.proofs.Lists.{All-from_members}
+use Rattle.exact_math.proofs.Lists.{All-from_members}
 use Rattle.quadtree.proofs.TreeChildren.{child_of, child_listed}
 use Rattle.cell_lists.specs.ListAt.{list_at}
 use Rattle.cell_lists.specs.Walks.{AreNumbers, IsChild, IsColleague, IsBelow, IsMet, AreColleagues, IsFrom, AddsChildren, MeetsBelow}

@@ -26,7 +26,7 @@ use Rattle.quadtree.proofs.Limits.{in_grid}
 use Rattle.quadtree.specs.Members.{holds_position, holds_point, members_of}
 use Rattle.quadtree.specs.TreeModel.{TreeModel, size, square_of, node_of}
 use Rattle.row_recursions.proofs.Geometry.{pairs_of_cells, far_places}
-use Rattle.quadtree.proofs.Lists.{range_below}
+use Rattle.exact_math.proofs.Lists.{range_below}
 use Rattle.downward_rows.specs.Entries.{IsVEntryAt, IsFarPosition, IsFarCell, HasFarEntries}
 use Rattle.field_basis.specs.Basis.{BasisModel, IsBasis}
 use Rattle.field_basis.specs.Targets.{no_point, point_at}

@@ -17,20 +17,19 @@ use Rattle.points.specs.declared.Strength.TheVariants.{Pole, Dipole, Nothing}
 use Rattle.points.specs.Strength.{pole_part, dipole_part, acts}
 use Rattle.points.specs.declared.Point.{Point}
 use Rattle.quadtree.proofs.Limits.{in_grid}
-use Rattle.quadtree.proofs.Lists.{image_of}
+use Rattle.exact_math.proofs.Lists.{image_of}
 use Rattle.quadtree.specs.TreeModel.{size, square_of, node_of}
 use Rattle.row_recursions.proofs.RowSizes.{power_positive}
 use Rattle.row_recursions.specs.Geometry.{sides_between}
-use Rattle.row_recursions.specs.Rows.{converted, far_source}
+use Rattle.row_recursions.specs.Rows.{converted, far_source, AreSameRows}
 use Rattle.soundness.specs.Computed.{total_row, total_box, far_coefficients_in}
 use Rattle.soundness.specs.Squares.{IsFarFrom, offset, quadrant}
 use Rattle.tree_field.proofs.LocalRows.{local_row-below, local_radius-below}
 use Rattle.tree_field.proofs.Program.{nodes_of_tree}
-use Rattle.tree_field.proofs.Sums.{total_box-map, total_box-fewer, sum_by-map}
+use Rattle.soundness.proofs.Sums.{total_box-map, total_box-fewer, sum_by-map}
 use Rattle.tree_field.specs.Field.{sources_in, multipole_row, converted_rows, far_rows, local_row, local_radius, pair_radius_in, single_radius_in}
 use Rattle.tree_field.specs.Lists.{TreeLists, AreTreeLists}
 use Rattle.field_basis.specs.Basis.{BasisModel, IsBasis}
-use Rattle.field_basis.specs.FieldPlaces.{AreSameRows}
 use Rattle.field_basis.specs.Targets.{no_point, point_at}
 use Rattle.downward_rows.specs.Entries.{far_row_at, v_rows_of, x_entry, x_rows_of, row_below, IsFarCell, IsFarPosition}
 use Rattle.downward_rows.specs.Radii.{v_losses_of, x_losses_of}

@@ -5,7 +5,7 @@ use mathlib.Core.Logic.{⊎_elim}
 use Rattle.exact_math.specs.Ends.{zero_box}
 use Rattle.complex_box.proofs.Sizes.{zero_within}
 use Rattle.field_sizes.proofs.Bounds.{radii_within}
-use Rattle.field_sizes.proofs.RowTotals.{wider}
+use Rattle.soundness.proofs.RowTotals.{wider}
 use Rattle.limits.proofs.Grids.{within_widest}
 use Rattle.limits.specs.Limits.{most_multipole, most_local, widest_grid}
 use Rattle.places.specs.Place.{PlaceModel}

@@ -12,7 +12,7 @@ use Rattle.complex_box.specs.declared.CBox.{CBox}
 use Rattle.places.specs.Place.{PlaceModel, no_place, place_at}
 use Rattle.quadtree.specs.Tree.{HasTarget}
 use Rattle.quadtree.specs.TreeModel.{IsTree, size, square_of, node_of}
-use Rattle.row_recursions.specs.Rows.{row_of}
+use Rattle.row_recursions.specs.Rows.{row_of, AreSameRows}
 use Rattle.row_recursions.specs.Sizes.{RowWithin}
 use Rattle.tree_field.proofs.LocalRows.{local_row-root, local_radius-root}
 use Rattle.tree_field.specs.Field.{local_row, local_radius}
@@ -20,7 +20,7 @@ use Rattle.tree_field.specs.Lists.{TreeLists, AreTreeLists}
 use Rattle.field_basis.proofs.Trees.{some_tree, tree_of_basis}
 use Rattle.field_basis.specs.Basis.{BasisModel, IsBasis}
 use Rattle.field_basis.specs.Counts.{translated, translations_into}
-use Rattle.field_basis.specs.FieldPlaces.{AreSameRows, HasLocalPlace, HasLocalRow, IsLocalPlace}
+use Rattle.field_basis.specs.FieldPlaces.{HasLocalPlace, HasLocalRow, IsLocalPlace}
 use Rattle.downward_rows.specs.Entries.{row_below}
 use Rattle.downward_rows.specs.Radii.{v_losses_of, x_losses_of}
 use Rattle.downward_rows.proofs.FieldRows.{row_is, radius_is}

@@ -3,10 +3,9 @@ use Rattle.std.proofs.Common.{ℕ, zero, suc, ◌-◌, ◌≤◌, ◌^◌, ◌�
 use Rattle.exact_math.specs.Ends.{BoxEnds, BoxEndsWithin, add_box, scale_box, times_box, gscale_box, quot_box}
 use Rattle.exact_math.specs.Gaussian.{Gaussian}
 use Rattle.row_recursions.proofs.Equations.{sum_boxes-same}
-use Rattle.row_recursions.specs.Rows.{converted, down_round, shifted_down}
+use Rattle.row_recursions.specs.Rows.{converted, down_round, shifted_down, AreSameRows}
 use Rattle.row_recursions.specs.Sizes.{RowWithin}
 use Rattle.row_recursions.proofs.Equations.{sum_boxes-same}
-use Rattle.field_basis.specs.FieldPlaces.{AreSameRows}
 
 pub converted_same : (P : ℕ) (kernel : ℕ → ℕ → BoxEnds) (m n : ℕ → BoxEnds) → AreSameRows P m n → (l : ℕ) → converted P kernel m l ≡ converted P kernel n l
 unfolding converted

@@ -10,8 +10,8 @@ use Rattle.cell_lists.specs.ListAt.{list_at}
 use Rattle.letters.specs.declared.Letter.TheVariants.{V}
 use Rattle.places.specs.Place.{PlaceModel, no_place, place_at, all_translations}
 use Rattle.quadtree.specs.TreeModel.{size, square_of, node_of}
-use Rattle.quadtree.proofs.Lists.{All-from_members, range_below}
-use Rattle.tree_field.proofs.Sums.{sum_by-map, sum_by-same}
+use Rattle.exact_math.proofs.Lists.{All-from_members, range_below}
+use Rattle.soundness.proofs.Sums.{sum_by-map, sum_by-same}
 use Rattle.field_basis.proofs.PlaceSums.{sum_by_number}
 use Rattle.field_basis.proofs.Trees.{some_tree, tree_of_basis}
 use Rattle.field_basis.specs.Basis.{BasisModel, IsBasis}

@@ -2,10 +2,10 @@
 ghost use Rattle.std.specs.Prelude.{◌≡◌, ◌+◌, ◌^◌, ◌<◌, length};
 ghost use Rattle.cell_lists.specs.ListAt.{list_at};
 ghost use Rattle.field_basis.specs.Counts.{translated, translations_into};
-ghost use Rattle.field_basis.specs.FieldPlaces.{AreMultipolePlaces, AreSameRows, HasLocalPlace, IsLocalPlace};
+ghost use Rattle.field_basis.specs.FieldPlaces.{AreMultipolePlaces, HasLocalPlace, IsLocalPlace};
 ghost use Rattle.places.specs.Place.{OthersStay, place_at};
 ghost use Rattle.quadtree.specs.TreeModel.{size, node_of};
-ghost use Rattle.row_recursions.specs.Rows.{row_of};
+ghost use Rattle.row_recursions.specs.Rows.{row_of, AreSameRows};
 ghost use Rattle.row_recursions.specs.Sizes.{RowWithin};
 ghost use Rattle.downward_rows.specs.Entries.{row_below};
 

@@ -22,9 +22,9 @@ use Rattle.row_recursions.specs.Sources.{source_of}
 use Rattle.row_recursions.proofs.Points.{weight-le-weight64, source_weight-nothing}
 use Rattle.truncation.specs.Entries.{weight}
 use Rattle.tree_field.specs.Field.{is_source_in, weight_in}
-use Rattle.quadtree.proofs.Lists.{range_below}
+use Rattle.exact_math.proofs.Lists.{range_below}
 use Rattle.tree_field.proofs.Program.{nodes_of_tree}
-use Rattle.tree_field.proofs.Sums.{sum_by-map}
+use Rattle.soundness.proofs.Sums.{sum_by-map}
 use Rattle.field_basis.specs.Trees.{IsTreeOfPoints}
 
 abbrev weighs : ℕ → Point → ℕ

@@ -3,9 +3,9 @@ use Rattle.std.proofs.Common.{ℕ, ◌≡◌, ◌<◌, ◌∙◌, List, length, 
 use Rattle.std.specs.Prelude.{sum_by}
 use Rattle.std.specs.List.{range_with_len}
 use Rattle.std.proofs.lemmas.List.FromFn.{fill_by_all}
-use Rattle.quadtree.proofs.Lists.{range_below}
+use Rattle.exact_math.proofs.Lists.{range_below}
 use Rattle.std.proofs.lemmas.List.Elements.{Contains-get_or}
-use Rattle.tree_field.proofs.Sums.{sum_by-map, sum_by-same}
+use Rattle.soundness.proofs.Sums.{sum_by-map, sum_by-same}
 
 -- a sum over a list is one over its numbers
 pub sum_by_number : {X : Type 0} (f : X → ℕ) (g : ℕ → ℕ) (xs : List X) (d : X) → ((n : ℕ) → n < length xs → f (get_or xs n d) ≡ g n) → sum_by f xs ≡ sum_by g (range_with_len 0 (length xs))

@@ -16,7 +16,7 @@ use Rattle.quadtree.specs.Tree.{HasTarget}
 use Rattle.quadtree.specs.TreeModel.{TreeModel, IsTreeOf, IsLeafOf, size, square_of, leaf_of}
 use Rattle.quadtree.proofs.Distinct.{Contains-filter}
 use Rattle.tree_field.specs.Field.{targets}
-use Rattle.quadtree.proofs.Lists.{All-from_members, filter-map, range_below}
+use Rattle.exact_math.proofs.Lists.{All-from_members, filter-map, range_below}
 use Rattle.field_basis.specs.Targets.{no_point, point_at, target_positions}
 
 pub points_at : (points : List Point) → points ≡ map (point_at points) (range_with_len 0 (length points))

@@ -1,6 +1,6 @@
 -- The lists of a basis's tree, and how large the rows of its field are.
 use Rattle.std.proofs.Common.{ℕ, ◌<◌, ◌≤◌, sym, subst}
-use Rattle.field_sizes.proofs.RowTotals.{wider}
+use Rattle.soundness.proofs.RowTotals.{wider}
 use Rattle.limits.proofs.Grids.{grid_positive, within_widest}
 use Rattle.limits.specs.Laws.{AreWithinWidest}
 use Rattle.limits.specs.Limits.{IsGrid, widest_grid, most_multipole, most_local, most_weight}

@@ -11,15 +11,11 @@ use Rattle.places.specs.Place.{PlaceModel, place_at}
 use Rattle.points.specs.declared.Point.{Point}
 use Rattle.quadtree.specs.Tree.{HasTarget}
 use Rattle.quadtree.specs.TreeModel.{TreeModel, size, square_of, IsTreeOf}
-use Rattle.row_recursions.specs.Rows.{row_of}
+use Rattle.row_recursions.specs.Rows.{row_of, AreSameRows}
 use Rattle.tree_field.specs.Field.{multipole_row, local_row, local_radius, target_box, target_boxes, targets}
 use Rattle.tree_field.specs.Lists.{TreeLists, AreTreeLists}
 use Rattle.tree_field.specs.Work.{pairs}
 use Rattle.field_basis.specs.Basis.{BasisModel, target_place}
-
--- the first P boxes of two rows are the same
-abbrev pub AreSameRows : ℕ → (ℕ → BoxEnds) → (ℕ → BoxEnds) → Type 0
-AreSameRows P m n = (k : ℕ) → k < P → m k ≡ n k
 
 -- ---- multipole rows
 -- the row of cell n, with each capacity that gives the tree, and the radius 0

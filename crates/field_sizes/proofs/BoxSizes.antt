@@ -29,7 +29,7 @@ use Rattle.soundness.specs.Squares.{offset}
 use Rattle.tree_field.specs.Field.{sources_in, targets, multipole_row, leaf_at, local_row, local_value_at, multipole_values_at, pairs_at, radius_in, box_in, target_box}
 use Rattle.tree_field.specs.Lists.{TreeLists}
 use Rattle.tree_field.proofs.Leaves.{leaf_is, leaf_holds}
-use Rattle.quadtree.proofs.Lists.{All-from_members}
+use Rattle.exact_math.proofs.Lists.{All-from_members}
 use Rattle.field_sizes.proofs.CellSources.{IsHeld}
 use Rattle.field_sizes.proofs.CellWeights.{weight64_in}
 use Rattle.field_sizes.proofs.EntrySums.{total_box-entries}
@@ -37,7 +37,7 @@ use Rattle.field_sizes.proofs.GridLimits.{box_limit}
 use Rattle.field_sizes.proofs.LocalSizes.{local_row-within}
 use Rattle.field_sizes.proofs.MultipoleSizes.{multipole_row-within}
 use Rattle.field_sizes.proofs.Radii.{local_radius-within, multipoles_lose}
-use Rattle.field_sizes.proofs.RowTotals.{total_box-within, sum_by-times}
+use Rattle.soundness.proofs.RowTotals.{total_box-within, sum_by-times}
 use Rattle.field_sizes.specs.Sizes.{EntriesShareNoSource, IsLimited, BoxSizes}
 
 -- the pairs of a place and some sources

@@ -17,8 +17,8 @@ use Rattle.row_recursions.specs.Sources.{source_of}
 use Rattle.row_recursions.proofs.Points.{weight-le-weight64}
 use Rattle.truncation.specs.Entries.{weight}
 use Rattle.tree_field.specs.Field.{is_source_in, sources_in}
-use Rattle.quadtree.proofs.Lists.{All-from_members, AllPairs-both, filter-filter}
-use Rattle.tree_field.proofs.Sums.{sum_by-same}
+use Rattle.exact_math.proofs.Lists.{All-from_members, AllPairs-both, filter-filter}
+use Rattle.soundness.proofs.Sums.{sum_by-same}
 use Rattle.field_sizes.proofs.CellSources.{sum_by-filter}
 use Rattle.field_sizes.proofs.Disjoint.{sum_by-disjoint}
 use Rattle.field_sizes.specs.Sizes.{WeightSizes}

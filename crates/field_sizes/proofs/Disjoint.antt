@@ -17,7 +17,7 @@ use Rattle.points.specs.declared.Point.{Point}
 use Rattle.quadtree.specs.Tree.{AreInGrid, IsTreeCell}
 use Rattle.tree_field.specs.Field.{is_source_in}
 use Rattle.tree_field.specs.Lists.{TreeLists, AreTreeLists}
-use Rattle.quadtree.proofs.Lists.{All-from_members, AllPairs-both, rest_differ}
+use Rattle.exact_math.proofs.Lists.{All-from_members, AllPairs-both, rest_differ}
 use Rattle.field_sizes.specs.Sizes.{EntriesShareNoSource}
 
 -- ---- sums over what tests keep

@@ -18,7 +18,7 @@ use Rattle.soundness.specs.Computed.{total_box, total_row}
 use Rattle.tree_field.specs.Field.{sources_in, weight_in}
 use Rattle.tree_field.specs.Lists.{TreeLists}
 use Rattle.field_sizes.proofs.CellWeights.{weight64_in, weight_at, weight_at-light}
-use Rattle.field_sizes.proofs.RowTotals.{total_box-within, total_row-within, wider, sum_by-times}
+use Rattle.soundness.proofs.RowTotals.{total_box-within, total_row-within, wider, sum_by-times}
 use Rattle.field_sizes.specs.Sizes.{EntriesShareNoSource, IsLimited}
 
 module _ (apart : EntriesShareNoSource) (points : List Point) (cap : ℕ) (lists : TreeLists) (limited : IsLimited points cap lists) (letter : Letter) (b : Square) (in_tree : IsTreeCell lists.grid points cap b) where

@@ -9,4 +9,3 @@ pub mod GridLimits
 pub mod LocalSizes
 pub mod MultipoleSizes
 pub mod Radii
-pub mod RowTotals

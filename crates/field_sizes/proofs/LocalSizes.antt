@@ -34,7 +34,7 @@ use Rattle.field_sizes.proofs.CellWeights.{weight64_in, weight64_in-light}
 use Rattle.field_sizes.proofs.EntrySums.{total_row-entries}
 use Rattle.field_sizes.proofs.MultipoleSizes.{heavier, unit_square, multipole_row-within}
 use Rattle.field_sizes.proofs.GridLimits.{multipole_limit, local_limit}
-use Rattle.field_sizes.proofs.RowTotals.{total_row-within, wider, sum_by-times}
+use Rattle.soundness.proofs.RowTotals.{total_row-within, wider, sum_by-times}
 use Rattle.field_sizes.specs.Sizes.{EntriesShareNoSource, IsLimited, RowSizes}
 
 -- ---- far sources

@@ -25,7 +25,7 @@ use Rattle.quadtree.specs.Tree.{is_over}
 use Rattle.tree_field.specs.Field.{sources_in, has_source, leaf_row, multipole_above, multipole_row}
 use Rattle.field_sizes.proofs.CellSources.{IsHeld, sources_held, sum_by-filter}
 use Rattle.field_sizes.proofs.CellWeights.{weight64_in, weight64_in-light, quarters_weight}
-use Rattle.field_sizes.proofs.RowTotals.{total_row-within, wider, sum_by-times}
+use Rattle.soundness.proofs.RowTotals.{total_row-within, wider, sum_by-times}
 
 pub heavier : (k a b : ℕ) → k ≤ 64 → 2 ^ 40 * (a + k * b) ≤ 2 ^ 40 * (a + 64 * b)
 heavier k a b h = let m = mul-le-mul_right b h in omega arith

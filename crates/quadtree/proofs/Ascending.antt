@@ -7,7 +7,7 @@ use Rattle.cell_name.specs.Order.{IsBefore}
 use Rattle.cell_name.specs.Square.{Square, child}
 use Rattle.cell_name.proofs.Order.{IsBefore-irrefl, IsBefore-asym}
 use Rattle.cell_name.specs.Quarters.{quarters}
-use Rattle.quadtree.proofs.Lists.{rest_differ, later}
+use Rattle.exact_math.proofs.Lists.{rest_differ, later}
 
 before_later : (x y : Square) (xs : List Square) → AllPairs IsBefore (x ∷ xs) → Contains xs y → IsBefore x y
 before_later x y xs up h = subst (IsBefore x) h.2 (up 0 (suc h.0) y (omega arith) (omega (arith, h.1)))

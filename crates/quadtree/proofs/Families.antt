@@ -18,7 +18,7 @@ use Rattle.quadtree.specs.Fields.{numbers_of, no_children}
 use Rattle.quadtree.specs.Splitting.{IsParentNumber}
 use Rattle.quadtree.specs.Tree.{AreInGrid, AreTreeCells}
 use Rattle.quadtree.proofs.Distinct.{Contains-filter, length-le_from_different}
-use Rattle.quadtree.proofs.Lists.{AllPairs-map, AllPairs-range, image_of, range_below}
+use Rattle.exact_math.proofs.Lists.{AllPairs-map, AllPairs-range, image_of, range_below}
 use Rattle.quadtree.proofs.TreeNumbers.{level_of_others}
 
 -- a range with one number more

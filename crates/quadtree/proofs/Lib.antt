@@ -10,7 +10,6 @@ pub mod PointKinds
 pub mod LeafLevel
 pub mod LevelRanges
 pub mod Levels
-pub mod Lists
 pub mod Limits
 pub mod Members
 pub mod Parents

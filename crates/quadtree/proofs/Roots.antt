@@ -15,7 +15,7 @@ use Rattle.quadtree.specs.Members.{holds_point, holds_position, members_of}
 use Rattle.quadtree.specs.Splitting.{squares_of, occupied, IsRun, AreRuns, IsParentNumber, HaveParents}
 use Rattle.quadtree.specs.Tree.{AreInGrid, count_in}
 use Rattle.cell_name.proofs.HoldsTest.{test-from_Holds}
-use Rattle.quadtree.proofs.Lists.{filter_whole}
+use Rattle.exact_math.proofs.Lists.{filter_whole}
 use Rattle.quadtree.proofs.Positions.{length-members}
 use Rattle.quadtree.proofs.Runs.{range_below, occupied-one, occupied-none}
 

@@ -18,7 +18,7 @@ use Rattle.quadtree.specs.TreeModel.{TreeModel, size, squares, square_of, node_o
 use Rattle.quadtree.proofs.Ascending.{quarters_ascend, same_list}
 use Rattle.quadtree.proofs.Distinct.{Contains-filter, Contains-into_filter}
 use Rattle.quadtree.proofs.Levels.{below-split, below-whole}
-use Rattle.quadtree.proofs.Lists.{AllPairs-map, AllPairs-range, Contains-into_map, Contains-range, filter-filter, image_of, range_below}
+use Rattle.exact_math.proofs.Lists.{AllPairs-map, AllPairs-range, Contains-into_map, Contains-range, filter-filter, image_of, range_below}
 use Rattle.quadtree.proofs.Parents.{IsTreeCell-from_below}
 use Rattle.quadtree.proofs.TreeCells.{below_is, below_has}
 use Rattle.quadtree.proofs.TreeNumbers.{number_unique, level_of_first, level_of_others}

@@ -27,7 +27,7 @@ use Rattle.quadtree.specs.TreeModel.{NodeModel, TreeModel, squares, node_of, no_
 use Rattle.quadtree.proofs.Families.{at_most_four}
 use Rattle.quadtree.proofs.Distinct.{length-le_from_different}
 use Rattle.quadtree.proofs.LeafLevel.{cell_of, IsListed, IsLeafLevel, leaf_level_exists}
-use Rattle.quadtree.proofs.Lists.{All-from_members, filter_same, range_below}
+use Rattle.exact_math.proofs.Lists.{All-from_members, filter_same, range_below}
 use Rattle.quadtree.proofs.PointKinds.{point_at, IsMember, member_point, Contains-members_of}
 use Rattle.quadtree.proofs.Positions.{length-members}
 use Rattle.quadtree.proofs.TreeNumbers.{number_unique, level_of_first, level_of_others}

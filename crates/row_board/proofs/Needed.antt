@@ -13,7 +13,7 @@ use Rattle.field_basis.specs.FieldPlaces.{AreMultipolePlaces, HasLocalPlace, IsM
 use Rattle.letters.specs.declared.Letter.TheVariants.{V}
 use Rattle.places.specs.Place.{PlaceModel, place_at}
 use Rattle.points.specs.declared.Point.{Point}
-use Rattle.quadtree.proofs.Lists.{All-from_members, Contains-into_map}
+use Rattle.exact_math.proofs.Lists.{All-from_members, Contains-into_map}
 use Rattle.quadtree.specs.TreeModel.{size, square_of, node_of}
 use Rattle.tree_field.specs.Program.{source_children}
 use Rattle.row_board.specs.Board.{IsBoard}

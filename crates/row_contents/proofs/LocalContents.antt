@@ -37,7 +37,7 @@ use Rattle.truncation.specs.Entries.{local_cut}
 use Rattle.tree_field.specs.Field.{is_source_in, sources_in, multipole_row, converted_rows, far_rows, local_row}
 use Rattle.tree_field.specs.Lists.{TreeLists, AreTreeLists}
 use Rattle.tree_field.proofs.LocalRows.{empty_from, local_row-root, local_row-below}
-use Rattle.quadtree.proofs.Lists.{All-from_members}
+use Rattle.exact_math.proofs.Lists.{All-from_members}
 use Rattle.row_contents.specs.Contents.{LocalRowsHold}
 use Rattle.row_contents.specs.Fields.{sources_of, pair_terms, far_terms, entry_terms}
 use Rattle.row_contents.proofs.Ancestors.{ancestor-self, ancestor-parent, sum_complex-same}

@@ -12,15 +12,15 @@ use Rattle.points.specs.declared.Strength.{Strength}
 use Rattle.points.specs.declared.Strength.TheVariants.{Pole, Dipole, Nothing}
 use Rattle.limits.specs.Grid.{half, IsInGrid}
 use Rattle.limits.specs.Limits.{IsGrid, most_strength, widest_grid}
-use Rattle.limits.proofs.Grids.{grid_cases, grid_positive}
+use Rattle.limits.proofs.Grids.{grid_cases}
 use Rattle.points.specs.Limits.{InRange, weight64}
 use Rattle.points.specs.Points.{place, strength, pole, dipole, is_source}
 use Rattle.points.specs.Strength.{pole_part, dipole_part, StrengthWithin, acts}
 use Rattle.exact_math.specs.Sizes.{abs_gaussian, weight_at}
 use Rattle.cell_name.specs.Cell.{square}
-use Rattle.cell_name.specs.Square.{side, corner_x, corner_y, Holds, IsInsideGrid}
+use Rattle.cell_name.specs.Square.{side, corner_x, corner_y, Holds}
 use Rattle.cell_name.specs.declared.cell.Cell.{Cell}
-use Rattle.cell_name.proofs.Cells.{inside_from_name}
+use Rattle.cell_name.proofs.Cells.{cell_inside}
 use Rattle.exact_math.proofs.GaussianSizes.{weight_at-le}
 use Rattle.exact_math.proofs.WholeSizes.{unsigned_abs-within}
 use Rattle.truncation.specs.Entries.{weight, local_cut}
@@ -69,14 +69,10 @@ grid_fits x y h =
     let d = h.north in
     (omega (arith, ints), omega (arith, ints))
 
--- a cell's square lies in its grid
-inside_grid : (c : Cell) → IsInsideGrid (square c)
-inside_grid c = inside_from_name (square c) (grid_positive c.grid c.known_grid) (record { level_in_grid = c.level_in_grid; column = c.column; row = c.row })
-
--- and so do the places that it holds
+-- the places that a cell holds lie in its grid
 pub held_in_grid : (c : Cell) (x y : ℤ) → Holds (square c) x y → IsInGrid c.grid x y
 held_in_grid c x y h =
-    let i = inside_grid c in
+    let i = cell_inside c in
     record { west = omega (arith, ints, i.west, h.west); east = omega (arith, ints, i.east, h.east); south = omega (arith, ints, i.south, h.south); north = omega (arith, ints, i.north, h.north) }
 
 -- the doubled offset of a place is at most the side
@@ -144,7 +140,7 @@ between h x c s most west east p a b = record { above = omega (arith, ints); bel
 
 pub grid_offset_within : (c : Cell) (x y : ℤ) → IsInGrid c.grid x y → GaussianWithin (2 ^ (widest_grid + 1)) (offset_from c (gaussian x y))
 grid_offset_within c x y h =
-    let i = inside_grid c in
+    let i = cell_inside c in
     let most = half_at_most c.grid c.known_grid in
     record {
       re = between (half c.grid) x (corner_x (square c)) (pos (side (square c))) most h.west h.east (omega (arith, ints)) i.west i.east;

@@ -12,6 +12,10 @@ use Rattle.complex_box.specs.declared.CBox.{CBox}
 abbrev pub row_of : List CBox → ℕ → BoxEnds
 row_of cells k = box_ends (at cells k)
 
+-- the first P boxes of two rows are the same
+abbrev pub AreSameRows : ℕ → (ℕ → BoxEnds) → (ℕ → BoxEnds) → Type 0
+AreSameRows P m n = (k : ℕ) → k < P → m k ≡ n k
+
 -- the first P boxes of the sum are those of m and n added
 abbrev pub RowsAdd : ℕ → (ℕ → BoxEnds) → (ℕ → BoxEnds) → (ℕ → BoxEnds) → Type 0
 RowsAdd P m n sum = (k : ℕ) → k < P → sum k ≡ add_box (m k) (n k)

@@ -13,5 +13,7 @@ pub mod Nodes
 pub mod Paths
 pub mod Places
 pub mod Premises
+pub mod RowTotals
+pub mod Sums
 pub mod Targets
 pub mod Terms

@@ -36,7 +36,7 @@ use Rattle.soundness.specs.Squares.{offset}
 use Rattle.tree_field.specs.Field.{sources_in, multipole_row, local_row, single_radius_in, multipole_values_at, pairs_at, leaf_at, box_in, target_box, targets}
 use Rattle.tree_field.specs.Lists.{TreeLists, AreTreeLists}
 use Rattle.tree_field.proofs.Program.{lists_of_tree, leaves_of_tree}
-use Rattle.tree_field.proofs.Sums.{total_box-map, sum_by-map}
+use Rattle.soundness.proofs.Sums.{total_box-map, sum_by-map}
 use Rattle.tree_field.proofs.Whole.{field_contains}
 use Rattle.field_basis.proofs.Sizes.{inside, some_lists, limited, tree_cell_of_lists, multipole_within, local_within}
 use Rattle.target_values.proofs.SameValues.{local_value-same}

@@ -19,7 +19,7 @@ use Rattle.quadtree.specs.TreeModel.{size, square_of, node_of}
 use Rattle.tree_field.specs.Field.{sources_in}
 use Rattle.tree_field.proofs.EachList.{each_list_has_tree}
 use Rattle.tree_field.proofs.Program.{lists_of_tree, nodes_of_tree}
-use Rattle.tree_field.proofs.Sums.{sum_by-map, sum_by-same}
+use Rattle.soundness.proofs.Sums.{sum_by-map, sum_by-same}
 use Rattle.field_basis.proofs.Sizes.{inside}
 use Rattle.target_values.specs.Values.{count_of_cell}
 

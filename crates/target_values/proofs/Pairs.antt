@@ -18,9 +18,9 @@ use Rattle.tree_field.specs.Field.{sources_in}
 use Rattle.tree_field.specs.Lists.{TreeLists, AreTreeLists}
 use Rattle.tree_field.specs.Work.{targets_in, pairs_between, pairs}
 use Rattle.tree_field.proofs.Leaves.{only_leaf}
-use Rattle.quadtree.proofs.Lists.{All-from_members, AllPairs-both, AllPairs-range, Contains-range, filter-filter, range_below}
+use Rattle.exact_math.proofs.Lists.{All-from_members, AllPairs-both, AllPairs-range, Contains-range, filter-filter, range_below}
 use Rattle.tree_field.proofs.Program.{nodes_of_tree, leaves_of_tree}
-use Rattle.tree_field.proofs.Sums.{sum_by-map, sum_by-same}
+use Rattle.soundness.proofs.Sums.{sum_by-map, sum_by-same}
 use Rattle.tree_field.proofs.Work.{work_of_tree}
 use Rattle.field_basis.specs.Basis.{BasisModel, IsBasis}
 use Rattle.field_basis.specs.Counts.{count_apart, sources_at}

@@ -2,8 +2,7 @@
 use Rattle.std.proofs.Common.{ℕ, zero, suc, ◌≡◌, ◌-◌, ◌*◌, ◌≤◌, pos, ap, ap₂, refl, arith}
 use Rattle.exact_math.specs.Ends.{BoxEnds, add_box, quot_box, gquot_box}
 use Rattle.exact_math.specs.Gaussian.{Gaussian}
-use Rattle.row_recursions.specs.Rows.{ratio_box, local_round, local_value, multipole_round, multipole_value}
-use Rattle.field_basis.specs.FieldPlaces.{AreSameRows}
+use Rattle.row_recursions.specs.Rows.{ratio_box, local_round, local_value, multipole_round, multipole_value, AreSameRows}
 
 local_round-same : (P : ℕ) (m n : ℕ → BoxEnds) (s : ℕ) (o : Gaussian) → AreSameRows P m n → (i : ℕ) → i ≤ P → local_round P m s o i ≡ local_round P n s o i
 unfolding local_round

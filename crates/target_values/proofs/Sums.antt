@@ -3,8 +3,8 @@ use Rattle.std.proofs.Common.{ℕ, zero, suc, ◌≡◌, ◌≢◌, ◌+◌, Lis
 use Rattle.std.specs.Prelude.{All, AllPairs, Contains, sum_by}
 use Rattle.std.proofs.lemmas.List.Elements.{All-tail}
 use Rattle.std.proofs.lemmas.List.Sums.{sum_by-cons}
-use Rattle.quadtree.proofs.Lists.{All-from_members, later, first_differs, rest_differ}
-use Rattle.tree_field.proofs.Sums.{sum_by-same}
+use Rattle.exact_math.proofs.Lists.{All-from_members, later, first_differs, rest_differ}
+use Rattle.soundness.proofs.Sums.{sum_by-same}
 
 sum_by-zero : {A : Type 0} (f : A → ℕ) (xs : List A) → All (λ x. f x ≡ 0) xs → sum_by f xs ≡ 0
 sum_by-zero f [] h = refl

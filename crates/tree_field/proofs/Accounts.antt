@@ -19,10 +19,10 @@ use Rattle.tree_field.specs.Lists.{TreeLists, AreTreeLists}
 use Rattle.tree_field.specs.Field.{is_source_in, sources_in}
 use Rattle.quadtree.proofs.Ascending.{ascending_differ}
 use Rattle.tree_field.proofs.Leaves.{under_is_holding}
-use Rattle.quadtree.proofs.Lists.{All-from_members, filter-map, filter-filter, filter_same, filter_none, filter_whole}
+use Rattle.exact_math.proofs.Lists.{All-from_members, filter-map, filter-filter, filter_same, filter_none, filter_whole}
 use Rattle.tree_field.proofs.Members.{filter_piece}
 use Rattle.tree_field.proofs.Numbers.{number, cell_at, above, tree_cell, number_below, cell_of_number, number_of_cell}
-use Rattle.tree_field.proofs.Sums.{total_box-map, total_box-same, sum_by-map, sum_by-same}
+use Rattle.soundness.proofs.Sums.{total_box-map, total_box-same, sum_by-map, sum_by-same}
 
 module _ (lists : TreeLists) where
   -- a fact of all entries of a cell, from one of each

@@ -23,7 +23,7 @@ use Rattle.tree_field.specs.Work.{has_target}
 use Rattle.tree_field.specs.Laws.{EachListHasTree}
 use Rattle.tree_field.specs.Lists.{TreeLists, AreEntriesOf, AreTreeLists}
 use Rattle.tree_field.proofs.Occupants.{HasTarget-from_test, test-from_HasTarget, HasSource-from_test, test-from_HasSource}
-use Rattle.quadtree.proofs.Lists.{All-from_members}
+use Rattle.exact_math.proofs.Lists.{All-from_members}
 use Rattle.tree_field.proofs.Members.{found, list_any-member}
 use Rattle.tree_field.proofs.Numbers.{same_cell, same_from_test, test_itself}
 use Rattle.tree_field.proofs.Sorting.{sorted_cells, sorted_has, sorted_from, sorted_ascend}

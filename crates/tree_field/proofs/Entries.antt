@@ -26,7 +26,7 @@ use Rattle.tree_field.specs.Field.{targets}
 use Rattle.tree_field.proofs.Accounts.{leaf_number, leaf_source, leaf_target, sources, entry, entries_from, of_cell, accounting, All-of_cell}
 use Rattle.quadtree.proofs.Ascending.{ascending_differ}
 use Rattle.tree_field.proofs.Leaves.{leaf_holds, only_leaf, cell_of_leaf, under_is_holding}
-use Rattle.quadtree.proofs.Lists.{All-from_members, Contains-into_map, AllPairs-map, AllPairs-both}
+use Rattle.exact_math.proofs.Lists.{All-from_members, Contains-into_map, AllPairs-map, AllPairs-both}
 use Rattle.tree_field.proofs.Members.{count_one}
 use Rattle.tree_field.proofs.Numbers.{number, cell_at, above, number_below, cell_of_number}
 

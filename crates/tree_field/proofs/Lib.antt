@@ -12,7 +12,6 @@ pub mod OneTree
 pub mod Program
 pub mod Sorting
 pub mod SourceChildren
-pub mod Sums
 pub mod Whole
 pub mod Work
 pub mod Worked

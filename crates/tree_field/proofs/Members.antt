@@ -7,7 +7,7 @@ use Rattle.std.proofs.lemmas.List.Elements.{All-tail, filter-append}
 use Rattle.std.proofs.lemmas.List.Folds.{list_any_at}
 use Rattle.std.proofs.lemmas.List.Sums.{sum_by-cons}
 use mathlib.Core.Logic.{⊎_elim}
-use Rattle.quadtree.proofs.Lists.{All-from_members, later, first_differs, rest_differ}
+use Rattle.exact_math.proofs.Lists.{All-from_members, later, first_differs, rest_differ}
 
 -- where only one piece has something that passes
 pieces_none : {X A : Type 0} (p : A → Bool) (f : X → List A) (xs : List X) → ((y : X) → Contains xs y → filter p (f y) ≡ []) → filter p (flat_map f xs) ≡ []

@@ -30,11 +30,11 @@ use Rattle.tree_field.specs.Lists.{TreeLists, AreTreeLists}
 use Rattle.tree_field.specs.Field.{is_source_in, has_source, leaf_row, multipole_above, multipole_row}
 use Rattle.tree_field.proofs.Accounts.{accounting, over_sources}
 use Rattle.quadtree.proofs.Ascending.{same_list, quarters_ascend}
-use Rattle.quadtree.proofs.Lists.{image_of, Contains-into_map, AllPairs-map, AllPairs-range, Contains-range, range_below, filter_none}
+use Rattle.exact_math.proofs.Lists.{image_of, Contains-into_map, AllPairs-map, AllPairs-range, Contains-range, range_below, filter_none}
 use Rattle.tree_field.proofs.Members.{found, list_any-member, none_passes}
 use Rattle.tree_field.proofs.Occupants.{occupied_from_source}
 use Rattle.tree_field.proofs.Numbers.{number, cell_at, above, tree_cell, number_below, cell_of_number, number_of_cell, first_is_root, level_positive, cell_above, above_number}
-use Rattle.tree_field.proofs.Sums.{total_box-map, total_box-same, total_box-fewer}
+use Rattle.soundness.proofs.Sums.{total_box-map, total_box-same, total_box-fewer}
 
 -- ---- the row of a cell from its sources, or from the rows of its quarters
 leaf_level : (points : List Point) (cap levels : ℕ) (c : Square) (k : ℕ) → (levels ≡ 0) ⊎ (count_in points c ≤ cap) → multipole_above points cap levels c k ≡ leaf_row points c k

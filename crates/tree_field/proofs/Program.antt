@@ -33,7 +33,7 @@ use Rattle.tree_field.specs.Program.{ListsOfTree, source_children, IsNodeOfField
 use Rattle.tree_field.specs.Work.{has_target}
 use Rattle.quadtree.proofs.Ascending.{same_list}
 use Rattle.tree_field.proofs.Leaves.{same_test, only_leaf}
-use Rattle.quadtree.proofs.Lists.{image_of, Contains-into_map, AllPairs-map, AllPairs-both, All-from_members, range_below, filter-filter, filter-map, filter_same}
+use Rattle.exact_math.proofs.Lists.{image_of, Contains-into_map, AllPairs-map, AllPairs-both, All-from_members, range_below, filter-filter, filter-map, filter_same}
 use Rattle.tree_field.proofs.Occupants.{HasTarget-from_test, test-from_HasTarget, HasSource-from_test, test-from_HasSource, occupied_from_source}
 
 -- ---- cells and entries

@@ -11,7 +11,7 @@ use mathlib.Core.Logic.{⊎_elim}
 use Rattle.cell_name.specs.Order.{IsBefore}
 use Rattle.cell_name.specs.Square.{Square}
 use Rattle.cell_name.proofs.Order.{square_cmp, square_ranked, IsBefore-from_not_less}
-use Rattle.quadtree.proofs.Lists.{All-from_members, later, first_differs, rest_differ}
+use Rattle.exact_math.proofs.Lists.{All-from_members, later, first_differs, rest_differ}
 
 IsBefore-trans : (c d e : Square) → IsBefore c d → IsBefore d e → IsBefore c e
 IsBefore-trans c d e p q = record { before = levels p.before q.before }

@@ -6,7 +6,7 @@ use Rattle.std.proofs.lemmas.Bool.{and_parts, ltb-true, eqb-true}
 use Rattle.points.specs.declared.Point.{Point}
 use Rattle.quadtree.specs.TreeModel.{TreeModel, size, node_of, is_child, children_of, IsTreeOf}
 use Rattle.quadtree.proofs.Distinct.{Contains-filter}
-use Rattle.quadtree.proofs.Lists.{range_below}
+use Rattle.exact_math.proofs.Lists.{range_below}
 use Rattle.tree_field.specs.Program.{with_source, source_children}
 
 pub record IsSourceChild (tree : TreeModel) (n c : ℕ) : Type 0 where

@@ -31,7 +31,7 @@ use Rattle.tree_field.proofs.Accounts.{leaf_number, leaf_source, leaf_target, so
 use Rattle.tree_field.proofs.Entries.{entries_in_range, entries_apart, accounted_once}
 use Rattle.tree_field.proofs.Leaves.{leaf_is, leaf_holds, leaf_number_below, cell_of_leaf, under_is_holding}
 use Rattle.tree_field.proofs.LocalRows.{local_rows_same, radii_same, boxes_same}
-use Rattle.quadtree.proofs.Lists.{All-from_members, filter-filter, image_of}
+use Rattle.exact_math.proofs.Lists.{All-from_members, filter-filter, image_of}
 use Rattle.tree_field.proofs.Members.{found, list_any-member}
 use Rattle.tree_field.proofs.MultipoleRows.{split_from_node, leaf_rows_same, inner_rows_same}
 use Rattle.tree_field.proofs.Numbers.{cell_at, above, tree_cell, level_positive, above_root, above_first, cell_above}

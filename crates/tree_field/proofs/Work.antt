@@ -20,10 +20,10 @@ use Rattle.tree_field.specs.Laws.{TranslationsAreFew}
 use Rattle.tree_field.specs.Program.{WorkOfTree}
 use Rattle.tree_field.specs.Work.{has_target, pairs_between}
 use Rattle.tree_field.proofs.Leaves.{same_test}
-use Rattle.quadtree.proofs.Lists.{All-from_members, range_below}
+use Rattle.exact_math.proofs.Lists.{All-from_members, range_below}
 use Rattle.tree_field.proofs.Numbers.{first_is_root, level_positive}
 use Rattle.tree_field.proofs.Program.{lists_of_tree, nodes_of_tree}
-use Rattle.tree_field.proofs.Sums.{sum_by-map, sum_by-same}
+use Rattle.soundness.proofs.Sums.{sum_by-map, sum_by-same}
 
 -- a sum over all cells, by their numbers
 pub sum_by_numbers : (tree : TreeModel) (f : Square → ℕ) (g : ℕ → ℕ) → ((n : ℕ) → n < size tree → f (square_of tree n) ≡ g n) → sum_by f (squares tree) ≡ sum_by g (range_with_len 0 (size tree))

@@ -3,12 +3,12 @@ use Rattle.std.proofs.Common.{ℕ, ◌≡◌, ◌+◌, ◌-◌, ◌<◌, ◌^◌
 use Rattle.std.proofs.lemmas.List.{get_or_default}
 use Rattle.exact_math.specs.Ends.{BoxEndsWithin}
 use Rattle.complex_box.specs.declared.CBox.{CBox}
-use Rattle.field_basis.specs.FieldPlaces.{AreSameRows, IsMultipolePlace}
+use Rattle.field_basis.specs.FieldPlaces.{IsMultipolePlace}
 use Rattle.field_basis.specs.Trees.{IsTreeOfPoints}
 use Rattle.places.specs.Place.{PlaceModel, no_place, place_at}
 use Rattle.points.specs.declared.Point.{Point}
 use Rattle.quadtree.specs.TreeModel.{TreeModel, size, square_of, IsTreeOf}
-use Rattle.row_recursions.specs.Rows.{row_of}
+use Rattle.row_recursions.specs.Rows.{row_of, AreSameRows}
 use Rattle.row_recursions.specs.Sizes.{RowWithin}
 use Rattle.tree_field.specs.Field.{multipole_row}
 use Rattle.upward_rows.specs.Behind.{IsBehind}

@@ -21,7 +21,7 @@ use Rattle.quadtree.proofs.Parents.{IsTreeCell-parent, IsTreeCell-below}
 use Rattle.cell_name.proofs.Quarters.{IsQuarter, quarters_are, quarters_contain, quarters_differ}
 use Rattle.tree_field.specs.Field.{has_source}
 use Rattle.quadtree.proofs.Ascending.{ascending_differ}
-use Rattle.quadtree.proofs.Lists.{AllPairs-range, Contains-range, range_below}
+use Rattle.exact_math.proofs.Lists.{AllPairs-range, Contains-range, range_below}
 use Rattle.tree_field.proofs.Numbers.{number, number_below, cell_of_number, number_of_cell}
 use Rattle.upward_rows.specs.Shifted.{is_shifted}
 use Rattle.upward_rows.proofs.Trees.{inner_is, quarter_listed}

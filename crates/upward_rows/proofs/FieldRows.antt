@@ -6,7 +6,7 @@ use Rattle.cell_name.specs.Square.{Square}
 use Rattle.field_basis.specs.Trees.{IsTreeOfPoints}
 use Rattle.field_sizes.proofs.CellWeights.{weight64_in, weight64_in-light}
 use Rattle.field_sizes.proofs.MultipoleSizes.{multipole_row-within}
-use Rattle.field_sizes.proofs.RowTotals.{wider}
+use Rattle.soundness.proofs.RowTotals.{wider}
 use Rattle.limits.proofs.Grids.{within_widest}
 use Rattle.points.specs.declared.Point.{Point}
 use Rattle.quadtree.proofs.Limits.{in_grid}
@@ -20,7 +20,7 @@ use Rattle.tree_field.specs.Field.{has_source, multipole_row}
 use Rattle.tree_field.specs.Program.{source_children}
 use Rattle.tree_field.proofs.MultipoleRows.{multipole_row-split}
 use Rattle.tree_field.proofs.Program.{nodes_of_tree}
-use Rattle.tree_field.proofs.Sums.{total_box-map}
+use Rattle.soundness.proofs.Sums.{total_box-map}
 use Rattle.upward_rows.proofs.Trees.{inner_is}
 
 -- the row of a cell by its number, shifted up

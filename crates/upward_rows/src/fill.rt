@@ -2,11 +2,11 @@
 ghost use Rattle.std.specs.Prelude.{◌≡◌, ℕ, ◌<◌, ◌≤◌, ◌^◌, length};
 ghost use Rattle.exact_math.specs.Orders.{IsOrder};
 ghost use Rattle.field_basis.specs.Counts.{shifts_into, translated};
-ghost use Rattle.field_basis.specs.FieldPlaces.{AreMultipolePlaces, AreSameRows, IsMultipolePlace};
+ghost use Rattle.field_basis.specs.FieldPlaces.{AreMultipolePlaces, IsMultipolePlace};
 ghost use Rattle.field_basis.specs.Trees.{IsTreeOfPoints};
 ghost use Rattle.places.specs.Place.{OthersStay, place_at};
 ghost use Rattle.quadtree.specs.TreeModel.{IsTreeOf, size, square_of};
-ghost use Rattle.row_recursions.specs.Rows.{row_of};
+ghost use Rattle.row_recursions.specs.Rows.{row_of, AreSameRows};
 ghost use Rattle.tree_field.specs.Field.{multipole_row};
 ghost use Rattle.tree_field.specs.Program.{source_children};
 ghost use Rattle.upward_rows.specs.Behind.{AreBehind};

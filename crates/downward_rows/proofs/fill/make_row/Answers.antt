@@ -5,7 +5,7 @@ use Rattle.cell_name.proofs.Quarters.{right_of_parent, top_of_parent}
 use Rattle.cell_name.specs.Cell.{square}
 use Rattle.cell_lists.proofs.CellNumbers.{level_positive}
 use Rattle.cell_lists.proofs.TreeNumbers.{read_at}
-use Rattle.field_sizes.proofs.RowTotals.{wider}
+use Rattle.soundness.proofs.RowTotals.{wider}
 use Rattle.local_shift.proofs.Sums.{nothing_at}
 use Rattle.row_recursions.specs.Cells.{quadrant_of}
 use Rattle.row_recursions.specs.Rows.{row_of, shifted_down}

@@ -4,7 +4,7 @@ use Rattle.std.proofs.Math.Seq.{take-length}
 use Rattle.exact_math.specs.Ends.{add_box}
 use Rattle.exact_math.proofs.Orders.{order_bounds}
 use Rattle.cell_lists.specs.ListAt.{list_at}
-use Rattle.field_sizes.proofs.RowTotals.{wider}
+use Rattle.soundness.proofs.RowTotals.{wider}
 use Rattle.letters.specs.declared.Letter.TheVariants.{V}
 use Rattle.row_recursions.specs.Rows.{row_of}
 use Rattle.soundness.specs.Computed.{total_row}

@@ -2,7 +2,7 @@ use Rattle.std.proofs.Common.{◌+◌, ◌*◌, ◌^◌, get_or, subst, ap, ◌�
 use Rattle.std.proofs.lemmas.List.{get_or_default}
 use Rattle.exact_math.specs.Ends.{add_box}
 use Rattle.cell_name.specs.Cell.{square}
-use Rattle.field_sizes.proofs.RowTotals.{wider}
+use Rattle.soundness.proofs.RowTotals.{wider}
 use Rattle.points.proofs.Ranges.{range_in_widest}
 use Rattle.points.proofs.Slices.{first_point}
 use Rattle.points.specs.Limits.{InRange, weight64}

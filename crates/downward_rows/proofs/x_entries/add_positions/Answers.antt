@@ -1,6 +1,6 @@
 use Rattle.std.proofs.Common.{◌+◌, ◌*◌, ◌^◌, arith}
 use Rattle.cell_name.specs.Cell.{square}
-use Rattle.field_sizes.proofs.RowTotals.{wider}
+use Rattle.soundness.proofs.RowTotals.{wider}
 use Rattle.row_recursions.specs.Rows.{row_of}
 use Rattle.downward_rows.specs.Entries.{far_row_at}
 use Rattle.downward_rows.proofs.Totals.{none_added, one_added}

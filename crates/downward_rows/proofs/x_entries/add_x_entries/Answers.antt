@@ -5,7 +5,7 @@ use Rattle.exact_math.specs.Ends.{add_box}
 use Rattle.cell_name.specs.Cell.{square}
 use Rattle.cell_lists.proofs.TreeNumbers.{read_at}
 use Rattle.cell_lists.specs.ListAt.{list_at}
-use Rattle.field_sizes.proofs.RowTotals.{wider}
+use Rattle.soundness.proofs.RowTotals.{wider}
 use Rattle.letters.specs.declared.Letter.TheVariants.{X}
 use Rattle.quadtree.specs.TreeModel.{size, square_of, node_of}
 use Rattle.row_recursions.specs.Rows.{row_of}

@@ -13,7 +13,7 @@ use Rattle.complex_box.specs.declared.CBox.{CBox}
 use Rattle.field_basis.specs.Basis.{BasisModel, IsBasis, target_leaf}
 use Rattle.field_basis.specs.Counts.{paired}
 use Rattle.field_basis.specs.FieldPlaces.{AreMultipolePlaces, IsTargetBox}
-use Rattle.field_sizes.proofs.RowTotals.{wider}
+use Rattle.soundness.proofs.RowTotals.{wider}
 use Rattle.limits.specs.Limits.{most_local, widest_grid}
 use Rattle.places.specs.Place.{PlaceModel, place_at}
 use Rattle.points.specs.Points.{place}

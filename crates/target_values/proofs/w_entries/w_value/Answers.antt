@@ -6,7 +6,7 @@ use Rattle.cell_name.specs.Square.{Square, side}
 use Rattle.complex_box.proofs.Sizes.{box_wider}
 use Rattle.complex_box.specs.declared.CBox.{CBox}
 use Rattle.field_basis.specs.Basis.{IsBasis}
-use Rattle.field_sizes.proofs.RowTotals.{wider}
+use Rattle.soundness.proofs.RowTotals.{wider}
 use Rattle.limits.proofs.Grids.{in_widest}
 use Rattle.limits.specs.Grid.{IsInGrid}
 use Rattle.limits.specs.Limits.{most_multipole, widest_grid}

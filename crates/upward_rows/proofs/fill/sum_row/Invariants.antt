@@ -1,9 +1,8 @@
 -- The rows of the children so far that have a source, shifted up.
 use Rattle.std.proofs.Common.{ℕ, ◌≡◌, ◌*◌, ◌^◌, take, length}
 use Rattle.field_basis.specs.Counts.{translated}
-use Rattle.field_basis.specs.FieldPlaces.{AreSameRows}
 use Rattle.quadtree.specs.TreeModel.{IsTreeOf}
-use Rattle.row_recursions.specs.Rows.{row_of}
+use Rattle.row_recursions.specs.Rows.{row_of, AreSameRows}
 use Rattle.row_recursions.specs.Sizes.{RowWithin}
 use Rattle.soundness.specs.Computed.{total_row}
 use Rattle.tree_field.specs.Program.{with_source}

@@ -11,7 +11,7 @@ use Rattle.field_basis.specs.FieldPlaces.{IsMultipolePlace}
 use Rattle.field_basis.proofs.PlaceSums.{sum_by_number}
 use Rattle.places.specs.Place.{PlaceModel, no_place, place_at}
 use Rattle.quadtree.proofs.Limits.{in_grid}
-use Rattle.quadtree.proofs.Lists.{All-from_members}
+use Rattle.exact_math.proofs.Lists.{All-from_members}
 use Rattle.quadtree.specs.TreeModel.{size}
 use Rattle.row_recursions.specs.Rows.{row_of}
 use Rattle.tree_field.specs.Program.{source_children}

@@ -8,7 +8,7 @@ use Rattle.std.proofs.lemmas.List.Sums.{sum_by-cons}
 use Rattle.exact_math.specs.Ends.{BoxEnds, zero_box, add_box}
 use Rattle.complex_box.proofs.ZeroBoxes.{zero_right}
 use Rattle.soundness.specs.Computed.{total_box}
-use Rattle.quadtree.proofs.Lists.{later}
+use Rattle.exact_math.proofs.Lists.{later}
 
 pub total_box-map : {A B : Type 0} (g : B → BoxEnds) (f : A → B) (xs : List A) → total_box g (map f xs) ≡ total_box (λ x. g (f x)) xs
 total_box-map g f xs = fold-map (λ b y. add_box b (g y)) f zero_box xs
