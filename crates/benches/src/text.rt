@@ -4,10 +4,10 @@ ghost use Rattle.limits.specs.Limits.{first_grid, most_points};
 ghost use Rattle.points.specs.Limits.{WithinLimits};
 
 use complex_box::CBox;
-use field_report::write_target;
 use io_ports::{DropSink, MemSink, Sink};
 use particle_text::{parse, print};
 use points::{Mode, Points};
+use report_lines::write_target;
 use std::io;
 use std::time::Instant;
 

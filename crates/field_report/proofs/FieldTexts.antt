@@ -23,9 +23,9 @@ use Rattle.points.specs.declared.Points.{Points}
 use Rattle.tree_field.specs.Field.{targets, target_box, target_boxes}
 use Rattle.tree_field.specs.Lists.{TreeLists, AreTreeLists}
 use Rattle.tree_field.specs.Work.{translations, pairs}
-use Rattle.field_report.specs.Counts.{target_counts}
+use Rattle.report_lines.specs.Counts.{target_counts}
 use Rattle.field_report.specs.FieldText.{field_line, field_text, target_text}
-use Rattle.field_report.specs.Report.{report_head, target_line, work_line, end_line, last_lines}
+use Rattle.report_lines.specs.Report.{report_head, target_line, work_line, end_line, last_lines}
 use Rattle.field_report.proofs.Pieces.{AppendsPrefix-then, AppendsPrefix-front, Writes-then}
 
 targets-append : (xs ys : List Point) → targets (xs ++ ys) ≡ targets xs ++ targets ys

@@ -1,4 +1,3 @@
-pub mod Bounds
 pub mod FieldTexts
 pub mod Pieces
 mod Worked

@@ -7,8 +7,8 @@ use Rattle.points.specs.declared.Points.{Points}
 use Rattle.tree_field.specs.Field.{targets, target_box}
 use Rattle.tree_field.specs.Lists.{TreeLists}
 use Rattle.tree_field.specs.Work.{translations, pairs}
-use Rattle.field_report.specs.Counts.{target_counts}
-use Rattle.field_report.specs.Report.{TargetLine, report_text, target_line}
+use Rattle.report_lines.specs.Counts.{target_counts}
+use Rattle.report_lines.specs.Report.{TargetLine, report_text, target_line}
 
 -- the line of a target: its place, and the counts of its box
 abbrev pub field_line : Mode → List Point → ℕ → ℕ → TreeLists → Point → TargetLine

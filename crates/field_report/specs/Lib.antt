@@ -1,4 +1,2 @@
--- What the contracts cite: counts, their decimals and the lines of a report.
-pub mod Counts
+-- What the contracts cite: the report of a field.
 pub mod FieldText
-pub mod Report

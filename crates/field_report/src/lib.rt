@@ -1,15 +1,7 @@
-//! The report of a field: the printed counts of boxes, their decimals, the lines of targets, and the whole report.
+//! The report of a field: its lines stand in `report_lines`, and are offered here too.
 #![tactic(auto)]
 
-mod counts;
-mod decimal;
-mod ends;
-mod line;
 mod report;
 
-pub use counts::to_count;
-pub use decimal::Decimal;
-pub use ends::{write_end, write_head};
-pub use line::write_target;
-pub use line_text::FrontText;
 pub use report::write_report;
+pub use report_lines::{Decimal, FrontText, to_count, write_end, write_head, write_target};

@@ -8,10 +8,9 @@ ghost use Rattle.points.specs.Limits.{InRange, WithinLimits};
 ghost use Rattle.solve_phase.specs.Field.{IsSolved};
 ghost use Rattle.tree_field.specs.Lists.{TreeLists, AreTreeLists};
 
-use crate::ends::{write_end, write_head};
-use crate::line::write_target;
 use io_ports::{Sink, WriteFault};
 use points::{Mode, Point, Points};
+use report_lines::{write_end, write_head, write_target};
 use solve_phase::Field;
 
 // Appends the lines of all targets, in the order of the list.

@@ -7,7 +7,7 @@ use Rattle.std.specs.declared.option.Option.{Option}
 use Rattle.exact_math.specs.Ends.{BoxEndsContain}
 use Rattle.exact_math.specs.Orders.{IsOrder}
 use Rattle.exact_math.proofs.Orders.{order_bounds}
-use Rattle.field_report.proofs.Bounds.{CountsContain-box}
+use Rattle.report_lines.proofs.Bounds.{CountsContain-box}
 use Rattle.field_report.specs.FieldText.{field_line}
 use Rattle.limits.proofs.Grids.{grid_positive, version_has_grid}
 use Rattle.limits.specs.Limits.{grid_of}

@@ -25,9 +25,9 @@ use Rattle.quadtree.specs.declared.fault.TreeFault.TheVariants.{Crowded, Cells, 
 use Rattle.tree_field.specs.Field.{targets}
 use Rattle.tree_field.specs.Lists.{TreeLists, AreTreeLists}
 use Rattle.tree_field.specs.Work.{translations, pairs}
-use Rattle.field_report.specs.Counts.{CountsContain}
+use Rattle.report_lines.specs.Counts.{CountsContain}
 use Rattle.field_report.specs.FieldText.{field_text}
-use Rattle.field_report.specs.Report.{TargetLine, report_text}
+use Rattle.report_lines.specs.Report.{TargetLine, report_text}
 use Rattle.fmm_program.specs.declared.status.Status.{Status}
 use Rattle.fmm_program.specs.declared.status.Status.TheVariants.{Done, Refused, Usage, Memory, ReadFault, WriteFault, Rejected}
 

@@ -5,7 +5,7 @@ use Rattle.exact_math.specs.Ends.{Ends, BoxEnds}
 use Rattle.cell_name.specs.Square.{Square}
 use Rattle.letters.specs.declared.Letter.{Letter}
 use Rattle.letters.specs.declared.Letter.TheVariants.{U, V, W, X}
-use Rattle.field_report.specs.Counts.{target_counts}
+use Rattle.report_lines.specs.Counts.{target_counts}
 use Rattle.points.specs.Points.{is_source}
 use Rattle.points.specs.declared.Mode.TheVariants.{Field}
 use Rattle.points.specs.declared.Point.{Point}

@@ -1,7 +1,7 @@
 -- The seven lines of a summary.
 use Rattle.std.specs.Prelude.{ℕ, List, [], ◌∷◌, ◌++◌, codes, decimal}
 use Rattle.number_text.specs.Parts.{line_feed}
-use Rattle.field_report.specs.Report.{work_line, end_line}
+use Rattle.report_lines.specs.Report.{work_line, end_line}
 use Rattle.sample_summary.specs.declared.numbers.Summary.{Summary}
 
 -- `sample SEED N order P cap CAP`

@@ -1,6 +1,6 @@
 //! The lines of a summary, each put before the text behind it.
 ghost use Rattle.std.specs.Prelude.{◌≡◌, ◌+◌, ◌≤◌, ◌++◌, length};
-ghost use Rattle.field_report.specs.Report.{work_line};
+ghost use Rattle.report_lines.specs.Report.{work_line};
 ghost use Rattle.sample_summary.specs.Text.{summary_text, sample_line, points_line, tree_line, lists_line, widest_line};
 
 use crate::numbers::Summary;

@@ -1,14 +1,14 @@
 //! The widths of printed counts.
 ghost use Rattle.std.specs.Prelude.{◌≡◌, map, max};
 ghost use Rattle.complex_box.specs.Box.{BoxWithin, box_ends};
-ghost use Rattle.field_report.specs.Counts.{count_ends};
+ghost use Rattle.report_lines.specs.Counts.{count_ends};
 ghost use Rattle.fixed_interval.specs.Interval.{IntervalWithin, ends_of};
 ghost use Rattle.limits.specs.Limits.{first_grid, most_box};
 ghost use Rattle.sample_summary.specs.Summary.{width, widest_re, widest_im};
 
 use complex_box::CBox;
-use field_report::to_count;
 use fixed_interval::Interval;
+use report_lines::to_count;
 use solve_phase::Field;
 
 /// How far the printed counts of an interval are apart.

@@ -1,5 +1,5 @@
 use Rattle.sample_summary.specs.Text.{sample_line, points_line, tree_line, lists_line, widest_line}
-use Rattle.field_report.specs.Report.{work_line, end_line}
+use Rattle.report_lines.specs.Report.{work_line, end_line}
 use Rattle.sample_summary.proofs.Lines.{in_order}
 use Rattle.sample_summary.proofs.text.summary_text.Goals as goal
 

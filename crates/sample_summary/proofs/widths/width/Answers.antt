@@ -1,7 +1,7 @@
 use Rattle.std.proofs.Common.{ap, arith, SFits}
 use Rattle.std.specs.Int.{w128}
 use Rattle.std.proofs.lemmas.Int.{ints, to_z-of_z}
-use Rattle.field_report.specs.Counts.{count_below, count_above}
+use Rattle.report_lines.specs.Counts.{count_below, count_above}
 use Rattle.sample_summary.proofs.widths.width.Goals as goal
 
 pub returns : goal.returns

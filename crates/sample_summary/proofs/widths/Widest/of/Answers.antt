@@ -1,6 +1,6 @@
 use Rattle.std.proofs.Common.{◌∙◌, ap₂, sym, max, arith}
 use Rattle.complex_box.specs.Box.{box_ends}
-use Rattle.field_report.specs.Counts.{target_counts}
+use Rattle.report_lines.specs.Counts.{target_counts}
 use Rattle.points.specs.declared.Mode.TheVariants.{Field}
 use Rattle.sample_summary.specs.Summary.{width}
 use Rattle.sample_summary.proofs.Greatest.{greatest_box-more}

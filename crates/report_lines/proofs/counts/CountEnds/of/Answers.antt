@@ -2,9 +2,9 @@ use Rattle.std.proofs.Common.{ap, arith, SFits}
 use Rattle.std.specs.Int.{w128}
 use Rattle.std.proofs.lemmas.Int.{ints, to_z-of_z}
 use Rattle.exact_math.proofs.Bridges.{contains-wider}
-use Rattle.field_report.proofs.Bounds.{contains-counts}
-use Rattle.field_report.specs.Counts.{count_below, count_above}
-use Rattle.field_report.proofs.counts.CountEnds.of.Goals as goal
+use Rattle.report_lines.proofs.Bounds.{contains-counts}
+use Rattle.report_lines.specs.Counts.{count_below, count_above}
+use Rattle.report_lines.proofs.counts.CountEnds.of.Goals as goal
 
 pub returns-clause-contains : goal.returns-clause-contains
 returns-clause-contains c x p =

@@ -1,9 +1,9 @@
 use Rattle.std.proofs.Common.{ap, arith}
 use Rattle.std.specs.Int.{w128}
 use Rattle.std.proofs.lemmas.Int.{ints, to_z-of_z}
-use Rattle.field_report.proofs.Bounds.{KeepsBound-down, KeepsBound-up}
-use Rattle.field_report.specs.Counts.{count_below, count_above}
-use Rattle.field_report.proofs.counts.to_count.Goals as goal
+use Rattle.report_lines.proofs.Bounds.{KeepsBound-down, KeepsBound-up}
+use Rattle.report_lines.specs.Counts.{count_below, count_above}
+use Rattle.report_lines.proofs.counts.to_count.Goals as goal
 
 pub returns-then-up-clause-bound : goal.returns-then-up-clause-bound
 returns-then-up-clause-bound c =

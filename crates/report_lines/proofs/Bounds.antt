@@ -7,7 +7,7 @@ use Rattle.soundness.proofs.Counts.{below_any, above_any}
 use Rattle.exact_math.specs.Contains.{Contains}
 use Rattle.exact_math.specs.Ends.{BoxEnds, BoxEndsContain}
 use Rattle.exact_math.specs.Ratio.{Ratio, ComplexRatio, re_part, im_part}
-use Rattle.field_report.specs.Counts.{count_below, count_above, KeepsBound, CountsContain, target_counts}
+use Rattle.report_lines.specs.Counts.{count_below, count_above, KeepsBound, CountsContain, target_counts}
 use Rattle.points.specs.declared.Mode.{Mode}
 use Rattle.points.specs.declared.Mode.TheVariants.{Field, Velocity}
 

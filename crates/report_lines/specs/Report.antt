@@ -4,7 +4,7 @@ use Rattle.std.specs.Fmt.{signed_decimal}
 use Rattle.number_text.specs.Parts.{line_feed}
 use Rattle.points.specs.declared.Mode.{Mode}
 use Rattle.points.specs.declared.Mode.TheVariants.{Field, Velocity}
-use Rattle.field_report.specs.Counts.{TargetCounts}
+use Rattle.report_lines.specs.Counts.{TargetCounts}
 use Rattle.line_text.specs.Decimals.{decimal_text}
 
 abbrev pub mode_word : Mode → List ℕ

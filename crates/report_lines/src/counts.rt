@@ -7,7 +7,7 @@ ghost use Rattle.exact_math.specs.Within.{Within};
 ghost use Rattle.limits.specs.Limits.{first_grid, most_box};
 ghost use Rattle.exact_math.specs.Units.{unit};
 ghost use Rattle.fixed_interval.specs.Interval.{IntervalWithin, ends_of};
-ghost use Rattle.field_report.specs.Counts.{second_ends, count_below, count_above, KeepsBound};
+ghost use Rattle.report_lines.specs.Counts.{second_ends, count_below, count_above, KeepsBound};
 
 use complex_box::UNIT_BITS;
 use fixed_interval::Interval;

@@ -3,10 +3,10 @@ ghost use Rattle.std.specs.Prelude.{◌≡◌, ◌+◌, ◌≤◌, ◌++◌, cod
 ghost use Rattle.complex_box.specs.Box.{BoxWithin, box_ends, BoxContains};
 ghost use Rattle.exact_math.specs.Ratio.{ComplexRatio};
 ghost use Rattle.exact_math.specs.Units.{unit};
-ghost use Rattle.field_report.specs.Counts.{CountsContain, target_counts};
+ghost use Rattle.report_lines.specs.Counts.{CountsContain, target_counts};
 ghost use Rattle.limits.specs.Limits.{first_grid, most_box};
 ghost use Rattle.line_text.specs.Decimals.{decimal_text};
-ghost use Rattle.field_report.specs.Report.{first_word, second_word, line_of, target_line};
+ghost use Rattle.report_lines.specs.Report.{first_word, second_word, line_of, target_line};
 ghost use Rattle.io_ports.specs.Bytes.{Writes};
 ghost use Rattle.io_ports.specs.Faults.{HasCause};
 

@@ -1,6 +1,6 @@
 use Rattle.std.proofs.Common.{append_assoc, w64}
 use Rattle.std.proofs.lemmas.Int.{to_z-of_z}
-use Rattle.field_report.proofs.line.line_text.Goals as goal
+use Rattle.report_lines.proofs.line.line_text.Goals as goal
 
 pub returns : goal.returns
 returns c =

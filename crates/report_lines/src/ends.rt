@@ -1,6 +1,6 @@
 //! The first line of a report, and its last two.
 ghost use Rattle.std.specs.Prelude.{◌≡◌, ◌≤◌, length};
-ghost use Rattle.field_report.specs.Report.{report_head, last_lines, mode_word};
+ghost use Rattle.report_lines.specs.Report.{report_head, last_lines, mode_word};
 ghost use Rattle.io_ports.specs.Bytes.{Writes};
 ghost use Rattle.io_ports.specs.Faults.{HasCause};
 

@@ -1,8 +1,8 @@
 use Rattle.std.proofs.Common.{w64}
 use Rattle.std.proofs.lemmas.Int.{to_z-of_z}
 use Rattle.complex_box.specs.Box.{box_ends}
-use Rattle.field_report.proofs.Bounds.{CountsContain-box}
-use Rattle.field_report.proofs.line.write_target.Goals as goal
+use Rattle.report_lines.proofs.Bounds.{CountsContain-box}
+use Rattle.report_lines.proofs.line.write_target.Goals as goal
 
 pub returns-clause-bytes : goal.returns-clause-bytes
 returns-clause-bytes g c =
