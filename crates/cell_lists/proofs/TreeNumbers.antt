@@ -19,7 +19,7 @@ use Rattle.quadtree.proofs.LeafLevel.{InTreeAt, tree_above}
 use Rattle.quadtree.proofs.Parents.{cell_of_point}
 use Rattle.cell_lists.specs.Cases.{IsCase}
 use Rattle.cell_lists.specs.Entries.{IsEntry}
-use Rattle.cell_lists.specs.Walk.{AncestorsTouch}
+use Rattle.cell_lists.specs.Walk.{AncestorsTouch, IsAncestor}
 use Rattle.cell_lists.proofs.OneEntry.{ancestor_of, levels_of_case, entry_from_case}
 
 -- what the program reads is the cell of the number
@@ -49,6 +49,16 @@ number_of tree s r n e h = let P : Option ℕ → Type 0 = λ v. MatchOption v (
 
 pub read_at : (tree : TreeModel) (cells : List Cell) (n : ℕ) (x : Cell) → cells ≡ tree.cells → n < size tree → x ≡ get_or cells n x → square x ≡ square_of tree n
 read_at tree cells n x all lt e = read_is tree.cells n x lt (e ∙ ap (λ l. get_or l n x) all)
+
+-- a number of the tree is below the number of cells that were read
+pub below_length : (tree : TreeModel) (cells : List Cell) (n : ℕ) → cells ≡ tree.cells → n < size tree → n < length cells
+below_length tree cells n all lt = omega (arith, ap length all)
+
+-- what stands at an ancestor's number is the ancestor
+pub ancestor_at : (tree : TreeModel) (n n' level : ℕ) → level ≤ (square_of tree n).level → square_of tree n' ≡ ancestor (square_of tree n) level → IsAncestor (square_of tree n') (square_of tree n)
+ancestor_at tree n n' level le e =
+    let P : Square → Type 0 = λ s. IsAncestor s (square_of tree n) in
+    subst P (sym e) (record { level_at_most = le; is_ancestor = refl })
 
 -- an ancestor has the places of its descendants
 pub Holds-ancestor : (c d : Square) (level : ℕ) (x y : ℤ) → d ≡ ancestor c level → level ≤ c.level → c.level ≤ c.grid → Holds c x y → Holds d x y

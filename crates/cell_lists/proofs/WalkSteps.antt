@@ -86,6 +86,13 @@ read_before tree b start at was now lt h = ap (λ l. get_or l at 0) h.grown ∙ 
 pub no_shorter : (tree : TreeModel) (b start at : ℕ) (was now : List ℕ) → AddsChildren tree b start at was now → length was ≤ length now
 no_shorter tree b start at was now h = omega (arith, ap length h.grown, length-append was h.more)
 
+-- what stands at a place that was there is a cell of the tree
+pub read_in_tree : (tree : TreeModel) (b start at : ℕ) (was now : List ℕ) (n : ℕ) → at < length was → AddsChildren tree b start at was now → n ≡ get_or now at n → n < size tree
+read_in_tree tree b start at was now n lt h e =
+    let inside : at < length now = omega (arith, no_shorter tree b start at was now h) in
+    let S : ℕ → Type 0 = λ k. k < size tree in
+    subst S (sym (e ∙ get_or_default now at n 0 inside)) (place_below tree now at h.numbers inside)
+
 -- ---- the walk below a leaf
 
 pub below_begins : (tree : TreeModel) (b level : ℕ) (was : List ℕ) → level ≡ (square_of tree b).level → AreNumbers tree was → ((c : ℕ) → c < size tree → (square_of tree c).level ≡ (square_of tree b).level → Touches (square_of tree c) (square_of tree b) → Contains was c) → MeetsBelow tree b level 0 was was
@@ -203,7 +210,7 @@ around_all tree b p count near found is lo hi up colleagues all h c (inr around)
           let colleague : IsColleague tree p q.0 = record { in_range = q.1; touch = subst P (sym up.is_parent) (subst Q (sym q.2) same.1); reached = inl (omega (arith, level_p, level_q, same.0)) } in
           let at = place_of (list_at near p) q.0 (colleagues.whole p q.0 up.before colleague) in
           let R : ℕ → Type 0 = λ n. IsChild tree n c in
-          h.quarters at.at c (omega (arith, at.inside)) (subst R (sym at.here) (record { in_range = around.in_range; below_root = omega (arith, same.0, around.below_root); parent_is = sym q.2 }))
+          h.quarters at.at c (omega (arith, at.inside)) (subst R {y = slice_index (list_at near p) at.at} (sym {a = slice_index (list_at near p) at.at} at.here) (record { in_range = around.in_range; below_root = omega (arith, same.0, around.below_root); parent_is = sym q.2 }))
       | inr leaf ↦
           let P : Square → Type 0 = λ s. Touches s (square_of tree c) in
           let colleague : IsColleague tree p c = record {

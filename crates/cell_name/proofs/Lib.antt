@@ -6,5 +6,6 @@ pub mod HoldsTest
 pub mod Levels
 pub mod Comparisons
 pub mod Distances
+mod Held
 pub mod Order
 pub mod Quarters

@@ -1,14 +1,13 @@
 -- The quarters of a cell tile it, and ancestors.
-use Rattle.std.proofs.Common.{ℕ, ◌≡◌, ◌≢◌, ◌+◌, ◌-◌, ◌*◌, ◌/◌, ◌%◌, ◌^◌, ◌<◌, ◌≤◌, zero, suc, Bool, true, false, [], ◌∷◌, refl, sym, ◌∙◌, ap, ap₂, arith}
+use Rattle.std.proofs.Common.{ℕ, ◌≡◌, ◌≢◌, ◌+◌, ◌-◌, ◌*◌, ◌/◌, ◌%◌, ◌^◌, ◌<◌, ◌≤◌, zero, suc, Bool, true, false, [], ◌∷◌, refl, sym, subst, ◌∙◌, ap, ap₂, arith}
 use Rattle.std.specs.Prelude.{ℤ, pos, ◌+ℤ◌, ◌-ℤ◌, ◌≤ℤ◌, ◌<ℤ◌, int_le, int_lt, ◌&&◌, not, All, AllPairs, Contains}
 use Rattle.std.proofs.lemmas.List.Elements.{All-from_recursion, All-nil}
 use Rattle.std.proofs.lemmas.List.Kept.{AllPairs-cons}
 use Rattle.std.proofs.lemmas.Int.{ints, by_lt_z}
 use Rattle.std.proofs.Math.Nat.{lt_of_mul-lt-mul_right, div-div-eq-div-mul, mul_comm}
 use Rattle.cell_name.specs.Square.{Square, side_at, side, half, corner_x, corner_y, Holds, holds_test, Touches, from_border, square_at, parent, child, ancestor}
-use Rattle.cell_name.specs.declared.cell.Cell.{Cell}
 use Rattle.cell_name.specs.declared.cell.Quadrant.{Quadrant}
-use Rattle.cell_name.specs.Cell.{square, half_number}
+use Rattle.cell_name.specs.Cell.{half_number}
 use Rattle.cell_name.specs.Quarters.{quarter, quarters, LiesInOneChild}
 use Rattle.cell_name.proofs.Axis.{side-halves}
 use Rattle.cell_name.proofs.Comparisons.{test-from_le, test-from_lt}
@@ -22,6 +21,13 @@ same_piece i k s p q =
     let b : k < i + 1 = lt_of_mul-lt-mul_right s (let e : k * s < (i + 1) * s = omega arith in e) in
     omega arith
 
+-- a piece of twice the side
+begins : (a x : ℤ) (i k s : ℕ) → k ≡ 2 * s → (pos (i * k) -ℤ a) ≤ℤ x → (pos (i * (2 * s)) -ℤ a) ≤ℤ x
+begins a x i k s e h = let P : ℕ → Type 0 = λ n. (pos (i * n) -ℤ a) ≤ℤ x in subst P e h
+
+ends : (a x : ℤ) (i k s : ℕ) → k ≡ 2 * s → x <ℤ ((pos (i * k) -ℤ a) +ℤ pos k) → x <ℤ ((pos (i * (2 * s)) -ℤ a) +ℤ pos (2 * s))
+ends a x i k s e h = let P : ℕ → Type 0 = λ n. x <ℤ ((pos (i * n) -ℤ a) +ℤ pos n) in subst P e h
+
 -- the half of a piece that has a place
 half_with : (a x : ℤ) (i s : ℕ) → (pos (i * (2 * s)) -ℤ a) ≤ℤ x → x <ℤ ((pos (i * (2 * s)) -ℤ a) +ℤ pos (2 * s)) → (r : ℕ) × (r ≤ 1) × ((pos ((2 * i + r) * s) -ℤ a) ≤ℤ x) × (x <ℤ ((pos ((2 * i + r) * s) -ℤ a) +ℤ pos s))
 half_with a x i s p q =
@@ -29,28 +35,29 @@ half_with a x i s p q =
     (λ lt. (0, omega arith, omega (arith, ints), omega (arith, ints)))
     (λ le. (1, omega arith, le, omega (arith, ints)))
 
+-- of pieces of one side, one alone has a place
+only_half : (a x : ℤ) (i r t s : ℕ) → (pos ((2 * i + r) * s) -ℤ a) ≤ℤ x → x <ℤ ((pos ((2 * i + r) * s) -ℤ a) +ℤ pos s) → (pos ((2 * i + t) * s) -ℤ a) ≤ℤ x → x <ℤ ((pos ((2 * i + t) * s) -ℤ a) +ℤ pos s) → r ≡ t
+only_half a x i r t s west east west' east' =
+    let e : 2 * i + r ≡ 2 * i + t = same_piece (2 * i + r) (2 * i + t) s (before ((2 * i + r) * s) ((2 * i + t) * s) west east') (before ((2 * i + t) * s) ((2 * i + r) * s) west' east) in
+    omega (arith, e)
+  where
+    before : (m n : ℕ) → (pos m -ℤ a) ≤ℤ x → x <ℤ ((pos n -ℤ a) +ℤ pos s) → m < n + s
+    before m n begins ends = omega (arith, ints, begins, ends)
+
 pub lies_in_one_child : (c : Square) (x y : ℤ) → c.level < c.grid → Holds c x y → LiesInOneChild c x y
 lies_in_one_child c x y lt h =
     let s : ℕ = side_at c.grid (c.level + 1) in
+    let a : ℤ = pos (half c.grid) in
     let e : side c ≡ 2 * s = side-halves c.grid c.level lt in
-    let ei : c.i * side c ≡ c.i * (2 * s) = ap (λ n. c.i * n) e in
-    let ej : c.j * side c ≡ c.j * (2 * s) = ap (λ n. c.j * n) e in
-    let across = half_with (pos (half c.grid)) x c.i s (omega (arith, ints)) (omega (arith, ints)) in
-    let up = half_with (pos (half c.grid)) y c.j s (omega (arith, ints)) (omega (arith, ints)) in
+    let across = half_with a x c.i s (begins a x c.i (side c) s e h.west) (ends a x c.i (side c) s e h.east) in
+    let up = half_with a y c.j s (begins a y c.j (side c) s e h.south) (ends a y c.j (side c) s e h.north) in
     record {
       right = across.0;
       top = up.0;
       right_at_most = across.1;
       top_at_most = up.1;
       held = record { west = across.2; east = across.3; south = up.2; north = up.3 };
-      no_other = λ r t other.
-          let west = across.2 in
-          let east = across.3 in
-          let south = up.2 in
-          let north = up.3 in
-          let i = same_piece (2 * c.i + r) (2 * c.i + across.0) s (omega (arith, ints, west, east, other.west, other.east)) (omega (arith, ints, west, east, other.west, other.east)) in
-          let j = same_piece (2 * c.j + t) (2 * c.j + up.0) s (omega (arith, ints, south, north, other.south, other.north)) (omega (arith, ints, south, north, other.south, other.north)) in
-          (omega (arith, i), omega (arith, j));
+      no_other = λ r t other. (only_half a x c.i r across.0 s other.west other.east across.2 across.3, only_half a y c.j t up.0 s other.south other.north up.2 up.3);
     }
 
 pub parent-child : (c : Square) (right top : ℕ) → right ≤ 1 → top ≤ 1 → parent (child c right top) ≡ c
@@ -168,13 +175,12 @@ pub record IsByMiddle (c : Square) (x y : ℤ) (right top : Bool) : Type 0 where
 pub quarters_by_middle : (c : Square) (x y : ℤ) → c.level < c.grid → Holds c x y → IsByMiddle c x y (int_le (corner_x (child c 1 1)) x) (int_le (corner_y (child c 1 1)) y)
 quarters_by_middle c x y lt h =
     let s : ℕ = side_at c.grid (c.level + 1) in
+    let a : ℤ = pos (half c.grid) in
     let e : side c ≡ 2 * s = side-halves c.grid c.level lt in
-    let ei : c.i * side c ≡ c.i * (2 * s) = ap (λ n. c.i * n) e in
-    let ej : c.j * side c ≡ c.j * (2 * s) = ap (λ n. c.j * n) e in
-    let west = first_half (pos (half c.grid)) x c.i s (omega (arith, ints)) in
-    let east = second_half (pos (half c.grid)) x c.i s (omega (arith, ints)) in
-    let south = first_half (pos (half c.grid)) y c.j s (omega (arith, ints)) in
-    let north = second_half (pos (half c.grid)) y c.j s (omega (arith, ints)) in
+    let west = first_half a x c.i s (begins a x c.i (side c) s e h.west) in
+    let east = second_half a x c.i s (ends a x c.i (side c) s e h.east) in
+    let south = first_half a y c.j s (begins a y c.j (side c) s e h.south) in
+    let north = second_half a y c.j s (ends a y c.j (side c) s e h.north) in
     record {
       southwest = by_columns_and_rows (child c 0 0) x y _ _ west south;
       northwest = by_columns_and_rows (child c 0 1) x y _ _ west north;

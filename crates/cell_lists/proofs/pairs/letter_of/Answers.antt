@@ -6,8 +6,14 @@ use Rattle.cell_name.specs.Square.{Square}
 use Rattle.quadtree.specs.TreeModel.{square_of, node_of}
 use Rattle.cell_lists.specs.Pairs.{MeetsLetter}
 use Rattle.cell_lists.proofs.PairTests.{entry_from_letter}
-use Rattle.cell_lists.proofs.TreeNumbers.{read_at}
+use Rattle.cell_lists.proofs.TreeNumbers.{read_at, below_length}
 use Rattle.cell_lists.proofs.pairs.letter_of.Goals as goal
+
+pub bounds-cells-b : goal.bounds-cells-b
+bounds-cells-b c = below_length c.args.tree.now c.cells-cells.result.now c.args.b c.cells-cells.ensures.all c.requires.first
+
+pub bounds-cells-c : goal.bounds-cells-c
+bounds-cells-c c = below_length c.args.tree.now c.cells-cells.result.now c.args.c c.cells-cells.ensures.all c.requires.second
 
 pub returns : goal.returns
 returns c points cap inside h letter =

@@ -4,13 +4,30 @@ use Rattle.std.specs.Prelude.{Contains, slice_index}
 use Rattle.std.proofs.lemmas.Bool.{false≢true}
 use Rattle.std.proofs.lemmas.List.{get_or_default}
 use Rattle.cell_name.specs.Cell.{square}
-use Rattle.quadtree.specs.TreeModel.{size, square_of}
+use Rattle.quadtree.specs.TreeModel.{square_of}
 use Rattle.cell_lists.specs.Walks.{AreNumbers, IsChild, AddsChildren}
-use Rattle.cell_lists.proofs.TreeNumbers.{read_at}
+use Rattle.cell_lists.proofs.TreeNumbers.{read_at, below_length}
 use Rattle.cell_lists.proofs.CellNumbers.{touch_from_test}
-use Rattle.cell_lists.proofs.WalkSteps.{adds_kept, adds_row, read_before, no_shorter, place_below, children_numbers, children_whole}
+use Rattle.cell_lists.proofs.WalkSteps.{adds_none, adds_kept, read_in_tree, adds_row, read_before, no_shorter, children_numbers, children_whole}
 use Rattle.cell_lists.proofs.search.push_children.Goals as goal
 use Rattle.cell_lists.proofs.search.push_children.Goals.{then-touches+in_ok-extend_from_slice, else-touches}
+
+pub loop-at-init : goal.loop-at-init
+loop-at-init c = adds_none c.args.tree.now c.args.b c.args.start c.args.found.now.items c.requires.numbers
+
+pub bounds-cells-c : goal.bounds-cells-c
+bounds-cells-c c =
+    let lt : c.loop-at.at < length c.args.found.now.items = omega arith in
+    let in_tree = read_in_tree c.args.tree.now c.args.b c.args.start c.loop-at.at c.args.found.now.items c.loop-at.found.items c.index.result.now lt c.loop-at.invariant c.index.ensures in
+    below_length c.args.tree.now c.cells-cells.result.now c.index.result.now c.cells-cells.ensures.all in_tree
+
+pub bounds-cells-b : goal.bounds-cells-b
+bounds-cells-b c = below_length c.args.tree.now c.cells-cells.result.now c.args.b c.cells-cells.ensures.all c.requires.number
+
+pub children-requires : goal.children-requires
+children-requires c =
+    let lt : c.loop-at.at < length c.args.found.now.items = omega arith in
+    read_in_tree c.args.tree.now c.args.b c.args.start c.loop-at.at c.args.found.now.items c.loop-at.found.items c.index.result.now lt c.loop-at.invariant c.index.ensures
 
 pub loop-at-preserved : goal.loop-at-preserved
 loop-at-preserved c =
@@ -25,8 +42,7 @@ loop-at-preserved c =
     let inside : at < length now = omega (arith, longer) in
     let here : n ≡ slice_index now at = c.index.ensures ∙ get_or_default now at n 0 inside in
     let before : n ≡ slice_index was at = here ∙ read_before tree b c.args.start at was now lt c.loop-at.invariant in
-    let S : ℕ → Type 0 = λ k. k < size tree in
-    let in_tree : n < size tree = subst S (sym here) (place_below tree now at c.loop-at.invariant.numbers inside) in
+    let in_tree = read_in_tree tree b c.args.start at was now n lt c.loop-at.invariant c.index.ensures in
     elim c.if-touches.branch [
       | then-touches+in_ok-extend_from_slice w ↦
           let P : List ℕ → Type 0 = λ l. AreNumbers tree l in

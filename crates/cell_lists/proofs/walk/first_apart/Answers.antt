@@ -6,8 +6,14 @@ use Rattle.cell_name.specs.Square.{Square}
 use Rattle.quadtree.specs.TreeModel.{square_of}
 use Rattle.cell_lists.proofs.OneEntry.{roots_touch, only_entry}
 use Rattle.quadtree.proofs.TreeChildren.{tree_cell_at}
-use Rattle.cell_lists.proofs.TreeNumbers.{read_at, case_levels, entry_named, Holds-ancestor}
+use Rattle.cell_lists.proofs.TreeNumbers.{read_at, below_length, ancestor_at, case_levels, entry_named, Holds-ancestor}
 use Rattle.cell_lists.proofs.walk.first_apart.Goals as goal
+
+pub bounds-cells-b : goal.bounds-cells-b
+bounds-cells-b c = below_length c.args.tree.now c.cells-cells.result.now c.args.b c.cells-cells.ensures.all c.requires.first
+
+pub bounds-cells-c : goal.bounds-cells-c
+bounds-cells-c c = below_length c.args.tree.now c.cells-cells.result.now c.args.c c.cells-cells.ensures.all c.requires.second
 
 pub descend-stop-requires : goal.descend-stop-requires
 descend-stop-requires c =
@@ -34,6 +40,34 @@ ancestor_number-requires-2-clause-level c =
     let eb : square c.index-cells-b.result ≡ square_of tree c.args.b = read_at tree c.cells-cells.result.now c.args.b c.index-cells-b.result c.cells-cells.ensures.all c.requires.first c.index-cells-b.is in
     let ec : square c.index-cells-c.result ≡ square_of tree c.args.c = read_at tree c.cells-cells.result.now c.args.c c.index-cells-c.result c.cells-cells.ensures.all c.requires.second c.index-cells-c.is in
     (case_levels (square c.index-cells-b.result) (square c.index-cells-c.result) (square_of tree c.args.b) (square_of tree c.args.c) c.descend-stop.result.letter c.descend-stop.result.first c.descend-stop.result.second c.descend-stop.ensures eb ec).1
+
+pub ancestor_number-requires-clause-number : goal.ancestor_number-requires-clause-number
+ancestor_number-requires-clause-number c = c.requires.first
+
+pub ancestor_number-requires-2-clause-number : goal.ancestor_number-requires-2-clause-number
+ancestor_number-requires-2-clause-number c = c.requires.second
+
+pub returns-clause-first_in_range : goal.returns-clause-first_in_range
+returns-clause-first_in_range c = c.ancestor_number.ensures.in_range
+
+pub returns-clause-second_in_range : goal.returns-clause-second_in_range
+returns-clause-second_in_range c = c.ancestor_number-2.ensures.in_range
+
+pub returns-clause-first_above : goal.returns-clause-first_above
+returns-clause-first_above c =
+    let tree = c.args.tree.now in
+    let eb : square c.index-cells-b.result ≡ square_of tree c.args.b = read_at tree c.cells-cells.result.now c.args.b c.index-cells-b.result c.cells-cells.ensures.all c.requires.first c.index-cells-b.is in
+    let ec : square c.index-cells-c.result ≡ square_of tree c.args.c = read_at tree c.cells-cells.result.now c.args.c c.index-cells-c.result c.cells-cells.ensures.all c.requires.second c.index-cells-c.is in
+    let levels = case_levels (square c.index-cells-b.result) (square c.index-cells-c.result) (square_of tree c.args.b) (square_of tree c.args.c) c.descend-stop.result.letter c.descend-stop.result.first c.descend-stop.result.second c.descend-stop.ensures eb ec in
+    ancestor_at tree c.args.b c.ancestor_number.result c.descend-stop.result.first levels.0 c.ancestor_number.ensures.ancestor
+
+pub returns-clause-second_above : goal.returns-clause-second_above
+returns-clause-second_above c =
+    let tree = c.args.tree.now in
+    let eb : square c.index-cells-b.result ≡ square_of tree c.args.b = read_at tree c.cells-cells.result.now c.args.b c.index-cells-b.result c.cells-cells.ensures.all c.requires.first c.index-cells-b.is in
+    let ec : square c.index-cells-c.result ≡ square_of tree c.args.c = read_at tree c.cells-cells.result.now c.args.c c.index-cells-c.result c.cells-cells.ensures.all c.requires.second c.index-cells-c.is in
+    let levels = case_levels (square c.index-cells-b.result) (square c.index-cells-c.result) (square_of tree c.args.b) (square_of tree c.args.c) c.descend-stop.result.letter c.descend-stop.result.first c.descend-stop.result.second c.descend-stop.ensures eb ec in
+    ancestor_at tree c.args.c c.ancestor_number-2.result c.descend-stop.result.second levels.1 c.ancestor_number-2.ensures.ancestor
 
 pub returns-clause-entry : goal.returns-clause-entry
 returns-clause-entry c points cap inside is_tree =
