@@ -7,6 +7,7 @@ pub mod Widths
 pub mod Sizes
 mod Norms
 mod Places
+mod OrderSizes
 mod Lookups
 mod Pushed
 mod Signs

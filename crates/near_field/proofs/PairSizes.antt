@@ -6,7 +6,6 @@ use Rattle.exact_math.specs.Ends.{point_ends, EndsNarrow, BoxEndsWithin, BoxEnds
 use Rattle.exact_math.specs.Gaussian.{Gaussian, gaussian, norm_gaussian, mul_gaussian}
 use Rattle.exact_math.specs.Ratio.{ComplexRatio}
 use Rattle.exact_math.specs.Rounding.{floor_div, ceil_div}
-use Rattle.exact_math.specs.Within.{Within}
 use Rattle.exact_math.specs.Terms.{pole_term, dipole_term}
 use Rattle.exact_math.proofs.Integers.{*-mono_left, *-comm, *-cancel_≤, square_nonneg}
 use Rattle.exact_math.proofs.Enclosures.{floor_div_le, ceil_div_ge}

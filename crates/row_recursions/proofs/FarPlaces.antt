@@ -48,6 +48,14 @@ negative_fits bits z h w = let p = product_within bits z h w in rw (product_is b
     fits : (y : ℤ) → Within (2 ^ (2 * widest_grid + 2)) y → FitsSigned w64 (pos 0 -ℤ y)
     fits y p = omega (arith, ints)
 
+pub product_fits : (bits : ℕ) (z : ℤ) → bits ≤ widest_grid → Within (2 ^ (widest_grid + 1)) z → FitsSigned w64 (to_z w64 (2 * 2 ^ bits % 18446744073709551616) *ℤ to_z w64 (of_z w64 z))
+product_fits bits z h w =
+    let p = product_within bits z h w in
+    rw (shifted bits h, narrow z (record { above = omega (arith, ints); below = omega (arith, ints) })) (fits (pos (2 * 2 ^ bits) *ℤ z) p)
+  where
+    fits : (y : ℤ) → Within (2 ^ (2 * widest_grid + 2)) y → FitsSigned w64 y
+    fits y p = omega (arith, ints)
+
 -- the factor
 pub factor_is : (bits : ℕ) (zeta : Gaussian) → bits ≤ widest_grid → GaussianWithin (2 ^ (widest_grid + 1)) zeta
     → gaussian (to_z w64 (of_z w64 (to_z w64 (2 * 2 ^ bits % 18446744073709551616) *ℤ to_z w64 (of_z w64 zeta.re))))
@@ -59,6 +67,18 @@ pub factor_within : (bits : ℕ) (zeta : Gaussian) → bits ≤ widest_grid → 
 factor_within bits zeta h w = record { re = product_within bits zeta.re h w.re; im = within-neg (product_within bits zeta.im h w.im) }
 
 -- the divisor
+pub part_is : (z : ℤ) {r : ℤ} → Within (2 ^ (widest_grid + 1)) z → r ≡ to_z w64 (of_z w64 z) → r ≡ z
+part_is z w e = e ∙ narrow z (record { above = omega (arith, ints); below = omega (arith, ints) })
+
+pub square_fits : (r a : ℤ) → r ≡ a → Within (2 ^ (widest_grid + 1)) a → FitsSigned w128 (to_z w128 (of_z w128 r) *ℤ to_z w128 (of_z w128 r))
+square_fits r a e w =
+    let s = within-mul (2 ^ (widest_grid + 1)) (2 ^ (widest_grid + 1)) a a w w in
+    let f : to_z w128 (of_z w128 r) ≡ a = ap (λ z. to_z w128 (of_z w128 z)) e ∙ wide a (record { above = omega (arith, ints); below = omega (arith, ints) }) in
+    rw f (fits (a *ℤ a) s)
+  where
+    fits : (y : ℤ) → Within (2 ^ (widest_grid + 1) * 2 ^ (widest_grid + 1)) y → FitsSigned w128 y
+    fits y p = omega (arith, ints)
+
 square_is : (r a : ℤ) → r ≡ a → Within (2 ^ (widest_grid + 1)) a → to_z w128 (of_z w128 (to_z w128 (of_z w128 r) *ℤ to_z w128 (of_z w128 r))) ≡ a *ℤ a
 square_is r a e w =
     let s = within-mul (2 ^ (widest_grid + 1)) (2 ^ (widest_grid + 1)) a a w w in

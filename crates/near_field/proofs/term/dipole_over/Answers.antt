@@ -1,7 +1,27 @@
-use Rattle.std.proofs.Common.{◌≡◌, ◌∙◌, ap₂, arith, to_z-of_z, SFits, w64, ◌*ℤ◌}
+use Rattle.std.proofs.Common.{◌∙◌, ap₂, arith, to_z-of_z, SFits, w64, ◌*ℤ◌}
 use Rattle.std.proofs.lemmas.Int.{ints}
-use Rattle.near_field.proofs.TermSizes.{small_product, same_fraction, dipole_re, dipole_im, across_is, across_within, twice_is, twice_within, norm_fits, wide_square}
+use Rattle.near_field.proofs.TermSizes.{small_product, small_square, same_fraction, dipole_re, dipole_im, across_is, across_within, twice_is, twice_within, norm_fits, given_within, widened, wide_square, wide_square_fits}
 use Rattle.near_field.proofs.term.dipole_over.Goals as goal
+
+pub difference_of_products-across-requires-clause-first : goal.difference_of_products-across-requires-clause-first
+difference_of_products-across-requires-clause-first c = small_square c.ranges.dx c.ranges.dx c.requires.distance.0 c.requires.distance.0
+
+pub difference_of_products-across-requires-clause-second : goal.difference_of_products-across-requires-clause-second
+difference_of_products-across-requires-clause-second c = small_square c.ranges.dy c.ranges.dy c.requires.distance.1 c.requires.distance.1
+
+pub sum_of_products-twice-requires-clause-first : goal.sum_of_products-twice-requires-clause-first
+sum_of_products-twice-requires-clause-first c = small_square c.ranges.dx c.ranges.dy c.requires.distance.0 c.requires.distance.1
+
+pub sum_of_products-twice-requires-clause-second : goal.sum_of_products-twice-requires-clause-second
+sum_of_products-twice-requires-clause-second c = small_square c.ranges.dx c.ranges.dy c.requires.distance.0 c.requires.distance.1
+
+pub norm-size-requires : goal.norm-size-requires
+norm-size-requires c = record { distance = (given_within c.ranges.dx c.requires.distance.0, given_within c.ranges.dy c.requires.distance.1) }
+
+pub overflow_mul-result : goal.overflow_mul-result
+overflow_mul-result c =
+    let w = c.norm-size.ensures.size in
+    wide_square_fits w (widened w c.from.ensures) (widened w c.from-2.ensures)
 
 pub sum_of_products-requires-clause-first : goal.sum_of_products-requires-clause-first
 sum_of_products-requires-clause-first c =
@@ -38,9 +58,8 @@ returns c =
     let n = simp to_z-of_z at c.norm-size.ensures.value in
     let f : SFits w64 c.sum_of_products.result = omega (arith, ints) in
     let g : SFits w64 c.difference_of_products.result = omega (arith, ints) in
-    let first : c.from.result ≡ c.norm-size.result = omega (arith, ints, c.from.ensures) in
-    let second : c.from-2.result ≡ c.norm-size.result = omega (arith, ints, c.from-2.ensures) in
+    let w = c.norm-size.ensures.size in
     same_fraction _
     (to_z-of_z f ∙ r ∙ dipole_re c.args.re c.args.im c.args.dx c.args.dy)
     (to_z-of_z g ∙ s ∙ dipole_im c.args.re c.args.im c.args.dx c.args.dy)
-    (wide_square c.norm-size.ensures.size first second ∙ ap₂ ◌*ℤ◌ n n)
+    (wide_square w (widened w c.from.ensures) (widened w c.from-2.ensures) ∙ ap₂ ◌*ℤ◌ n n)
