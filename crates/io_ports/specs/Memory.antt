@@ -34,7 +34,7 @@ after_failed_read feed = record {
   faults = next_count feed.faults;
 }
 
--- a sink: the bytes taken, the room that is left, the most that one write takes, the numbers of the writes that fail, and the counts of writes and of faults
+-- a sink: the bytes taken, the room that is left, the most that one write takes, the numbers of the writes that fail, and the counts of writes and of faults; a flush counts as a write
 pub record Store : Type 0 where
   pub bytes : List ℕ
   pub room : ℕ
@@ -58,7 +58,18 @@ after_write store piece n = record {
   faults = store.faults;
 }
 
--- after a write that failed
+-- after a flush that passed
+abbrev pub after_flush : Store → Store
+after_flush store = record {
+  bytes = store.bytes;
+  room = store.room;
+  step = store.step;
+  failing = store.failing;
+  writes = next_count store.writes;
+  faults = store.faults;
+}
+
+-- after a write or a flush that failed
 abbrev pub after_failed_write : Store → Store
 after_failed_write store = record {
   bytes = store.bytes;

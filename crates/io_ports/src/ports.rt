@@ -2,7 +2,7 @@
 ghost use Rattle.std.specs.Prelude.{ℕ, List};
 ghost use Rattle.std.specs.declared.option.Option.{Option};
 ghost use Rattle.std.specs.Io.{ReadsAtMost};
-ghost use Rattle.std.specs.Io.KnownBytes.{ReadConsumes, WriteAppends};
+ghost use Rattle.std.specs.Io.KnownBytes.{Keeps, ReadConsumes, WriteAppends};
 ghost use Rattle.io_ports.specs.Bytes.{TakesSome};
 ghost use Rattle.io_ports.specs.Faults.{HasCause};
 
@@ -47,5 +47,14 @@ pub trait Sink {
     fn write(&mut self, piece: &[u8]) -> Result<usize, Failed>
         ensures bound { TakesSome result piece.now }
         ensures bytes { WriteAppends (held self.old) (held self.new) result piece.now }
+        ensures cause { HasCause (faults self.old) (faults self.new) result };
+
+    /// Hands on what is still kept back. What is held stays as it is.
+    ///
+    /// # Errors
+    ///
+    /// `Failed` only where the count of faults rose, or stands at its last value.
+    fn flush(&mut self) -> Result<(), Failed>
+        ensures kept { Keeps (held self.old) (held self.new) }
         ensures cause { HasCause (faults self.old) (faults self.new) result };
 }

@@ -1,10 +1,10 @@
 //! Sinks: one in memory, with short and failing writes where a test wants them, one that keeps
 //! nothing, and one that fails always.
-ghost use Rattle.std.specs.Prelude.{◌≡◌, ◌+◌, ◌≤◌, ◌<◌, ◌↔◌, ◌⊎◌, ℕ, [], None, Some, Ok, Err, length, Contains, IfOk, OnErr, IsErr, vec_len, vec_capacity};
-ghost use Rattle.std.specs.Io.KnownBytes.{WriteAppends};
+ghost use Rattle.std.specs.Prelude.{◌≡◌, ◌+◌, ◌≤◌, ◌<◌, ◌↔◌, ◌⊎◌, ℕ, [], None, Some, Ok, Err, length, Contains, IfOk, OnOk, OnErr, IsErr, vec_len, vec_capacity};
+ghost use Rattle.std.specs.Io.KnownBytes.{Keeps, WriteAppends};
 ghost use Rattle.io_ports.specs.Bytes.{TakesSome};
 ghost use Rattle.io_ports.specs.Faults.{HasCause, next_count};
-ghost use Rattle.io_ports.specs.Memory.{Store, taken_count, after_write, after_failed_write};
+ghost use Rattle.io_ports.specs.Memory.{Store, taken_count, after_flush, after_write, after_failed_write};
 
 use crate::answers::{Failed, Memory};
 use crate::ports::Sink;
@@ -34,7 +34,8 @@ impl Model for MemSink {
 impl MemSink {
     /// An empty sink for `room` bytes, whose memory is taken here. A write takes at most `step`
     /// bytes and at most the room that is left. The k-th write, counted from 1, fails exactly
-    /// where `failing` holds k, or where no room is left and the piece isn't empty.
+    /// where `failing` holds k, or where no room is left and the piece isn't empty. A flush
+    /// counts as a write, of no piece.
     ///
     /// # Errors
     ///
@@ -94,6 +95,23 @@ impl Sink for MemSink {
         self.room -= count;
         Ok(count)
     }
+
+    fn flush(&mut self) -> Result<(), Failed>
+        // Which flushes fail, and what each leaves.
+        ensures fails { IsErr result ↔ Contains self.old.failing (next_count self.old.writes) }
+        ensures failed { OnErr result (self.new ≡ after_failed_write self.old) }
+        ensures after { OnOk result (self.new ≡ after_flush self.old) }
+
+        // The clauses of the trait.
+        ensures kept { Keeps (Some self.old.bytes) (Some self.new.bytes) }
+        ensures cause { HasCause self.old.faults self.new.faults result }
+    {
+        self.writes = self.writes.saturating_add(1);
+        if self.failing.contains(&self.writes) {
+            return Err(Failed::counted(&mut self.faults));
+        }
+        Ok(())
+    }
 }
 
 /// Takes every piece whole, tells nothing and never fails.
@@ -112,9 +130,16 @@ impl Sink for DropSink {
     {
         Ok(piece.len())
     }
+
+    fn flush(&mut self) -> Result<(), Failed>
+        ensures passes { result ≡ Ok tt }
+        ensures cause { HasCause 0 0 result }
+    {
+        Ok(())
+    }
 }
 
-/// Fails every write. It stands for an output that can't be opened; a clause sees the count of
+/// Fails every write and every flush. It stands for an output that can't be opened; a clause sees the count of
 /// its faults.
 #[derive(Debug, Drop)]
 pub struct BrokenSink {
@@ -144,6 +169,14 @@ impl Sink for BrokenSink {
         ensures fails { result ≡ Err (record {}) }
         ensures counted { self.new ≡ next_count self.old }
         ensures bound { TakesSome result piece.now }
+        ensures cause { HasCause self.old self.new result }
+    {
+        Err(Failed::counted(&mut self.faults))
+    }
+
+    fn flush(&mut self) -> Result<(), Failed>
+        ensures fails { result ≡ Err (record {}) }
+        ensures counted { self.new ≡ next_count self.old }
         ensures cause { HasCause self.old self.new result }
     {
         Err(Failed::counted(&mut self.faults))

@@ -2,7 +2,7 @@
 //! gives and takes is the reader's and the writer's word.
 ghost use Rattle.std.specs.Prelude.{◌≡◌};
 ghost use Rattle.std.specs.Io.{ReadsAtMost};
-ghost use Rattle.std.specs.Io.KnownBytes.{ReadConsumes, WriteAppends};
+ghost use Rattle.std.specs.Io.KnownBytes.{Keeps, ReadConsumes, WriteAppends};
 ghost use Rattle.io_ports.specs.Bytes.{TakesSome};
 ghost use Rattle.io_ports.specs.Faults.{CountsFaults, HasCause};
 
@@ -79,6 +79,19 @@ impl<W: Write> Sink for WriteSink<W> {
         match self.inner.write(piece) {
             Ok(count) if count > 0 || piece.is_empty() => Ok(count),
             _ => Err(Failed::counted(&mut self.faults)),
+        }
+    }
+
+    fn flush(&mut self) -> Result<(), Failed>
+        ensures counted { CountsFaults self.old.faults self.new.faults result }
+
+        // The clauses of the trait.
+        ensures kept { Keeps (W.contents self.old.inner) (W.contents self.new.inner) }
+        ensures cause { HasCause self.old.faults self.new.faults result }
+    {
+        match self.inner.flush() {
+            Ok(()) => Ok(()),
+            Err(_) => Err(Failed::counted(&mut self.faults)),
         }
     }
 }
