@@ -9,7 +9,7 @@ use Rattle.std.specs.Prelude.{List, [], ◌∷◌, fold, All}
 use Rattle.exact_math.specs.Contains.{Contains}
 use Rattle.exact_math.specs.Ends.{BoxEnds, point_box, zero_box, add_box, neg_box, scale_box, times_box, gscale_box, quot_box, gquot_box, widen_box, BoxEndsContain, BoxEndsInside}
 use Rattle.exact_math.specs.Gaussian.{Gaussian, gaussian}
-use Rattle.exact_math.specs.Ratio.{Ratio, whole_ratio, ComplexRatio, zero_complex, whole_complex, neg_complex, over_complex, re_part, im_part, ◌+ᶜ◌, ◌-ᶜ◌, ◌*ᶜ◌}
+use Rattle.exact_math.specs.Ratio.{whole_ratio, ComplexRatio, zero_complex, whole_complex, neg_complex, over_complex, re_part, im_part, ◌+ᶜ◌, ◌-ᶜ◌, ◌*ᶜ◌}
 use Rattle.exact_math.specs.Sums.{sum_terms}
 use Rattle.exact_math.proofs.Ring.{int_ring}
 use Rattle.exact_math.proofs.RingTactic.{int_quotes, ring4, ring5, ring6}

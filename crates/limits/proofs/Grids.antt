@@ -1,9 +1,9 @@
 -- What holds of the limits of every version.
-use Rattle.std.proofs.Common.{rules, ℕ, ◌≡◌, ◌≤◌, ◌<◌, ◌⊎◌, inl, inr, true, false, Bool, ◌==◌, cond, ℤ, pos, neg_ℤ, refl, sym, ap, subst, arith}
+use Rattle.std.proofs.Common.{rules, ℕ, ◌≡◌, ◌<◌, ◌⊎◌, inl, inr, true, false, Bool, ◌==◌, cond, refl, sym, subst, arith}
 use Rattle.std.proofs.lemmas.Int.{ints}
-use Rattle.limits.specs.Grid.{half, IsInGrid}
+use Rattle.limits.specs.Grid.{IsInGrid}
 use Rattle.limits.specs.Laws.{AreWithinWidest, VersionHasGrid, WidestHasMost, GridsAreNested}
-use Rattle.limits.specs.Limits.{IsGrid, grid_of, first_grid, widest_grid}
+use Rattle.limits.specs.Limits.{IsGrid, first_grid, widest_grid}
 
 pub version_has_grid : VersionHasGrid
 version_has_grid version = by_test (version == 2)

@@ -41,11 +41,7 @@ pub fn grid_of(version: u8) -> u8
 fn by_grid(grid: u8, first: u64, widest: u64) -> u64
     ensures { result ≡ by_grid grid first widest }
 {
-    if grid == FIRST_GRID {
-        first
-    } else {
-        widest
-    }
+    if grid == FIRST_GRID { first } else { widest }
 }
 
 /// The greatest number of points in a list.

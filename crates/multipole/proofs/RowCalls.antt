@@ -22,7 +22,7 @@ use Rattle.row_recursions.specs.Moments.{HoldsMoments}
 use Rattle.row_recursions.specs.Rows.{RowsAdd, multipole_value}
 use Rattle.row_recursions.specs.Sizes.{RowWithin}
 use Rattle.row_recursions.specs.Sources.{source_of}
-use Rattle.row_recursions.proofs.MomentLaws.{source_moments, sum_of_moments, multipole_values, moments_same}
+use Rattle.row_recursions.proofs.MomentLaws.{sum_of_moments, multipole_values, moments_same}
 use Rattle.row_recursions.proofs.Points.{side_positive, weight_bounded, moments_within, strength_moments}
 use Rattle.row_recursions.proofs.RowSizes.{far_norm_positive}
 

@@ -2,9 +2,8 @@
 use Rattle.std.proofs.Common.{◌≡◌, refl, sym, ap, ap₂, ◌∙◌, subst, ℕ, zero, suc, ◌+◌, ◌-◌, ◌*◌, ◌^◌, ◌≤◌, arith, pos}
 use Rattle.std.proofs.lemmas.Int.{ints}
 use Rattle.std.proofs.Math.Pow.{pow_mono}
-use Rattle.exact_math.specs.Ends.{BoxEnds, BoxEndsWithin, point_ends, add_ends, sub_ends, zero_box, add_box, scale_ends, scale_box, gscale_box, quot_box, gquot_box}
+use Rattle.exact_math.specs.Ends.{BoxEnds, BoxEndsWithin, zero_box, add_box, scale_box, gquot_box}
 use Rattle.exact_math.specs.Gaussian.{Gaussian, zero_gaussian}
-use Rattle.exact_math.specs.Rounding.{floor_div}
 use Rattle.exact_math.proofs.WholeSizes.{within-weaker}
 use Rattle.complex_box.specs.Box.{GscaleFits}
 use Rattle.limits.specs.Limits.{widest_grid}

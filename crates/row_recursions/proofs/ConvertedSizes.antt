@@ -11,7 +11,6 @@ use Rattle.exact_math.specs.Ends.{Ends, BoxEnds, EndsWithin, BoxEndsWithin, Ends
 use Rattle.exact_math.specs.Gaussian.{Gaussian}
 use Rattle.exact_math.specs.Ratio.{Ratio, ComplexRatio, ◌*ᶜ◌, reciprocal}
 use Rattle.exact_math.specs.Sums.{pow_complex, natural_complex}
-use Rattle.exact_math.specs.Within.{Within}
 use Rattle.exact_math.proofs.Ring.{int_ring}
 use Rattle.exact_math.proofs.RingTactic.{int_quotes, ring2}
 use Rattle.exact_math.proofs.Integers as Z

@@ -1,8 +1,8 @@
 -- The steps of the recursions, for loops: a proof in code cites these and unfolds no definition.
 use Rattle.std.proofs.Common.{◌≡◌, refl, ℕ, zero, suc, ◌<◌, ◌+◌, ◌-◌, ◌*◌, ◌^◌, pos, ap, ap₂, ◌∙◌, arith}
-use Rattle.exact_math.specs.Ends.{BoxEnds, zero_box, add_box, neg_box, scale_box, times_box, gscale_box, quot_box, gquot_box}
+use Rattle.exact_math.specs.Ends.{BoxEnds, zero_box, add_box, scale_box, times_box, gscale_box, quot_box, gquot_box}
 use Rattle.exact_math.specs.Gaussian.{Gaussian}
-use Rattle.row_recursions.specs.Rows.{units_box, units_over, ratio_box, sum_boxes, pole_moment, dipole_moment, source_moment, up_round, shifted_up, converted, far_pole, far_dipole, far_source, down_round, shifted_down, local_round, local_value, multipole_round, multipole_value}
+use Rattle.row_recursions.specs.Rows.{ratio_box, sum_boxes, up_round, shifted_up, converted, down_round, shifted_down, local_round, local_value, multipole_round, multipole_value}
 
 -- sums of equal boxes
 pub sum_boxes-same : (n : ℕ) (f g : ℕ → BoxEnds) → ((k : ℕ) → k < n → f k ≡ g k) → sum_boxes n f ≡ sum_boxes n g

@@ -1,5 +1,5 @@
 -- What local rows contain, in whole numbers.
-use Rattle.exact_math.proofs.Common.{◌≡◌, sym, ap, subst, ◌∙◌, ℕ, arith, ints, pos, ◌<ℤ◌, pow, quotes, ring1, ring3, ℂ, complex_rationals, of_int_ℂ, ◌+ℂ◌, ◌*ℂ◌, rational_ring, sum_below-congruence, sum_below-add, sum_below-mul, sum_below-zero}
+use Rattle.exact_math.proofs.Common.{◌≡◌, sym, ap, subst, ◌∙◌, ℕ, arith, ints, pos, pow, quotes, ring1, ring3, ℂ, complex_rationals, of_int_ℂ, ◌+ℂ◌, ◌*ℂ◌, rational_ring, sum_below-congruence, sum_below-add, sum_below-mul, sum_below-zero}
 use Prim.Native.Nat.{◌^◌, ◌<◌}
 use Rattle.exact_math.specs.Ends.{BoxEnds, BoxEndsContain, zero_box, add_box}
 use Rattle.exact_math.specs.Gaussian.{Gaussian}

@@ -1,9 +1,9 @@
 -- Points in cells, and their strengths.
-use Rattle.std.proofs.Common.{◌≡◌, refl, inl, inr, subst, ℕ, zero, suc, ◌+◌, ◌*◌, ◌^◌, ◌≤◌, arith, ℤ, pos, neg_ℤ, ◌+ℤ◌, ◌-ℤ◌, ◌≤ℤ◌, ◌<ℤ◌, SFits, w64, to_z, of_z, to_z-of_z, negsuc, false, sym}
+use Rattle.std.proofs.Common.{◌≡◌, refl, inl, inr, subst, ℕ, zero, suc, ◌+◌, ◌*◌, ◌^◌, ◌≤◌, arith, ℤ, pos, neg_ℤ, ◌+ℤ◌, ◌-ℤ◌, ◌≤ℤ◌, ◌<ℤ◌, SFits, w64, to_z, of_z, to_z-of_z, false, sym}
 use Rattle.std.proofs.lemmas.Int.{ints}
 use Rattle.std.proofs.lemmas.Bool.{false≢true}
 use Rattle.std.proofs.Math.Nat.{mul-le-mul_right}
-use Rattle.std.specs.Prelude.{unsigned_abs, [], ◌∷◌}
+use Rattle.std.specs.Prelude.{[], ◌∷◌}
 use Rattle.exact_math.specs.Ends.{BoxEnds, BoxEndsWithin}
 use Rattle.exact_math.specs.Gaussian.{Gaussian, gaussian, norm_gaussian}
 use Rattle.exact_math.specs.Within.{Within, GaussianWithin}
@@ -27,7 +27,7 @@ use Rattle.truncation.specs.Entries.{weight, local_cut}
 use Rattle.truncation.specs.Places.{doubled_offset}
 use Rattle.complex_box.proofs.Sizes.{box_wider}
 use Rattle.row_recursions.specs.Cells.{side_of, centre_of, offset_from, moments_of}
-use Rattle.row_recursions.specs.Moments.{pole_of, dipole_of, HoldsMoments}
+use Rattle.row_recursions.specs.Moments.{HoldsMoments}
 use Rattle.row_recursions.specs.Rows.{units_box, source_moment, far_source}
 use Rattle.row_recursions.specs.Sources.{source_at, source_of}
 use Rattle.row_recursions.specs.Fields.{HoldsField}
