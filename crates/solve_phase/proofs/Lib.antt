@@ -1,2 +1,3 @@
--- The field that finished places make.
+-- The field that finished places make, what its rows contain, and that a full board has the same.
+pub mod Contents
 pub mod FieldOf
