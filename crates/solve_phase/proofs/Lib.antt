@@ -1,3 +1,4 @@
--- The field that finished places make, what its rows contain, and that a full board has the same.
+-- The field that finished places make, what its rows contain, and how large they are.
 pub mod Contents
 pub mod FieldOf
+pub mod Sizes
