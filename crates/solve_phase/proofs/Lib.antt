@@ -1,4 +1,5 @@
--- The field that finished places make, what its rows contain, and how large they are.
+-- The field that finished places make, what its rows contain, how large they are, and that a full board holds the same.
 pub mod Contents
 pub mod FieldOf
+pub mod FullBoard
 pub mod Sizes

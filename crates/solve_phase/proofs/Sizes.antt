@@ -4,12 +4,11 @@ use Rattle.std.proofs.lemmas.Bool.{cases_Bool, true≢false}
 use mathlib.Core.Logic.{⊎_elim}
 use Rattle.exact_math.specs.Ends.{BoxEnds, BoxEndsWithin}
 use Rattle.field_basis.proofs.Sizes.{limited, some_lists, tree_cell_of_lists, within}
-use Rattle.field_basis.specs.FieldPlaces.{AreSameRows}
 use Rattle.field_sizes.proofs.Bounds.{radii_within}
 use Rattle.limits.specs.Limits.{most_local, most_multipole, most_weight}
 use Rattle.places.specs.Place.{place_at}
 use Rattle.quadtree.specs.TreeModel.{size, square_of, node_of}
-use Rattle.row_recursions.specs.Rows.{row_of}
+use Rattle.row_recursions.specs.Rows.{row_of, AreSameRows}
 use Rattle.row_recursions.specs.Sizes.{RowWithin}
 use Rattle.tree_field.specs.Field.{multipole_row, local_row, local_radius}
 use Rattle.solve_phase.specs.Parts.{FieldParts, FitTogether}
