@@ -4,6 +4,7 @@ pub mod Empty
 pub mod FewCounts
 pub mod Fills
 pub mod FullBoard
+pub mod FullWork
 pub mod Missing
 pub mod Needed
 pub mod Values

@@ -1,10 +1,16 @@
--- What a full board holds, in whatever order it was filled.
-use Rattle.std.specs.Prelude.{ℕ, ◌≡◌, true}
+-- What a full board holds, and what its places take together, in whatever order it was filled.
+use Rattle.std.specs.Prelude.{ℕ, ◌≡◌, ◌+◌, true, length, sum_by}
+use Rattle.std.specs.List.{range_with_len}
+use Rattle.field_basis.specs.Basis.{BasisModel}
+use Rattle.field_basis.specs.Counts.{shifts_into, translations_into, pairs_of_target}
 use Rattle.field_basis.specs.FieldPlaces.{AreAllMultipolePlaces, AreAllLocalPlaces, AreTargetBoxes}
+use Rattle.quadtree.specs.TreeModel.{size}
 use Rattle.row_board.specs.Board.{IsBoard}
 use Rattle.row_board.specs.Names.{IsName, is_filled}
 use Rattle.row_board.specs.Parts.{BoardParts}
 use Rattle.row_board.specs.declared.name.Name.{Name}
+use Rattle.tree_field.specs.Lists.{TreeLists, AreTreeLists}
+use Rattle.tree_field.specs.Work.{translations, pairs}
 
 -- every place is filled
 abbrev pub IsFull : BoardParts → Type 0
@@ -18,3 +24,11 @@ pub record HoldsWholeField (P : ℕ) (b : BoardParts) : Type 0 where
 
 abbrev pub FullBoard : Type 0
 FullBoard = (P : ℕ) (b : BoardParts) → IsBoard P b → IsFull b → HoldsWholeField P b
+
+-- what the multipole rows and the local rows of all cells take together, and the boxes of all targets: the translations and pairs of the field
+pub record TakesWorkOfField (b : BasisModel) (lists : TreeLists) : Type 0 where
+  pub translations_are : sum_by (shifts_into b.points b.tree) (range_with_len 0 (size b.tree)) + sum_by (translations_into b) (range_with_len 0 (size b.tree)) ≡ translations b.points lists
+  pub pairs_are : sum_by (pairs_of_target b) (range_with_len 0 (length b.targets)) ≡ pairs b.points lists
+
+abbrev pub FullWork : Type 0
+FullWork = (P : ℕ) (b : BoardParts) (lists : TreeLists) → IsBoard P b → AreTreeLists b.basis.tree.grid b.basis.points b.basis.cap lists → TakesWorkOfField b.basis lists

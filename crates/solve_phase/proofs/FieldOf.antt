@@ -54,7 +54,7 @@ module _ (P : ℕ) (b : BasisModel) (is : IsBasis P b) where
 
     module _ (up_are : AreAllMultipolePlaces P b.points b.tree up) (local_are : AreAllLocalPlaces P b local) where
       pub fit : length values ≡ length b.targets → All (BoxWithin (most_box b.tree.grid)) (values_of values) → FitTogether P made
-      fit each small = record { basis_is = is; up_each = up_are.as_many; local_are = local_are; value_each = length-map values (λ (p : TargetModel). p.value) ∙ each; small = small }
+      fit each small = record { basis_is = is; up_are = up_are; local_are = local_are; value_each = length-map values (λ (p : TargetModel). p.value) ∙ each; small = small }
 
       pub solved : all_translations up ≡ count_by (is_shifted b.points) (squares b.tree) → all_translations local ≡ all_translations_into b → AreTargetBoxes P b (values_of values) → AreAllPairs b (all_pairs values)
           → IsSolved b.points b.cap P made

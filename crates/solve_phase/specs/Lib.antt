@@ -1,4 +1,6 @@
--- What the contracts cite: the parts of a field, and the field of a list of points.
+-- What the contracts cite: the parts of a field, the field of a list of points, what its rows contain, and that a full board holds the same.
+pub mod Contents
 pub mod Field
 pub mod Inside
+pub mod Laws
 pub mod Parts

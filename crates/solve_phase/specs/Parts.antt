@@ -3,10 +3,9 @@ use Rattle.std.specs.Prelude.{ℕ, ◌≡◌, List, length, All}
 use Rattle.complex_box.specs.Box.{BoxWithin}
 use Rattle.complex_box.specs.declared.CBox.{CBox}
 use Rattle.field_basis.specs.Basis.{BasisModel, IsBasis}
-use Rattle.field_basis.specs.FieldPlaces.{AreAllLocalPlaces}
+use Rattle.field_basis.specs.FieldPlaces.{AreAllMultipolePlaces, AreAllLocalPlaces}
 use Rattle.limits.specs.Limits.{most_box}
 use Rattle.places.specs.Place.{PlaceModel}
-use Rattle.quadtree.specs.TreeModel.{size}
 
 -- what it is made from, the places of multipole rows and of local rows in the order of the cells, the boxes of the targets,
 -- and how many translations and pairs were made
@@ -18,11 +17,11 @@ pub record FieldParts : Type 0 where
   pub translations : ℕ
   pub pairs : ℕ
 
--- there is a multipole place for each cell and a box for each target, the local places are those of the field,
+-- the places of multipole rows and of local rows are those of the field, there is a box for each target,
 -- and no end of a box is larger in size than the limit of the grid
 pub record FitTogether (P : ℕ) (f : FieldParts) : Type 0 where
   pub basis_is : IsBasis P f.basis
-  pub up_each : length f.up ≡ size f.basis.tree
+  pub up_are : AreAllMultipolePlaces P f.basis.points f.basis.tree f.up
   pub local_are : AreAllLocalPlaces P f.basis f.local
   pub value_each : length f.values ≡ length f.basis.targets
   pub small : All (BoxWithin (most_box f.basis.tree.grid)) f.values

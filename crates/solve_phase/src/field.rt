@@ -1,10 +1,12 @@
 //! The field that a solve gives.
-ghost use Rattle.std.specs.Prelude.{◌≡◌, ◌<◌, true, false, length, pos, IfSome, MatchOption};
+ghost use Rattle.std.specs.Prelude.{◌≡◌, ◌*◌, ◌^◌, ◌<◌, ◌≤ℤ◌, true, false, length, pos, IfSome, MatchOption};
 ghost use Rattle.complex_box.specs.Box.{BoxWithin};
 ghost use Rattle.complex_box.specs.Rows.{at};
-ghost use Rattle.limits.specs.Limits.{most_box};
+ghost use Rattle.limits.specs.Limits.{most_box, most_local, most_multipole, most_weight};
 ghost use Rattle.places.specs.Place.{place_at};
 ghost use Rattle.quadtree.specs.TreeModel.{size, node_of};
+ghost use Rattle.row_recursions.specs.Rows.{row_of};
+ghost use Rattle.row_recursions.specs.Sizes.{RowWithin};
 
 use cell_lists::EntryLists;
 use complex_box::{CBox, Row};
@@ -59,11 +61,13 @@ impl<const P: usize> Field<P> {
         &self.basis.lists
     }
 
-    /// The multipole row of cell `n`; `None` where the cell has no source. Condition: `n` is a cell's number.
+    /// The multipole row of cell `n`, with no end larger in size than the limit of the grid; `None` where the cell has no source. Condition: `n` is
+    /// a cell's number.
     pub fn up(&self, n: usize) -> Option<Row<P>>
         requires { n < size self.now.basis.tree }
         ensures has { MatchOption result ((node_of self.now.basis.tree n).has_source ≡ false) (λ row. (node_of self.now.basis.tree n).has_source ≡ true) }
         ensures row { IfSome result (λ row. row.cells.now ≡ (place_at self.now.up n).row) }
+        ensures size { IfSome result (λ row. RowWithin P (most_multipole self.now.basis.tree.grid) (row_of row.cells.now)) }
     {
         if !self.basis.tree.has_source(n) {
             return None;
@@ -71,11 +75,13 @@ impl<const P: usize> Field<P> {
         Some(self.up[n].row())
     }
 
-    /// The local row of cell `n`; `None` where the cell has no target. Condition: `n` is a cell's number.
+    /// The local row of cell `n`, with no end larger in size than the limit of the grid; `None` where the cell has no target. Condition: `n` is a
+    /// cell's number.
     pub fn local(&self, n: usize) -> Option<Row<P>>
         requires { n < size self.now.basis.tree }
         ensures has { MatchOption result ((node_of self.now.basis.tree n).has_target ≡ false) (λ row. (node_of self.now.basis.tree n).has_target ≡ true) }
         ensures row { IfSome result (λ row. row.cells.now ≡ (place_at self.now.local n).row) }
+        ensures size { IfSome result (λ row. RowWithin P (most_local self.now.basis.tree.grid) (row_of row.cells.now)) }
     {
         if !self.basis.tree.has_target(n) {
             return None;
@@ -83,11 +89,13 @@ impl<const P: usize> Field<P> {
         Some(self.local[n].row())
     }
 
-    /// The radius of the local row of cell `n`; 0 where the cell has no target. Condition: `n` is a cell's number.
+    /// The radius of the local row of cell `n`, at most 2^48 times the greatest weight of a list in the grid; 0 where the cell has no target.
+    /// Condition: `n` is a cell's number.
     pub fn radius(&self, n: usize) -> i128
         requires { n < size self.now.basis.tree }
         ensures value { result ≡ pos (place_at self.now.local n).radius }
         ensures without { (node_of self.now.basis.tree n).has_target ≡ false → result ≡ pos 0 }
+        ensures size { result ≤ℤ pos (2 ^ 48 * most_weight self.now.basis.tree.grid) }
     {
         self.local[n].radius()
     }

@@ -5,9 +5,11 @@
 #![tactic(auto)]
 
 mod field;
+mod law;
 mod solving;
 
 pub use field::Field;
+pub use law::full_board_is_solved;
 pub use quadtree::TreeFault as SolveFault;
 pub use row_board::{Board, Name, NotReady};
 pub use solving::solve;

@@ -6,6 +6,7 @@ ghost use Rattle.limits.specs.Limits.{grid_of};
 ghost use Rattle.points.specs.Limits.{AreWithin, WithinLimits};
 ghost use Rattle.quadtree.specs.Faults.{HasTree, IsFaultOf};
 ghost use Rattle.quadtree.specs.TreeModel.{IsTreeOf};
+ghost use Rattle.solve_phase.specs.Contents.{RowsContain};
 ghost use Rattle.solve_phase.specs.Field.{IsSolved};
 
 use crate::field::Field;
@@ -31,6 +32,7 @@ fn field_over<const P: usize>(
     requires tree { IsTreeOf tree points.now cap }
     ensures field { IfOk result (λ field. IsSolved points.now cap P field) }
     ensures grid { IfOk result (λ field. field.basis.tree.grid ≡ tree.grid) }
+    ensures rows { IfOk result (λ field. RowsContain points.now P field) }
     ensures contains { IfOk result (λ field. BoxesContain points.now field.values) }
 {
     let basis = Basis::<P>::over(alloc, points, cap, tree)?;
@@ -53,8 +55,9 @@ fn field_over<const P: usize>(
     })
 }
 
-/// The field of a list of points with a leaf capacity, at the order `P`. Each row is made once, level by level, and each box of a target then
-/// contains the direct sum at that target.
+/// The field of a list of points with a leaf capacity, at the order `P`. Each row is made once, level by level. A multipole row then contains
+/// the moments of the sources in its cell, a local row the field of the V and X entries of its cell and of those above it, and the box of a
+/// target the direct sum at that target.
 ///
 /// Conditions: the list is within the limits of its version, `P` is one of the orders, and the capacity is 8 to 1024.
 ///
@@ -71,6 +74,7 @@ pub fn solve<const P: usize>(
     requires order { IsOrder P }
     requires cap { IsCapacity cap }
     ensures field { IfOk result (λ field. IsSolved points.now.list cap P field) }
+    ensures rows { IfOk result (λ field. RowsContain points.now.list P field) }
     ensures contains { IfOk result (λ field. BoxesContain points.now.list field.values) }
     ensures grid { IfOk result (λ field. field.basis.tree.grid ≡ grid_of points.now.version) }
     ensures has_tree { OnOk result (HasTree (grid_of points.now.version) points.now.list cap) }

@@ -4,6 +4,7 @@ use Rattle.std.specs.Prelude.{count_by}
 use Rattle.std.specs.Vec.{with_items}
 use Rattle.std.proofs.lemmas.List.{with_items_is}
 use Rattle.exact_math.proofs.Orders.{order_bounds}
+use Rattle.field_basis.proofs.Sizes.{inside}
 use Rattle.field_basis.specs.Basis.{BasisModel}
 use Rattle.field_basis.specs.FieldPlaces.{AreAllMultipolePlaces, AreAllLocalPlaces}
 use Rattle.places.specs.Place.{PlaceModel, all_translations}
@@ -12,6 +13,7 @@ use Rattle.points.specs.declared.Point.{Point}
 use Rattle.quadtree.specs.TreeModel.{squares}
 use Rattle.upward_rows.specs.Shifted.{is_shifted}
 use Rattle.solve_phase.specs.Parts.{FitTogether}
+use Rattle.solve_phase.proofs.Contents.{rows_contain}
 use Rattle.solve_phase.proofs.FieldOf.{few_up, few_local, few_pairs, fit, solved, parts, parts_fit, parts_solved}
 use Rattle.solve_phase.proofs.solving.field_over.Given.{Over}
 use Rattle.solve_phase.proofs.solving.field_over.Goals as goal
@@ -125,3 +127,6 @@ returns-clause-field g c =
     (c.all_translations.ensures ∙ ap all_translations (c.deref-5.ensures.value ∙ up_kept g c)) (c.all_translations-2.ensures ∙ ap all_translations (c.deref-6.ensures.value ∙ local_kept g c)) (c.all_pairs-pairs.ensures ∙ ap all_pairs (c.deref-7.ensures.value ∙ values_kept g c))
     c.in_ok-basis.ensures.stands c.args.points.now c.args.cap c.in_ok-basis.ensures.points c.in_ok-basis.ensures.cap
     (solved g.row.P (basis g c) c.in_ok-basis.ensures.stands (up g c) (local g c) (values g c) (rows g c) c.downward_pass.ensures.local (shifts g c) c.downward_pass.ensures.translations c.value_pass.ensures.values c.value_pass.ensures.pairs)
+
+pub returns-clause-rows : goal.returns-clause-rows
+returns-clause-rows g c = rows_contain c.args.points.now c.args.cap g.row.P _ (inside g.row.P c.in_ok-basis.basis c.in_ok-basis.ensures.stands) (returns-clause-field g c)

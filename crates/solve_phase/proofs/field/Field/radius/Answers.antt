@@ -1,23 +1,33 @@
--- A cell without a target has the radius 0.
+-- The radius is that of a place of the field, 0 where the cell has no target.
 use Rattle.std.proofs.Common.{◌≡◌, ◌<◌, ◌∙◌, length, ap, sym, subst, arith}
-use Rattle.std.proofs.lemmas.Bool.{true≢false}
 use Rattle.std.proofs.lemmas.Int.{ints}
 use Rattle.std.proofs.lemmas.List.{get_or_default}
 use Rattle.places.specs.Place.{PlaceModel, no_place, place_at}
-use Rattle.quadtree.specs.Tree.{HasTarget}
-use Rattle.quadtree.specs.TreeModel.{size, square_of}
+use Rattle.quadtree.specs.TreeModel.{size}
 use Rattle.solve_phase.specs.Parts.{FieldParts, FitTogether}
+use Rattle.solve_phase.proofs.Sizes.{radius_small, radius_zero}
+use Rattle.solve_phase.proofs.field.Field.radius.Given.{Over}
 use Rattle.solve_phase.proofs.field.Field.radius.Goals as goal
+
+module _ (g : Over) (c : goal.After-radius g) where
+  fits : FitTogether g.row.P c.args.self.now
+  fits = subst (λ (f : FieldParts). FitTogether g.row.P f) c.self.view_is c.self.invariant
+
+  here : c.index.result.now ≡ place_at c.args.self.now.local c.args.n
+  here =
+      let n = c.args.n in
+      let items = c.self.inside.local.items in
+      let trees = ap (λ (f : FieldParts). size f.basis.tree) c.self.view_is in
+      let lt : n < length items = omega (arith, trees, c.self.invariant.local_are.as_many, c.requires) in
+      c.index.ensures ∙ sym (get_or_default items n no_place c.index.result.now lt) ∙ ap (λ (f : FieldParts). place_at f.local n) c.self.view_is
 
 pub returns-clause-without : goal.returns-clause-without
 returns-clause-without g c = λ none.
-    let f = c.args.self.now in
-    let n = c.args.n in
-    let items = c.self.inside.local.items in
-    let h = subst (λ (f : FieldParts). FitTogether g.row.P f) c.self.view_is c.self.invariant in
-    let absent : HasTarget f.basis.points (square_of f.basis.tree n) → ⊥ = λ t. true≢false (sym ((h.basis_is.is_tree.nodes_are n c.requires).target.1 t) ∙ none) in
-    let trees = ap (λ (f : FieldParts). size f.basis.tree) c.self.view_is in
-    let lt : n < length items = omega (arith, trees, c.self.invariant.local_are.as_many, c.requires) in
-    let here : c.index.result.now ≡ place_at f.local n = c.index.ensures ∙ sym (get_or_default items n no_place c.index.result.now lt) ∙ ap (λ (f : FieldParts). place_at f.local n) c.self.view_is in
-    let zero = ap (λ (p : PlaceModel). p.radius) here ∙ ((h.local_are.each n c.requires).without absent).radius_is in
+    let zero = ap (λ (p : PlaceModel). p.radius) (here g c) ∙ radius_zero g.row.P c.args.self.now (fits g c) c.args.n c.requires none in
     omega (arith, ints, c.radius.ensures.radius, zero)
+
+pub returns-clause-size : goal.returns-clause-size
+returns-clause-size g c =
+    let same = ap (λ (p : PlaceModel). p.radius) (here g c) in
+    let small = radius_small g.row.P c.args.self.now (fits g c) c.args.n c.requires in
+    omega (arith, ints, c.radius.ensures.radius, same, small)
