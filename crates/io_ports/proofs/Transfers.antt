@@ -1,10 +1,9 @@
 -- What pieces add up to that came or were put one after another.
-use Rattle.std.proofs.Common.{◌≡◌, ℕ, ◌+◌, ◌≤◌, List, ◌++◌, length, take, drop, ap, sym, ◌∙◌, Some, None, arith, append-nil, length-append, length-take}
+use Rattle.std.proofs.Common.{◌≡◌, ℕ, ◌+◌, ◌≤◌, List, ◌++◌, length, take, drop, arith, length-append, length-take}
 use Rattle.std.proofs.Math.Seq.{take-add}
 use Rattle.std.proofs.KnownBytes.{Appends-trans}
 use Rattle.std.specs.declared.option.Option.{Option}
-use Rattle.std.specs.Io.KnownBytes.{Appends, Consumes, IsAtEnd}
-use Rattle.io_ports.specs.Bytes.{GivesAll}
+use Rattle.std.specs.Io.KnownBytes.{Appends}
 
 -- the next c bytes of xs, after the first d
 pub Appends-next : (before mid after : Option (List ℕ)) (d c : ℕ) (xs : List ℕ)
