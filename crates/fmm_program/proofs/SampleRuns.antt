@@ -55,7 +55,7 @@ module _ (seed n order cap : ℕ) where
 
     -- a run that ended so has the facts of a run
     pub sample_run : (status : Status) → Ends (SampleAnswers seed n order cap) status out cert → (status ≡ ReadFault → ⊥) → (status ≡ WriteFault → HasFault out) → SampleRun seed n order cap status out cert
-    sample_run status ends read write = record { ends = ends; unread = read; complete = λ has no_write. completes has status ends read (λ h. no_write (write h)) }
+    sample_run status ends read write = record { ends = ends; no_read_fault = read; complete = λ has no_write. completes has status ends read (λ h. no_write (write h)) }
 
   -- after a flush, where the port of a certificate stays as it is
   pub flushed_sample : (before mid after cert : Option (List ℕ)) → Keeps mid after → (b m a c d : ℕ) (status result : Status) → (result ≡ status) ⊎ (result ≡ WriteFault)
@@ -66,7 +66,7 @@ module _ (seed n order cap : ℕ) where
       (flushed_ends (SampleAnswers seed n order cap) (sample_plain seed n order cap) before mid after cert kept b m a c d status result stays silent run.ends) (read stays) write
     where
       read : (result ≡ status) ⊎ (result ≡ WriteFault) → result ≡ ReadFault → ⊥
-      read (inl e) h = run.unread (sym e ∙ h)
+      read (inl e) h = run.no_read_fault (sym e ∙ h)
       read (inr e) h = cc
 
   -- points that have no tree

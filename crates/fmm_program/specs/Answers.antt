@@ -115,7 +115,8 @@ pub record HasDepth (cap : ℕ) (input : List ℕ) : Type 0 where
 -- the answer to this input, and what goes out with it
 abbrev pub SolveAnswers : ℕ → ℕ → List ℕ → Status → Output → Type 0
 SolveAnswers order cap input Done output = IsReported order cap input output.out × (output.cert ≡ [])
-SolveAnswers order cap input Refused output = (IsLong input output.out ⊎ (IsFaulty input output.out ⊎ IsTooDeep cap input output.out)) × (output.cert ≡ [])
+SolveAnswers order cap input Refused output =
+    (IsLong input output.out ⊎ (IsFaulty input output.out ⊎ IsTooDeep cap input output.out)) × (output.cert ≡ [])
 SolveAnswers order cap input _ output = ⊥
 
 -- the answer to points that have no tree

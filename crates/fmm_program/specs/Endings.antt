@@ -54,10 +54,12 @@ plain bytes = record { out = bytes; cert = [] }
 abbrev pub OneLine : Status → List ℕ → Status → Output → Type 0
 OneLine ending line status output = (status ≡ ending) × (output ≡ plain line)
 
--- How a run ended that has `answers` for each status: both sinks took all of an output, a part of it after a write fault, and nothing after a read fault or want of memory.
+-- How a run ended that has `answers` for each status: both sinks took all of an output, a part of it after a write fault,
+-- and nothing after a read fault or want of memory.
 abbrev pub Ends : (Status → Output → Type 0) → Status → Flow → Flow → Type 0
 Ends answers WriteFault out cert =
-    (status : Status) × (output : Output) × answers status output × AppendsPrefix out.before out.after output.out × AppendsPrefix cert.before cert.after output.cert
+    (status : Status) × (output : Output) × answers status output
+    × AppendsPrefix out.before out.after output.out × AppendsPrefix cert.before cert.after output.cert
 Ends answers Memory out cert = (out.after ≡ out.before) × (cert.after ≡ cert.before)
 Ends answers ReadFault out cert = (out.after ≡ out.before) × (cert.after ≡ cert.before)
 Ends answers status out cert = (output : Output) × answers status output × Appends out.before out.after output.out × Appends cert.before cert.after output.cert

@@ -7,16 +7,18 @@ use Rattle.fmm_program.specs.SampleAnswers.{HasSampleDepth, SampleAnswers}
 use Rattle.fmm_program.specs.declared.status.Status.{Status}
 use Rattle.fmm_program.specs.declared.status.Status.TheVariants.{Done, Usage, Memory, ReadFault, WriteFault}
 
--- The facts of a run of `solve`: how it ended for the input that the source told, and, of one that tells nothing, for some bytes that came. A text that has a tree is not refused.
+-- The facts of a run of `solve`: how it ended for the input that the source told, and, of one that tells nothing, for some bytes that came.
+-- A text that has a tree is not refused.
 pub record SolveRun (order cap : ℕ) (status : Status) (points out cert : Flow) : Type 0 where
   pub told : IfSome points.before (λ input. Ends (SolveAnswers order cap input) status out cert)
   pub came : (input : List ℕ) × Consumes points.before points.after input × Ends (SolveAnswers order cap input) status out cert
-  pub complete : (input : List ℕ) → points.before ≡ Some input → HasDepth cap input → (HasFault points → ⊥) → (HasFault out → ⊥) → (status ≡ Done) ⊎ (status ≡ Memory)
+  pub complete : (input : List ℕ) → points.before ≡ Some input → HasDepth cap input → (HasFault points → ⊥) → (HasFault out → ⊥)
+      → (status ≡ Done) ⊎ (status ≡ Memory)
 
 -- The facts of a run of `sample`. It has no read fault, and a sample that has a tree is not refused.
 pub record SampleRun (seed n order cap : ℕ) (status : Status) (out cert : Flow) : Type 0 where
   pub ends : Ends (SampleAnswers seed n order cap) status out cert
-  pub unread : status ≡ ReadFault → ⊥
+  pub no_read_fault : status ≡ ReadFault → ⊥
   pub complete : HasSampleDepth seed n cap → (HasFault out → ⊥) → (status ≡ Done) ⊎ (status ≡ Memory)
 
 -- The facts of a run of words that are of no form.

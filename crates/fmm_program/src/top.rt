@@ -71,7 +71,7 @@ pub fn run<A: Source, B: Source, O: Sink, C: Sink>(
     ensures usage_only { result ≡ Status.Usage → IsUsage words.now }
     ensures rejected { result ≡ Status.Rejected → ⊥ }
 
-    // Faults are answered where the port's count rose, and those of writes always.
+    // A fault is answered only where its port's count rose, and one of a write always is.
     ensures read { result ≡ Status.ReadFault → Rose (A.faults points.old) (A.faults points.new) }
     ensures write { TellsFaults result (flow (O.held out.old) (O.held out.new) (O.faults out.old) (O.faults out.new)) }
 

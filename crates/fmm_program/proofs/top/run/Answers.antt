@@ -85,7 +85,7 @@ returns-in-Some-Sample-clause-rejected g c e =
     sample_rejects_none _ _ _ _ _ _ c.sample.result c.sample.ensures.run.ends (flushed_from c.sample.result c.flushed-in-Some-Sample.result c.flushed-in-Some-Sample.ensures.stays Rejected (λ h. cc) e)
 
 pub returns-in-Some-Sample-clause-read : goal.returns-in-Some-Sample-clause-read
-returns-in-Some-Sample-clause-read g c e = absurd (c.sample.ensures.run.unread (flushed_from c.sample.result c.flushed-in-Some-Sample.result c.flushed-in-Some-Sample.ensures.stays ReadFault (λ h. cc) e))
+returns-in-Some-Sample-clause-read g c e = absurd (c.sample.ensures.run.no_read_fault (flushed_from c.sample.result c.flushed-in-Some-Sample.result c.flushed-in-Some-Sample.ensures.stays ReadFault (λ h. cc) e))
 
 pub returns-in-Some-Sample-clause-write : goal.returns-in-Some-Sample-clause-write
 returns-in-Some-Sample-clause-write g c =
