@@ -7,6 +7,8 @@ use std::fs::File;
 use std::process::ExitCode;
 use std::{env, io};
 
+const INPUT: &str = "standard input";
+
 /// The words after the program's name. Words that are no text are a faulty command line, as no words are.
 fn words(rt: &HostRuntime) -> Option<Words> {
     let mut words = Words::new(rt.alloc());
@@ -38,27 +40,48 @@ fn answer<A: Source, O: Sink>(
     )
 }
 
+/// Says on standard error why a run failed that took its points from `source`, and gives its status. A failed write
+/// there changes nothing.
+fn told(rt: &HostRuntime, status: Status, source: &str, fault: &str) -> Status {
+    let _ = match status {
+        Status::Memory => eprintln!(rt; "fmm: out of memory"),
+        Status::ReadFault => eprintln!(rt; "fmm: {source} can't be {fault}"),
+        Status::WriteFault => eprintln!(rt; "fmm: standard output can't be written"),
+        _ => Ok(()),
+    };
+    status
+}
+
 /// Opens what the words name, and carries them out.
 fn carry_out<O: Sink>(rt: &HostRuntime, words: &Words, out: &mut O) -> Status {
     match plan(words) {
         Opening::Nothing => {
             let mut nothing = SureSource::new(Vec::new(rt.alloc()));
-            answer(rt, words, &mut nothing, out)
+            told(rt, answer(rt, words, &mut nothing, out), INPUT, "read")
         }
-        Opening::SolveInput => answer(rt, words, &mut ReadSource::new(rt.stdin()), out),
+        Opening::SolveInput => {
+            let mut points = ReadSource::new(rt.stdin());
+            told(rt, answer(rt, words, &mut points, out), INPUT, "read")
+        }
         Opening::SolveFile { file } => match File::open(rt, file) {
-            Ok(file) => answer(rt, words, &mut ReadSource::new(file), out),
-            Err(_) => answer(rt, words, &mut BrokenSource::new(), out),
+            Ok(points) => {
+                let mut points = ReadSource::new(points);
+                told(rt, answer(rt, words, &mut points, out), file, "read")
+            }
+            Err(_) => {
+                let mut points = BrokenSource::new();
+                told(rt, answer(rt, words, &mut points, out), file, "opened")
+            }
         },
     }
 }
 
 fn main(rt: HostRuntime) -> ExitCode {
-    let Some(words) = words(&rt) else {
-        return ExitCode::from(Status::Memory as u8);
+    let status = match words(&rt) {
+        Some(words) => carry_out(&rt, &words, &mut WriteSink::new(rt.stdout())),
+        None => told(&rt, Status::Memory, INPUT, "read"),
     };
-    let status = carry_out(&rt, &words, &mut WriteSink::new(rt.stdout()));
-    ExitCode::from(status as u8)
+    ExitCode::from(status.code())
 }
 
 #[cfg(test)]

@@ -1,7 +1,8 @@
 -- A report is certified: the printed counts contain the exact direct sums, and one entry accounts for each target and source.
-use Rattle.std.proofs.Common.{◌≡◌, refl, subst, Some, None, IfSome, ℕ, List, [], ◌∷◌, map, pos, ◌^◌}
+use Rattle.std.proofs.Common.{◌≡◌, ◌∙◌, ap, append-nil, refl, subst, Some, None, IfSome, ℕ, List, [], ◌∷◌, ◌++◌, map, pos, ◌^◌}
+use Rattle.std.proofs.KnownBytes.{Appends-kept}
 use Rattle.std.proofs.lemmas.List.Elements.{recursion_from_All}
-use Rattle.std.specs.Io.KnownBytes.{Appends, Consumes}
+use Rattle.std.specs.Io.KnownBytes.{Consumes, Keeps}
 use Rattle.std.specs.List.{AllZip, AllByRecursion}
 use Rattle.std.specs.declared.option.Option.{Option}
 use Rattle.exact_math.specs.Ends.{BoxEndsContain}
@@ -22,7 +23,9 @@ use Rattle.tree_field.proofs.Work.{translations_are_few}
 use Rattle.tree_field.specs.Field.{targets, target_box}
 use Rattle.tree_field.specs.Lists.{TreeLists}
 use Rattle.fmm_program.proofs.OneListEntry.{one_list_entry}
-use Rattle.fmm_program.specs.Answers.{IsCertified, IsReported, LineContains, SolveEnds}
+use Rattle.fmm_program.specs.Answers.{IsCertified, IsReported, LineContains, SolveAnswers}
+use Rattle.fmm_program.specs.Endings.{Ends, flow, untold}
+use Rattle.fmm_program.specs.Runs.{CertifiedRun, SolveRun}
 use Rattle.fmm_program.specs.declared.status.Status.{Status}
 use Rattle.fmm_program.specs.declared.status.Status.TheVariants.{Done}
 
@@ -39,12 +42,11 @@ pub certified : (order cap : ℕ) (input out : List ℕ) → IsOrder order → I
 certified order cap input out is_order s =
     let grid = grid_of s.points.version in
     let some = grid_positive grid (version_has_grid s.points.version) in
-    let inside : AreInGrid grid s.points.list = in_grid grid s.points.list s.spelled.limits.within.range in
+    let inside : AreInGrid grid s.points.list = in_grid grid s.points.list s.read.spelled.limits.within.range in
     let boxes = field_contains grid s.points.list cap order s.lists some (order_bounds order is_order).0 inside s.lists_are in
     record {
       points = s.points;
-      within = s.within;
-      spelled = s.spelled;
+      read = s.read;
       lists = s.lists;
       lists_are = s.lists_are;
       lines = map (field_line s.points.mode s.points.list cap order s.lists) (targets s.points.list);
@@ -54,18 +56,26 @@ certified order cap input out is_order s =
       few = translations_are_few s.points.list s.lists;
     }
 
--- what a run of `solve` that was carried out wrote
-pub certified_ends : (order cap : ℕ) (status : Status) (left before after : Option (List ℕ)) → IsOrder order → status ≡ Done
-    → IfSome left (λ input. SolveEnds order cap input status before after) → IfSome left (λ input. (bytes : List ℕ) × IsCertified order cap input bytes × Appends before after bytes)
-certified_ends order cap status None before after is_order done ends = tt
-certified_ends order cap status (Some input) before after is_order done ends =
-    let e = subst (λ s. SolveEnds order cap input s before after) done ends in
-    (e.0, certified order cap input e.0 is_order e.1, e.2)
+-- all that the source told came
+whole : (left rest : Option (List ℕ)) (input : List ℕ) → Consumes left rest input → IfSome left (λ _. rest ≡ Some []) → IfSome left (λ l. (l ≡ input) × (rest ≡ Some []))
+whole None rest input p h = tt
+whole (Some l) None input p h = absurd p
+whole (Some l) (Some r) input p h = (p ∙ ap (λ x. input ++ x) nothing ∙ append-nil input, h)
+  where
+    nothing : r ≡ []
+    nothing = cc
 
--- the same of the bytes that came, where the source tells nothing
-pub certified_came : (order cap : ℕ) (status : Status) (left rest before after : Option (List ℕ)) → IsOrder order → status ≡ Done
-    → (input : List ℕ) × Consumes left rest input × SolveEnds order cap input status before after
-    → (input : List ℕ) × (bytes : List ℕ) × Consumes left rest input × IsCertified order cap input bytes × Appends before after bytes
-certified_came order cap status left rest before after is_order done came =
-    let e = subst (λ s. SolveEnds order cap came.0 s before after) done came.2 in
-    (came.0, e.0, came.1, certified order cap came.0 e.0 is_order e.1, e.2)
+-- a run of `solve` that was carried out, where nothing was left, and then a flush
+pub certified_flushed : (order cap : ℕ) (left rest : Option (List ℕ)) (r s : ℕ) (before mid after : Option (List ℕ)) → Keeps mid after → (b m a : ℕ) (status : Status) → IsOrder order → status ≡ Done
+    → IfSome left (λ _. rest ≡ Some []) → SolveRun order cap status (flow left rest r s) (flow before mid b m) untold → CertifiedRun order cap (flow left rest r s) (flow before after b a)
+certified_flushed order cap left rest r s before mid after kept b m a status is_order done nothing run =
+    let came = run.came in
+    let e = subst (λ s. Ends (SolveAnswers order cap came.0) s (flow before mid b m) untold) done came.2 in
+    record {
+      input = came.0;
+      bytes = e.0.out;
+      consumed = came.1;
+      whole = whole left rest came.0 came.1 nothing;
+      certified = certified order cap came.0 e.0.out is_order e.1.0;
+      written = Appends-kept before mid after e.0.out e.2 kept;
+    }

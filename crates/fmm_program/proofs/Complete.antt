@@ -1,37 +1,51 @@
--- A text with no crowded place and few cells is not refused.
-use Rattle.std.proofs.Common.{◌≡◌, subst, sym, refl, arith, ℕ, ◌⊎◌, inl, inr, List, Some, IfSome}
-use Rattle.std.specs.declared.option.Option.{Option}
+-- A text with no crowded place and few cells is not refused, and no run of `solve` has the answers of other commands.
+use Rattle.std.proofs.Common.{◌≡◌, subst, sym, refl, arith, ℕ, ◌⊎◌, inl, inr, List, []}
 use Rattle.particle_text.proofs.OneFault.{never_both}
 use Rattle.particle_text.proofs.OneText.{one_list}
-use Rattle.limits.specs.Limits.{grid_of, most_cells}
+use Rattle.limits.specs.Limits.{grid_of}
 use Rattle.points.specs.declared.Points.{Points}
-use Rattle.quadtree.specs.Faults.{HasMoreCells, NoneIsCrowded}
-use Rattle.fmm_program.specs.Answers.{HasDepth, SolveEnds}
+use Rattle.quadtree.specs.Faults.{HasTree}
+use Rattle.fmm_program.specs.Answers.{HasDepth, RefusesDepth, SolveAnswers}
+use Rattle.fmm_program.specs.Endings.{Ends, Flow, Output}
 use Rattle.fmm_program.specs.declared.status.Status.{Status}
 use Rattle.fmm_program.specs.declared.status.Status.TheVariants.{Done, Refused, Usage, Memory, ReadFault, WriteFault, Rejected}
 
-module _ (order cap : ℕ) (input : List ℕ) (before after : Option (List ℕ)) (depth : HasDepth cap input) where
-  refused : SolveEnds order cap input Refused before after → ⊥
-  refused (out, inl long, held) = absurd (let l = long.long in let w = depth.within in omega arith)
-  refused (out, inr (inl faulty), held) = never_both input depth.points faulty.number faulty.kind depth.spelled faulty.fault
-  refused (out, inr (inr (inl crowded)), held) =
-      let e = one_list input crowded.points depth.points crowded.spelled depth.spelled in
-      subst (λ (ps : Points). NoneIsCrowded (grid_of ps.version) ps.list) (sym e) depth.has_tree.none_crowded crowded.cell crowded.first.crowded
-  refused (out, inr (inr (inr cells)), held) =
-      let e = one_list input cells.points depth.points cells.spelled depth.spelled in
-      depth.has_tree.no_more (subst (λ (ps : Points). HasMoreCells (grid_of ps.version) ps.list cap (most_cells (grid_of ps.version))) e cells.too_many.too_many)
+-- points that have a tree are not refused for depth
+pub deep_enough : (points : Points) (cap : ℕ) (out : List ℕ) → HasTree (grid_of points.version) points.list cap → RefusesDepth points cap out → ⊥
+deep_enough points cap out has (inl crowded) = has.none_crowded crowded.cell crowded.first.crowded
+deep_enough points cap out has (inr cells) = has.no_more cells.too_many.too_many
 
-  completes : (status : Status) → SolveEnds order cap input status before after → (status ≡ ReadFault → ⊥) → (status ≡ WriteFault → ⊥) → (status ≡ Done) ⊎ (status ≡ Memory)
-  completes Done ends r w = inl refl
-  completes Memory ends r w = inr refl
-  completes Refused ends r w = absurd (refused ends)
-  completes ReadFault ends r w = absurd (r refl)
-  completes WriteFault ends r w = absurd (w refl)
-  completes Usage ends r w = absurd ends.1
-  completes Rejected ends r w = absurd ends.1
+-- the answers of `solve` have no certificate
+pub solve_plain : (order cap : ℕ) (input : List ℕ) (status : Status) (output : Output) → SolveAnswers order cap input status output → output.cert ≡ []
+solve_plain order cap input Done output a = a.1
+solve_plain order cap input Refused output a = a.1
+solve_plain order cap input Usage output a = absurd a
+solve_plain order cap input Memory output a = absurd a
+solve_plain order cap input ReadFault output a = absurd a
+solve_plain order cap input WriteFault output a = absurd a
+solve_plain order cap input Rejected output a = absurd a
 
--- the same of an input that the source tells
-pub completes_told : (order cap : ℕ) (input : List ℕ) (left before after : Option (List ℕ)) (status : Status) → HasDepth cap input → left ≡ Some input → IfSome left (λ input. SolveEnds order cap input status before after)
-    → (status ≡ ReadFault → ⊥) → (status ≡ WriteFault → ⊥) → (status ≡ Done) ⊎ (status ≡ Memory)
-completes_told order cap input left before after status depth e ends =
-    completes order cap input before after depth status (subst (λ o. IfSome o (λ input. SolveEnds order cap input status before after)) e ends)
+module _ (order cap : ℕ) (input : List ℕ) (out cert : Flow) where
+  module _ (depth : HasDepth cap input) where
+    refused : Ends (SolveAnswers order cap input) Refused out cert → ⊥
+    refused (output, (inl long, e), p, q) = absurd (let l = long.long in let w = depth.read.within in omega arith)
+    refused (output, (inr (inl faulty), e), p, q) = never_both input depth.points faulty.number faulty.kind depth.read.spelled faulty.fault
+    refused (output, (inr (inr deep), e), p, q) =
+        let same = one_list input deep.points depth.points deep.read.spelled depth.read.spelled in
+        deep_enough deep.points cap output.out (subst (λ (ps : Points). HasTree (grid_of ps.version) ps.list cap) (sym same) depth.has_tree) deep.refuses
+
+    pub completes : (status : Status) → Ends (SolveAnswers order cap input) status out cert → (status ≡ ReadFault → ⊥) → (status ≡ WriteFault → ⊥) → (status ≡ Done) ⊎ (status ≡ Memory)
+    completes Done ends r w = inl refl
+    completes Memory ends r w = inr refl
+    completes Refused ends r w = absurd (refused ends)
+    completes ReadFault ends r w = absurd (r refl)
+    completes WriteFault ends r w = absurd (w refl)
+    completes Usage ends r w = absurd ends.1
+    completes Rejected ends r w = absurd ends.1
+
+  -- no run of `solve` ends with the usage line, or with a rejected certificate
+  pub solve_is_no_usage : (status : Status) → Ends (SolveAnswers order cap input) status out cert → status ≡ Usage → ⊥
+  solve_is_no_usage status ends e = (subst (λ s. Ends (SolveAnswers order cap input) s out cert) e ends).1
+
+  pub solve_rejects_none : (status : Status) → Ends (SolveAnswers order cap input) status out cert → status ≡ Rejected → ⊥
+  solve_rejects_none status ends e = (subst (λ s. Ends (SolveAnswers order cap input) s out cert) e ends).1

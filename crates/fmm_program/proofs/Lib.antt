@@ -1,6 +1,8 @@
 pub mod Certified
 pub mod Complete
+mod FlushedEnds
 pub mod OneListEntry
-pub mod RunEnds
 mod SampleRuns
+pub mod SolveRuns
+mod UsageRuns
 mod WordForms

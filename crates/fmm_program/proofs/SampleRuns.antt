@@ -1,47 +1,86 @@
--- How runs of `sample` end: from what the calls answered to the answers of a run.
-use Rattle.std.proofs.Common.{◌≡◌, subst, ap, sym, refl, arith, ℕ, inl, inr, List, length}
+-- How runs of `sample` end: from what the calls answered to the facts of a run.
+use Rattle.std.proofs.Common.{◌≡◌, ◌∙◌, ◌⊎◌, subst, ap, sym, refl, arith, ℕ, inl, inr, List, [], length}
 use Rattle.std.proofs.lemmas.List.FromFn.{length-map-range_with_len}
-use Rattle.std.specs.Io.KnownBytes.{Appends}
+use Rattle.std.specs.Io.KnownBytes.{Appends, Keeps}
 use Rattle.std.specs.declared.option.Option.{Option}
-use Rattle.cell_name.specs.Cell.{square}
 use Rattle.io_ports.specs.Bytes.{AppendsPrefix}
+use Rattle.io_ports.specs.Faults.{Rose}
 use Rattle.limits.specs.Limits.{grid_of}
 use Rattle.points.specs.Limits.{WithinLimits}
 use Rattle.points.specs.declared.Point.{Point}
 use Rattle.points.specs.declared.Points.{Points}
 use Rattle.point_sample.specs.Sample.{sample, sample_grid, sample_list, sample_point}
 use Rattle.quadtree.proofs.Limits.{in_grid}
-use Rattle.quadtree.specs.Faults.{HasTree, IsFaultOf}
-use Rattle.quadtree.specs.declared.fault.TreeFault.{TreeFault}
-use Rattle.quadtree.specs.declared.fault.TreeFault.TheVariants.{Crowded, Cells, Memory as NoMemory}
+use Rattle.quadtree.specs.Faults.{HasTree}
 use Rattle.sample_summary.specs.Summary.{summary_of}
 use Rattle.sample_summary.specs.Text.{summary_text}
 use Rattle.tree_field.proofs.EachList.{each_list_has_tree}
 use Rattle.tree_field.specs.Lists.{TreeLists, AreTreeLists}
-use Rattle.fmm_program.specs.Answers.{DepthEnds, RefusalEnds, cells_line, crowded_line}
-use Rattle.fmm_program.specs.SampleAnswers.{HasSampleDepth, IsSummarized, SampleAnswers, SampleEnds}
+use Rattle.fmm_program.proofs.Complete.{deep_enough}
+use Rattle.fmm_program.proofs.FlushedEnds.{Ends-map, flushed_ends}
+use Rattle.fmm_program.specs.Answers.{DepthAnswers}
+use Rattle.fmm_program.specs.Endings.{Ends, Flow, HasFault, Output, flow, plain, untold}
+use Rattle.fmm_program.specs.Runs.{SampleRun}
+use Rattle.fmm_program.specs.SampleAnswers.{HasSampleDepth, IsSummarized, SampleAnswers}
 use Rattle.fmm_program.specs.declared.status.Status.{Status}
 use Rattle.fmm_program.specs.declared.status.Status.TheVariants.{Done, Refused, Usage, Memory, ReadFault, WriteFault, Rejected}
 
+-- the answers of `sample` have no certificate
+sample_plain : (seed n order cap : ℕ) (status : Status) (output : Output) → SampleAnswers seed n order cap status output → output.cert ≡ []
+sample_plain seed n order cap Done output a = a.1
+sample_plain seed n order cap Refused output a = a.1
+sample_plain seed n order cap Usage output a = absurd a
+sample_plain seed n order cap Memory output a = absurd a
+sample_plain seed n order cap ReadFault output a = absurd a
+sample_plain seed n order cap WriteFault output a = absurd a
+sample_plain seed n order cap Rejected output a = absurd a
+
 module _ (seed n order cap : ℕ) where
-  refused_ends : (before after : Option (List ℕ)) (status : Status) (line : List ℕ) → SampleAnswers seed n order cap Refused line → RefusalEnds status before after line → SampleEnds seed n order cap status before after
-  refused_ends before after Refused line a r = (line, a, r)
-  refused_ends before after WriteFault line a r = (Refused, line, a, r)
-  refused_ends before after Done line a r = absurd r
-  refused_ends before after Usage line a r = absurd r
-  refused_ends before after Memory line a r = absurd r
-  refused_ends before after ReadFault line a r = absurd r
-  refused_ends before after Rejected line a r = absurd r
+  module _ (out cert : Flow) where
+    -- no run of `sample` ends with the usage line, or with a rejected certificate
+    pub sample_is_no_usage : (status : Status) → Ends (SampleAnswers seed n order cap) status out cert → status ≡ Usage → ⊥
+    sample_is_no_usage status ends e = (subst (λ s. Ends (SampleAnswers seed n order cap) s out cert) e ends).1
 
-  -- a sample that has no field
-  fault_ends : (before after : Option (List ℕ)) (fault : TreeFault) (status : Status) → IsFaultOf sample_grid (sample_list seed n) cap fault → DepthEnds fault status before after → SampleEnds seed n order cap status before after
-  fault_ends before after (Crowded cell count) status h r = refused_ends before after status (crowded_line (square cell) count) (inl (record { cell = square cell; count = count; first = h; line = refl })) r
-  fault_ends before after Cells status h r = refused_ends before after status cells_line (inr (record { too_many = h; line = refl })) r
-  fault_ends before after NoMemory status h r = subst (λ s. SampleEnds seed n order cap s before after) (sym r.0) r.1
+    pub sample_rejects_none : (status : Status) → Ends (SampleAnswers seed n order cap) status out cert → status ≡ Rejected → ⊥
+    sample_rejects_none status ends e = (subst (λ s. Ends (SampleAnswers seed n order cap) s out cert) e ends).1
 
-  pub depth_ends : (before after : Option (List ℕ)) (points : Points) (fault : TreeFault) (status : Status) → points ≡ sample seed n → IsFaultOf (grid_of points.version) points.list cap fault
-      → DepthEnds fault status before after → SampleEnds seed n order cap status before after
-  depth_ends before after points fault status e h r = fault_ends before after fault status (subst (λ (ps : Points). IsFaultOf (grid_of ps.version) ps.list cap fault) e h) r
+    completes : HasSampleDepth seed n cap → (status : Status) → Ends (SampleAnswers seed n order cap) status out cert → (status ≡ ReadFault → ⊥) → (status ≡ WriteFault → ⊥) → (status ≡ Done) ⊎ (status ≡ Memory)
+    completes has Done ends r w = inl refl
+    completes has Memory ends r w = inr refl
+    completes has Refused (output, a, p, q) r w = absurd (deep_enough (sample seed n) cap output.out has a.0)
+    completes has ReadFault ends r w = absurd (r refl)
+    completes has WriteFault ends r w = absurd (w refl)
+    completes has Usage ends r w = absurd ends.1
+    completes has Rejected ends r w = absurd ends.1
+
+    -- a run that ended so has the facts of a run
+    pub sample_run : (status : Status) → Ends (SampleAnswers seed n order cap) status out cert → (status ≡ ReadFault → ⊥) → (status ≡ WriteFault → HasFault out) → SampleRun seed n order cap status out cert
+    sample_run status ends read write = record { ends = ends; no_read_fault = read; complete = λ has no_write. completes has status ends read (λ h. no_write (write h)) }
+
+  -- after a flush, where the port of a certificate stays as it is
+  pub flushed_sample : (before mid after cert : Option (List ℕ)) → Keeps mid after → (b m a c d : ℕ) (status result : Status) → (result ≡ status) ⊎ (result ≡ WriteFault)
+      → ((status ≡ Memory) ⊎ (status ≡ ReadFault) → (result ≡ status) × (after ≡ mid)) → SampleRun seed n order cap status (flow before mid b m) untold → (result ≡ WriteFault → Rose b a)
+      → SampleRun seed n order cap result (flow before after b a) (flow cert cert c d)
+  flushed_sample before mid after cert kept b m a c d status result stays silent run write =
+      sample_run (flow before after b a) (flow cert cert c d) result
+      (flushed_ends (SampleAnswers seed n order cap) (sample_plain seed n order cap) before mid after cert kept b m a c d status result stays silent run.ends) (read stays) write
+    where
+      read : (result ≡ status) ⊎ (result ≡ WriteFault) → result ≡ ReadFault → ⊥
+      read (inl e) h = run.no_read_fault (sym e ∙ h)
+      read (inr e) h = cc
+
+  -- points that have no tree
+  pub depth_ends : (out : Flow) (status : Status) (points : Points) → points ≡ sample seed n → Ends (DepthAnswers points cap) status out untold → Ends (SampleAnswers seed n order cap) status out untold
+  depth_ends out status points e ends = Ends-map (DepthAnswers (sample seed n) cap) (SampleAnswers seed n order cap) deep out untold status (subst (λ (ps : Points). Ends (DepthAnswers ps cap) status out untold) e ends)
+    where
+      deep : (status : Status) (output : Output) → DepthAnswers (sample seed n) cap status output → SampleAnswers seed n order cap status output
+      deep Refused output a = a
+      deep Done output a = absurd a
+      deep Usage output a = absurd a
+      deep Memory output a = absurd a
+      deep ReadFault output a = absurd a
+      deep WriteFault output a = absurd a
+      deep Rejected output a = absurd a
 
   -- the summary of some points over these lists
   abbrev summary_over : List Point → TreeLists → List ℕ
@@ -59,17 +98,18 @@ module _ (seed n order cap : ℕ) where
       summary = ap (λ k. summary_text seed k order cap (summary_of (sample_list seed n) cap order some.0)) (length-map-range_with_len (sample_point seed) 0 n);
     }
 
-  -- what goes out with the summary, all of it or a prefix of it
-  pub summary_ends : (before after : Option (List ℕ)) (points : Points) → points ≡ sample seed n → WithinLimits points → HasTree (grid_of points.version) points.list cap
-      → ((lists : TreeLists) → AreTreeLists sample_grid points.list cap lists → Appends before after (summary_over points.list lists)) → SampleEnds seed n order cap Done before after
-  summary_ends before after points e =
-      subst (λ (ps : Points). WithinLimits ps → HasTree (grid_of ps.version) ps.list cap → ((lists : TreeLists) → AreTreeLists sample_grid ps.list cap lists → Appends before after (summary_over ps.list lists)) → SampleEnds seed n order cap Done before after)
-      (sym e)
-      (λ limits has h. (summary_over (sample_list seed n) (some limits has).0, summarized limits has, h (some limits has).0 (some limits has).1))
+  -- what goes out with the summary, all of it or a part of it
+  module _ (before after : Option (List ℕ)) where
+    pub summary_ends : (points : Points) → points ≡ sample seed n → WithinLimits points → HasTree (grid_of points.version) points.list cap
+        → ((lists : TreeLists) → AreTreeLists sample_grid points.list cap lists → Appends before after (summary_over points.list lists)) → Ends (SampleAnswers seed n order cap) Done (flow before after 0 0) untold
+    summary_ends points e =
+        subst (λ (ps : Points). WithinLimits ps → HasTree (grid_of ps.version) ps.list cap → ((lists : TreeLists) → AreTreeLists sample_grid ps.list cap lists → Appends before after (summary_over ps.list lists)) → Ends (SampleAnswers seed n order cap) Done (flow before after 0 0) untold)
+        (sym e)
+        (λ limits has h. (plain (summary_over (sample_list seed n) (some limits has).0), (summarized limits has, refl), h (some limits has).0 (some limits has).1, tt))
 
-  pub part_ends : (before after : Option (List ℕ)) (points : Points) → points ≡ sample seed n → WithinLimits points → HasTree (grid_of points.version) points.list cap
-      → ((lists : TreeLists) → AreTreeLists sample_grid points.list cap lists → AppendsPrefix before after (summary_over points.list lists)) → SampleEnds seed n order cap WriteFault before after
-  part_ends before after points e =
-      subst (λ (ps : Points). WithinLimits ps → HasTree (grid_of ps.version) ps.list cap → ((lists : TreeLists) → AreTreeLists sample_grid ps.list cap lists → AppendsPrefix before after (summary_over ps.list lists)) → SampleEnds seed n order cap WriteFault before after)
-      (sym e)
-      (λ limits has h. (Done, summary_over (sample_list seed n) (some limits has).0, summarized limits has, h (some limits has).0 (some limits has).1))
+    pub part_ends : (points : Points) → points ≡ sample seed n → WithinLimits points → HasTree (grid_of points.version) points.list cap
+        → ((lists : TreeLists) → AreTreeLists sample_grid points.list cap lists → AppendsPrefix before after (summary_over points.list lists)) → Ends (SampleAnswers seed n order cap) WriteFault (flow before after 0 0) untold
+    part_ends points e =
+        subst (λ (ps : Points). WithinLimits ps → HasTree (grid_of ps.version) ps.list cap → ((lists : TreeLists) → AreTreeLists sample_grid ps.list cap lists → AppendsPrefix before after (summary_over ps.list lists)) → Ends (SampleAnswers seed n order cap) WriteFault (flow before after 0 0) untold)
+        (sym e)
+        (λ limits has h. (Done, plain (summary_over (sample_list seed n) (some limits has).0), (summarized limits has, refl), h (some limits has).0 (some limits has).1, (0, tt)))

@@ -1,14 +1,10 @@
--- What a run answers, and what it writes.
+-- What `solve` answers, what goes out with each answer, and the certified solve.
 use Rattle.std.specs.Prelude.{ℕ, ◌+◌, ◌*◌, ◌<◌, ◌≤◌, ◌≡◌, ◌⊎◌, List, [], ◌∷◌, ◌++◌, length, codes, decimal, sum_by, Contains}
 use Rattle.std.specs.List.{AllZip}
-use Rattle.std.specs.Io.KnownBytes.{Appends}
-use Rattle.std.specs.declared.option.Option.{Option}
 use Rattle.cell_lists.specs.Entries.{Accounts, IsTargetAndSource}
 use Rattle.letters.specs.declared.Letter.{Letter}
-use Rattle.cell_name.specs.Cell.{square}
 use Rattle.cell_name.specs.Square.{Square}
 use Rattle.letters.specs.declared.Letter.TheVariants.{V}
-use Rattle.io_ports.specs.Bytes.{AppendsPrefix}
 use Rattle.limits.specs.Limits.{grid_of}
 use Rattle.near_field.specs.DirectSum.{direct_sum}
 use Rattle.number_text.specs.Parts.{line_feed}
@@ -20,16 +16,15 @@ use Rattle.points.specs.declared.Points.{Points}
 use Rattle.particle_text.specs.declared.TextKind.{TextKind}
 use Rattle.particle_text.specs.declared.TextKind.TheVariants.{Syntax, Range, Mixed, Many, Strength}
 use Rattle.quadtree.specs.Faults.{HasTree, HasTooManyCells, IsFirstCrowded}
-use Rattle.quadtree.specs.declared.fault.TreeFault.{TreeFault}
-use Rattle.quadtree.specs.declared.fault.TreeFault.TheVariants.{Crowded, Cells, Memory as NoMemory}
 use Rattle.tree_field.specs.Field.{targets}
 use Rattle.tree_field.specs.Lists.{TreeLists, AreTreeLists}
 use Rattle.tree_field.specs.Work.{translations, pairs}
 use Rattle.report_lines.specs.Counts.{CountsContain}
 use Rattle.field_report.specs.FieldText.{field_text}
 use Rattle.report_lines.specs.Report.{TargetLine, report_text}
+use Rattle.fmm_program.specs.Endings.{OneLine, Output}
 use Rattle.fmm_program.specs.declared.status.Status.{Status}
-use Rattle.fmm_program.specs.declared.status.Status.TheVariants.{Done, Refused, Usage, Memory, ReadFault, WriteFault, Rejected}
+use Rattle.fmm_program.specs.declared.status.Status.TheVariants.{Done, Refused, Usage}
 
 -- the greatest number of bytes of an input
 abbrev pub most_input : ℕ
@@ -62,6 +57,11 @@ cells_line = codes "refused depth cells" ++ line_feed ∷ []
 
 -- ---- what each answer means for the bytes that came, and which bytes go out with it
 
+-- the input is within its limit and spells the points
+pub record IsRead (input : List ℕ) (points : Points) : Type 0 where
+  pub within : length input ≤ most_input
+  pub spelled : Spells input points
+
 -- the input is too long
 pub record IsLong (input out : List ℕ) : Type 0 where
   pub long : most_input < length input
@@ -75,29 +75,32 @@ pub record IsFaulty (input out : List ℕ) : Type 0 where
   pub fault : FirstFault input number kind
   pub line : out ≡ fault_line number kind
 
--- too many points of the text stand at one place, and the line names the first such place by column and row, and how many they are
-pub record IsCrowdedText (input out : List ℕ) : Type 0 where
-  pub points : Points
-  pub within : length input ≤ most_input
-  pub spelled : Spells input points
+-- too many points stand at one place, and the line names the first such place by column and row, and how many they are
+pub record IsCrowdedList (points : Points) (out : List ℕ) : Type 0 where
   pub cell : Square
   pub count : ℕ
   pub first : IsFirstCrowded (grid_of points.version) points.list cell count
   pub line : out ≡ crowded_line cell count
 
--- no place is crowded, and the tree of the text has too many cells
-pub record HasCellsFault (cap : ℕ) (input out : List ℕ) : Type 0 where
-  pub points : Points
-  pub within : length input ≤ most_input
-  pub spelled : Spells input points
+-- no place is crowded, and the tree of the points has too many cells
+pub record HasCellsFault (points : Points) (cap : ℕ) (out : List ℕ) : Type 0 where
   pub too_many : HasTooManyCells (grid_of points.version) points.list cap
   pub line : out ≡ cells_line
+
+-- the points have no tree, and the line says why
+abbrev pub RefusesDepth : Points → ℕ → List ℕ → Type 0
+RefusesDepth points cap out = IsCrowdedList points out ⊎ HasCellsFault points cap out
+
+-- the points of the input have no tree, and the line says why
+pub record IsTooDeep (cap : ℕ) (input out : List ℕ) : Type 0 where
+  pub points : Points
+  pub read : IsRead input points
+  pub refuses : RefusesDepth points cap out
 
 -- the text has a tree, and the bytes are the report of the field over its lists
 pub record IsReported (order cap : ℕ) (input out : List ℕ) : Type 0 where
   pub points : Points
-  pub within : length input ≤ most_input
-  pub spelled : Spells input points
+  pub read : IsRead input points
   pub has_tree : HasTree (grid_of points.version) points.list cap
   pub lists : TreeLists
   pub lists_are : AreTreeLists (grid_of points.version) points.list cap lists
@@ -106,32 +109,24 @@ pub record IsReported (order cap : ℕ) (input out : List ℕ) : Type 0 where
 -- the input is a text with no crowded place, whose tree has no more cells than a tree may have
 pub record HasDepth (cap : ℕ) (input : List ℕ) : Type 0 where
   pub points : Points
-  pub within : length input ≤ most_input
-  pub spelled : Spells input points
+  pub read : IsRead input points
   pub has_tree : HasTree (grid_of points.version) points.list cap
 
 -- the answer to this input, and what goes out with it
-abbrev pub Answers : ℕ → ℕ → List ℕ → Status → List ℕ → Type 0
-Answers order cap input Done out = IsReported order cap input out
-Answers order cap input Refused out = IsLong input out ⊎ (IsFaulty input out ⊎ (IsCrowdedText input out ⊎ HasCellsFault cap input out))
-Answers order cap input Usage out = ⊥
-Answers order cap input Memory out = ⊥
-Answers order cap input ReadFault out = ⊥
-Answers order cap input WriteFault out = ⊥
-Answers order cap input Rejected out = ⊥
+abbrev pub SolveAnswers : ℕ → ℕ → List ℕ → Status → Output → Type 0
+SolveAnswers order cap input Done output = IsReported order cap input output.out × (output.cert ≡ [])
+SolveAnswers order cap input Refused output =
+    (IsLong input output.out ⊎ (IsFaulty input output.out ⊎ IsTooDeep cap input output.out)) × (output.cert ≡ [])
+SolveAnswers order cap input _ output = ⊥
 
--- What the sink took in a run of `solve` that ended so: all that goes out with the answer, a prefix of it after a write fault, and nothing after a read fault or want of memory.
-abbrev pub SolveEnds : ℕ → ℕ → List ℕ → Status → Option (List ℕ) → Option (List ℕ) → Type 0
-SolveEnds order cap input WriteFault before after = (status : Status) × (out : List ℕ) × Answers order cap input status out × AppendsPrefix before after out
-SolveEnds order cap input Memory before after = after ≡ before
-SolveEnds order cap input ReadFault before after = after ≡ before
-SolveEnds order cap input status before after = (out : List ℕ) × Answers order cap input status out × Appends before after out
+-- the answer to points that have no tree
+abbrev pub DepthAnswers : Points → ℕ → Status → Output → Type 0
+DepthAnswers points cap Refused output = RefusesDepth points cap output.out × (output.cert ≡ [])
+DepthAnswers points cap _ output = ⊥
 
--- the same of words that are of no form
-abbrev pub UsageEnds : Status → Option (List ℕ) → Option (List ℕ) → Type 0
-UsageEnds Usage before after = Appends before after usage_line
-UsageEnds WriteFault before after = AppendsPrefix before after usage_line
-UsageEnds _ before after = ⊥
+-- the answer to words that are of no form
+abbrev pub UsageAnswers : Status → Output → Type 0
+UsageAnswers = OneLine Usage usage_line
 
 -- ---- the certified solve, in its own words
 
@@ -155,8 +150,7 @@ pub record HasOneListEntry (lists : TreeLists) (target source : Point) : Type 0 
 -- Of the lists of the tree exactly one entry accounts for each target and source, and the counts of work are theirs.
 pub record IsCertified (order cap : ℕ) (input out : List ℕ) : Type 0 where
   pub points : Points
-  pub within : length input ≤ most_input
-  pub spelled : Spells input points
+  pub read : IsRead input points
   pub lists : TreeLists
   pub lists_are : AreTreeLists (grid_of points.version) points.list cap lists
   pub lines : List TargetLine
@@ -164,21 +158,3 @@ pub record IsCertified (order cap : ℕ) (input out : List ℕ) : Type 0 where
   pub contain : AllZip (LineContains points) (targets points.list) lines
   pub one_entry : (target source : Point) → IsTargetAndSource points.list target source → HasOneListEntry lists target source
   pub few : translations points.list lists ≤ sum_by (λ b. length (lists.entries V b)) lists.cells + 2 * length lists.cells
-
--- what `out` took with one of the lines of refusal
-abbrev pub RefusalEnds : Status → Option (List ℕ) → Option (List ℕ) → List ℕ → Type 0
-RefusalEnds Refused before after line = Appends before after line
-RefusalEnds WriteFault before after line = AppendsPrefix before after line
-RefusalEnds _ before after line = ⊥
-
--- how a run of `solve` may end
-abbrev pub IsSolveStatus : Status → Type 0
-IsSolveStatus Usage = ⊥
-IsSolveStatus Rejected = ⊥
-IsSolveStatus _ = Unit {0}
-
--- what `out` took where a list has no field
-abbrev pub DepthEnds : TreeFault → Status → Option (List ℕ) → Option (List ℕ) → Type 0
-DepthEnds (Crowded cell count) status before after = RefusalEnds status before after (crowded_line (square cell) count)
-DepthEnds Cells status before after = RefusalEnds status before after cells_line
-DepthEnds NoMemory status before after = (status ≡ Memory) × (after ≡ before)

@@ -1,5 +1,7 @@
--- What the contracts cite: forms of the command line, and the answers of a run.
+-- What the contracts cite: forms of the command line, answers, and how runs end.
 pub mod Answers
+pub mod Endings
 pub mod Forms
+pub mod Runs
 pub mod SampleAnswers
 pub mod Samples

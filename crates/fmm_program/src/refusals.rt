@@ -1,8 +1,11 @@
-//! The lines of refusal.
-ghost use Rattle.std.specs.Prelude.{◌≡◌, ◌≤◌, length};
+//! The lines in place of a report.
+ghost use Rattle.std.specs.Prelude.{◌≡◌, ℕ, ◌≤◌, ◌⊎◌, length};
 ghost use Rattle.cell_name.specs.Cell.{square};
-ghost use Rattle.io_ports.specs.Faults.{Rose};
-ghost use Rattle.fmm_program.specs.Answers.{DepthEnds, RefusalEnds, crowded_line, fault_line, kind_word};
+ghost use Rattle.limits.specs.Limits.{grid_of};
+ghost use Rattle.points.specs.declared.Points.{Points};
+ghost use Rattle.quadtree.specs.Faults.{IsFaultOf};
+ghost use Rattle.fmm_program.specs.Answers.{DepthAnswers, UsageAnswers, crowded_line, fault_line, kind_word};
+ghost use Rattle.fmm_program.specs.Endings.{Ends, OneLine, TellsFaults, flow, untold};
 
 use crate::status::Status;
 use cell_name::Cell;
@@ -14,11 +17,15 @@ use solve_phase::SolveFault;
 // A line grows from its end to its front, in at most this many bytes.
 const LINE: usize = 128;
 
+const USAGE: &[u8] =
+    b"usage: fmm solve ORDER CAP FILE [WORKERS] | check FILE | session ORDER CAP | sample SEED N ORDER CAP [WORKERS]\n";
+
 /// Writes a line of refusal.
 pub(crate) fn refuse<O: Sink>(line: &[u8], out: &mut O) -> Status
-    ensures ends { RefusalEnds result (O.held out.old) (O.held out.new) line.now }
-    ensures cause { result ≡ Status.WriteFault → Rose (O.faults out.old) (O.faults out.new) }
-    ensures later { O.faults out.old ≤ O.faults out.new }
+    ensures ends { Ends (OneLine Status.Refused line.now) result
+        (flow (O.held out.old) (O.held out.new) (O.faults out.old) (O.faults out.new)) untold }
+    ensures only { (result ≡ Status.Refused) ⊎ (result ≡ Status.WriteFault) }
+    ensures write { TellsFaults result (flow (O.held out.old) (O.held out.new) (O.faults out.old) (O.faults out.new)) }
 {
     match put(out, line) {
         Ok(()) => Status::Refused,
@@ -28,18 +35,32 @@ pub(crate) fn refuse<O: Sink>(line: &[u8], out: &mut O) -> Status
 
 /// Writes the line of the first fault of a text.
 pub(crate) fn refuse_text<O: Sink>(line: u64, kind: TextKind, out: &mut O) -> Status
-    ensures ends { RefusalEnds result (O.held out.old) (O.held out.new) (fault_line line kind) }
-    ensures cause { result ≡ Status.WriteFault → Rose (O.faults out.old) (O.faults out.new) }
-    ensures later { O.faults out.old ≤ O.faults out.new }
+    ensures ends { Ends (OneLine Status.Refused (fault_line line kind)) result
+        (flow (O.held out.old) (O.held out.new) (O.faults out.old) (O.faults out.new)) untold }
+    ensures only { (result ≡ Status.Refused) ⊎ (result ≡ Status.WriteFault) }
+    ensures write { TellsFaults result (flow (O.held out.old) (O.held out.new) (O.faults out.old) (O.faults out.new)) }
 {
     refuse(fault_text(line, kind).as_bytes(), out)
 }
 
+/// Writes the usage line.
+pub(crate) fn refuse_words<O: Sink>(out: &mut O) -> Status
+    ensures ends { Ends UsageAnswers result (flow (O.held out.old) (O.held out.new) (O.faults out.old) (O.faults out.new)) untold }
+    ensures only { (result ≡ Status.Usage) ⊎ (result ≡ Status.WriteFault) }
+    ensures write { TellsFaults result (flow (O.held out.old) (O.held out.new) (O.faults out.old) (O.faults out.new)) }
+{
+    match put(out, USAGE) {
+        Ok(()) => Status::Usage,
+        Err(_) => Status::WriteFault,
+    }
+}
+
 /// Writes the line of a list that has no field; there is none for want of memory.
 pub(crate) fn refuse_depth<O: Sink>(fault: SolveFault, out: &mut O) -> Status
-    ensures ends { DepthEnds fault result (O.held out.old) (O.held out.new) }
-    ensures cause { result ≡ Status.WriteFault → Rose (O.faults out.old) (O.faults out.new) }
-    ensures later { O.faults out.old ≤ O.faults out.new }
+    ensures ends { (points : Points) (cap : ℕ) → IsFaultOf (grid_of points.version) points.list cap fault
+        → Ends (DepthAnswers points cap) result (flow (O.held out.old) (O.held out.new) (O.faults out.old) (O.faults out.new)) untold }
+    ensures read { result ≡ Status.ReadFault → ⊥ }
+    ensures write { TellsFaults result (flow (O.held out.old) (O.held out.new) (O.faults out.old) (O.faults out.new)) }
 {
     match fault {
         SolveFault::Crowded { cell, count } => refuse(crowded_text(cell, count).as_bytes(), out),

@@ -1,10 +1,11 @@
 //! The command `sample`.
 ghost use Rattle.std.specs.Prelude.{◌≡◌, ℕ, ◌≤◌, IfSome, IfNone};
 ghost use Rattle.exact_math.specs.Orders.{IsCapacity, IsOrder};
-ghost use Rattle.io_ports.specs.Faults.{Rose};
 ghost use Rattle.points.specs.Limits.{WithinLimits};
 ghost use Rattle.point_sample.specs.Sample.{most_sampled, sample};
-ghost use Rattle.fmm_program.specs.SampleAnswers.{SampleEnds};
+ghost use Rattle.fmm_program.specs.Endings.{Ends, TellsFaults, flow, untold};
+ghost use Rattle.fmm_program.specs.Runs.{SampleRun};
+ghost use Rattle.fmm_program.specs.SampleAnswers.{SampleAnswers};
 ghost use Rattle.fmm_program.specs.Samples.{IsSample, IsNoSample};
 
 use crate::orders::at_order;
@@ -57,8 +58,10 @@ fn summarize<const P: usize, O: Sink>(
     requires list { WithinLimits points.now }
     requires order { IsOrder P }
     requires cap { IsCapacity cap }
-    ensures ends { (n : ℕ) → points.now ≡ sample seed n → SampleEnds seed n P cap result (O.held out.old) (O.held out.new) }
-    ensures cause { result ≡ Status.WriteFault → Rose (O.faults out.old) (O.faults out.new) }
+    ensures ends { (n : ℕ) → points.now ≡ sample seed n
+        → Ends (SampleAnswers seed n P cap) result (flow (O.held out.old) (O.held out.new) (O.faults out.old) (O.faults out.new)) untold }
+    ensures write { TellsFaults result (flow (O.held out.old) (O.held out.new) (O.faults out.old) (O.faults out.new)) }
+    ensures read { result ≡ Status.ReadFault → ⊥ }
 {
     match solve_phase::solve::<P>(alloc, points, cap) {
         Ok(field) => match write_summary(seed, points, cap, &field, out) {
@@ -77,8 +80,9 @@ pub(crate) fn sample<O: Sink>(alloc: Global, command: SampleCommand, out: &mut O
     requires count { command.count ≤ most_sampled }
     requires order { IsOrder command.order }
     requires cap { IsCapacity command.cap }
-    ensures ends { SampleEnds command.seed command.count command.order command.cap result (O.held out.old) (O.held out.new) }
-    ensures write { result ≡ Status.WriteFault → Rose (O.faults out.old) (O.faults out.new) }
+    ensures run { SampleRun command.seed command.count command.order command.cap result
+        (flow (O.held out.old) (O.held out.new) (O.faults out.old) (O.faults out.new)) untold }
+    ensures write { TellsFaults result (flow (O.held out.old) (O.held out.new) (O.faults out.old) (O.faults out.new)) }
 {
     let seed = command.seed;
     let cap = command.cap;

@@ -1,12 +1,13 @@
 //! The command `solve`.
-ghost use Rattle.std.specs.Prelude.{◌≡◌, ℕ, ◌+◌, ◌≤◌, ◌⊎◌, List, [], IfSome, Some, length};
+ghost use Rattle.std.specs.Prelude.{◌≡◌, ℕ, ◌+◌, ◌≤◌, List, [], IfSome, Some, length};
 ghost use Rattle.std.specs.Io.KnownBytes.{Consumes};
 ghost use Rattle.exact_math.specs.Orders.{IsCapacity, IsOrder};
 ghost use Rattle.io_ports.specs.Bytes.{read_size};
 ghost use Rattle.io_ports.specs.Faults.{Rose};
 ghost use Rattle.points.specs.Limits.{WithinLimits};
-ghost use Rattle.particle_text.specs.Text.{Spells};
-ghost use Rattle.fmm_program.specs.Answers.{IsSolveStatus, SolveEnds, most_input};
+ghost use Rattle.fmm_program.specs.Answers.{IsRead, SolveAnswers, most_input};
+ghost use Rattle.fmm_program.specs.Endings.{Ends, TellsFaults, flow, untold};
+ghost use Rattle.fmm_program.specs.Runs.{SolveRun};
 
 use crate::orders::at_order;
 use crate::refusals::{refuse, refuse_depth, refuse_text};
@@ -30,10 +31,9 @@ fn answer_points<const P: usize, O: Sink>(
     requires list { WithinLimits points.now }
     requires order { IsOrder P }
     requires cap { IsCapacity cap }
-    ensures ends { (input : List ℕ) → length input ≤ most_input → Spells input points.now
-        → SolveEnds P cap input result (O.held out.old) (O.held out.new) }
-    ensures cause { result ≡ Status.WriteFault → Rose (O.faults out.old) (O.faults out.new) }
-    ensures later { O.faults out.old ≤ O.faults out.new }
+    ensures ends { (input : List ℕ) → IsRead input points.now
+        → Ends (SolveAnswers P cap input) result (flow (O.held out.old) (O.held out.new) (O.faults out.old) (O.faults out.new)) untold }
+    ensures write { TellsFaults result (flow (O.held out.old) (O.held out.new) (O.faults out.old) (O.faults out.new)) }
     ensures read { result ≡ Status.ReadFault → ⊥ }
 {
     match solve_phase::solve::<P>(alloc, points, cap) {
@@ -50,9 +50,8 @@ fn answer_text<O: Sink>(alloc: Global, order: u32, cap: u32, bytes: &[u8], out: 
     requires order { IsOrder order }
     requires cap { IsCapacity cap }
     requires within { length bytes.now ≤ most_input }
-    ensures ends { SolveEnds order cap bytes.now result (O.held out.old) (O.held out.new) }
-    ensures cause { result ≡ Status.WriteFault → Rose (O.faults out.old) (O.faults out.new) }
-    ensures later { O.faults out.old ≤ O.faults out.new }
+    ensures ends { Ends (SolveAnswers order cap bytes.now) result (flow (O.held out.old) (O.held out.new) (O.faults out.old) (O.faults out.new)) untold }
+    ensures write { TellsFaults result (flow (O.held out.old) (O.held out.new) (O.faults out.old) (O.faults out.new)) }
     ensures read { result ≡ Status.ReadFault → ⊥ }
 {
     let points = match parse(alloc, bytes) {
@@ -76,13 +75,11 @@ pub(crate) fn solve<A: Source, O: Sink>(
 ) -> Status
     requires order { IsOrder order }
     requires cap { IsCapacity cap }
-    ensures ends { IfSome (A.left points.old) (λ input. SolveEnds order cap input result (O.held out.old) (O.held out.new)) }
-    ensures came { (input : List ℕ) × Consumes (A.left points.old) (A.left points.new) input
-        × SolveEnds order cap input result (O.held out.old) (O.held out.new) }
-    ensures status { IsSolveStatus result }
+    ensures run { SolveRun order cap result
+        (flow (A.left points.old) (A.left points.new) (A.faults points.old) (A.faults points.new))
+        (flow (O.held out.old) (O.held out.new) (O.faults out.old) (O.faults out.new)) untold }
     ensures read { result ≡ Status.ReadFault → Rose (A.faults points.old) (A.faults points.new) }
-    ensures write { result ≡ Status.WriteFault → Rose (O.faults out.old) (O.faults out.new) }
-    ensures silent { (result ≡ Status.Memory) ⊎ (result ≡ Status.ReadFault) → O.held out.new ≡ O.held out.old }
+    ensures write { TellsFaults result (flow (O.held out.old) (O.held out.new) (O.faults out.old) (O.faults out.new)) }
 
     // What was read: all of it where the command was carried out, never more than 4096 bytes past the limit, and nothing past it before a read fault.
     ensures whole { result ≡ Status.Done → IfSome (A.left points.old) (λ _. A.left points.new ≡ Some []) }

@@ -2,7 +2,7 @@
 //! ports over std's readers and writers, and the two helpers `read_all` and `put`.
 //!
 //! Every answer of a fault shows in a count that its port keeps: a call fails only where the
-//! count rose in that call, or stands at its last value.
+//! count rose in that call, or stands at its last value, and one that passes leaves the count.
 #![tactic(auto)]
 
 mod answers;

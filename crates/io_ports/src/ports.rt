@@ -13,7 +13,8 @@ pub trait Source {
     /// The bytes still to come, told by some implementations.
     ghost left: { Self → Option (List ℕ) };
 
-    /// The count of failed reads. It never falls, and stops at its last value, 2^64 - 1.
+    /// The count of failed reads. It never falls, and stops at its last value, 2^64 - 1. A read
+    /// that passes leaves it.
     ghost faults: { Self → ℕ };
 
     /// `Ok(n)`: the first `n` bytes of `into` are the next bytes. `Ok(0)` for an `into` that
@@ -34,7 +35,8 @@ pub trait Sink {
     /// The bytes taken so far, told by some implementations.
     ghost held: { Self → Option (List ℕ) };
 
-    /// The count of failed writes. It never falls, and stops at its last value, 2^64 - 1.
+    /// The count of failed writes and flushes. It never falls, and stops at its last value,
+    /// 2^64 - 1. One that passes leaves it.
     ghost faults: { Self → ℕ };
 
     /// `Ok(n)`: the first `n` bytes of `piece` were taken, at least one of a piece that isn't

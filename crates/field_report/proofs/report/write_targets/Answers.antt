@@ -35,7 +35,7 @@ loop-p-preserved g c =
                 (written-step c.args.mode c.args.points.now c.args.field.now.basis.cap g.row.P lists c.args.field.now.values c.loop-p.p-index c.loop-p.k _ w.value.result (omega arith)
                 has c.loop-p.invariant.count (c.requires.field.over lists (on_grid _ _ _ _ lists (sym c.requires.grid) are)).values_are (c.requires.range _ _ (omega arith)) w.value.ensures.value
                 _ _ _ (c.loop-p.invariant.held lists are) w.in_ok-write_target.ensures.bytes);
-            faults = rw w.sink-is (omega (arith, c.loop-p.invariant.faults, w.write_target.ensures.cause.later));
+            faults = rw w.sink-is (omega (arith, c.loop-p.invariant.faults, w.in_ok-write_target.ensures.cause.passed));
             count = w.k-is ∙ ap (λ n. n + 1) c.loop-p.invariant.count ∙ sym (count-target c.args.points.now c.loop-p.p-index _ (omega arith) has);
           }
       | else-not-is_source w ↦

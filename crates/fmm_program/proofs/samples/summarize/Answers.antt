@@ -12,7 +12,8 @@ returns-in-Ok-clause-ends g c n e =
     part_ends c.args.seed n g.row.P c.args.cap _ _ c.args.points.now e c.requires.list c.in-Ok.ensures.has_tree c.in-Err-write_summary.ensures.bytes
 
 pub returns-clause-ends : goal.returns-clause-ends
-returns-clause-ends g c n e = depth_ends c.args.seed n g.row.P c.args.cap _ _ c.args.points.now c.in-Err.fault c.refuse_depth.result e c.in-Err.ensures.fault c.refuse_depth.ensures.ends
+returns-clause-ends g c n e =
+    depth_ends c.args.seed n g.row.P c.args.cap _ c.refuse_depth.result c.args.points.now e (c.refuse_depth.ensures.ends c.args.points.now c.args.cap c.in-Err.ensures.fault)
 
 pub write_summary-requires : goal.write_summary-requires
 write_summary-requires g c = (omega arith, (c.in-Ok.ensures.field, c.in-Ok.ensures.grid ∙ ap grid_of c.requires.list.version))

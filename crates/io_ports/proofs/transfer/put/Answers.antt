@@ -10,5 +10,5 @@ loop-done-preserved g c =
     record {
       within = omega (arith, taken);
       put = Appends-next _ _ _ c.loop-done.done c.in-Ok.count c.args.bytes.now c.loop-done.invariant.put (rw piece at c.in-Ok.ensures.bytes);
-      later = omega (arith, c.loop-done.invariant.later, c.in-Ok.ensures.cause.later);
+      faults = omega (arith, c.loop-done.invariant.faults, c.in-Ok.ensures.cause.passed);
     }

@@ -1,0 +1,36 @@
+-- The facts of a run of each command.
+use Rattle.std.specs.Prelude.{ℕ, ◌≡◌, ◌⊎◌, List, [], Some, IfSome}
+use Rattle.std.specs.Io.KnownBytes.{Appends, Consumes}
+use Rattle.fmm_program.specs.Answers.{HasDepth, IsCertified, SolveAnswers, UsageAnswers}
+use Rattle.fmm_program.specs.Endings.{Ends, Flow, HasFault}
+use Rattle.fmm_program.specs.SampleAnswers.{HasSampleDepth, SampleAnswers}
+use Rattle.fmm_program.specs.declared.status.Status.{Status}
+use Rattle.fmm_program.specs.declared.status.Status.TheVariants.{Done, Usage, Memory, ReadFault, WriteFault}
+
+-- The facts of a run of `solve`: how it ended for the input that the source told, and, of one that tells nothing, for some bytes that came.
+-- A text that has a tree is not refused.
+pub record SolveRun (order cap : ℕ) (status : Status) (points out cert : Flow) : Type 0 where
+  pub told : IfSome points.before (λ input. Ends (SolveAnswers order cap input) status out cert)
+  pub came : (input : List ℕ) × Consumes points.before points.after input × Ends (SolveAnswers order cap input) status out cert
+  pub complete : (input : List ℕ) → points.before ≡ Some input → HasDepth cap input → (HasFault points → ⊥) → (HasFault out → ⊥)
+      → (status ≡ Done) ⊎ (status ≡ Memory)
+
+-- The facts of a run of `sample`. It has no read fault, and a sample that has a tree is not refused.
+pub record SampleRun (seed n order cap : ℕ) (status : Status) (out cert : Flow) : Type 0 where
+  pub ends : Ends (SampleAnswers seed n order cap) status out cert
+  pub no_read_fault : status ≡ ReadFault → ⊥
+  pub complete : HasSampleDepth seed n cap → (HasFault out → ⊥) → (status ≡ Done) ⊎ (status ≡ Memory)
+
+-- The facts of a run of words that are of no form.
+pub record UsageRun (status : Status) (out cert : Flow) : Type 0 where
+  pub ends : Ends UsageAnswers status out cert
+  pub only : (status ≡ Usage) ⊎ (status ≡ WriteFault)
+
+-- The certified solve: what came is a text, all of it, and what was written is a certified report of it.
+pub record CertifiedRun (order cap : ℕ) (points out : Flow) : Type 0 where
+  pub input : List ℕ
+  pub bytes : List ℕ
+  pub consumed : Consumes points.before points.after input
+  pub whole : IfSome points.before (λ left. (left ≡ input) × (points.after ≡ Some []))
+  pub certified : IsCertified order cap input bytes
+  pub written : Appends out.before out.after bytes

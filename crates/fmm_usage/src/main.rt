@@ -1,0 +1,19 @@
+//! Words of no form: the program writes the usage line, and ends with status 2.
+#![tactic(auto)]
+
+use fmm_program::{Words, run};
+use io_ports::{DropSink, SureSource, WriteSink};
+use std::process::ExitCode;
+
+fn main(rt: HostRuntime) -> ExitCode {
+    let alloc = rt.alloc();
+    let status = run(
+        alloc,
+        &Words::new(alloc),
+        &mut SureSource::new(Vec::new(alloc)),
+        &mut SureSource::new(Vec::new(alloc)),
+        &mut WriteSink::new(rt.stdout()),
+        &mut DropSink,
+    );
+    ExitCode::from(status.code())
+}
