@@ -12,19 +12,28 @@ use std::test::Fail;
 
 #[test]
 fn writes_decimals(rt: HostRuntime) {
-    let cases: [(i128, &str); 7] = [
-        (0, "0.000000000000"),
-        (1, "0.000000000001"),
-        (-500_000_000_000, "-0.500000000000"),
-        (7_000_000_000_000, "7.000000000000"),
-        (-105_916_767_676_770, "-105.916767676770"),
-        (1 << 84, "19342813113834.066795298816"),
-        (-(1 << 84), "-19342813113834.066795298816"),
-    ];
-    for (count, want) in cases {
-        let count = count.clamp(-(1 << 84), 1 << 84);
-        assert_eq!(rt; Decimal::of(count).bytes(), want.as_bytes());
-    }
+    assert_eq!(rt; Decimal::of(0).bytes(), b"0.000000000000".as_slice());
+    assert_eq!(rt; Decimal::of(1).bytes(), b"0.000000000001".as_slice());
+    assert_eq!(rt;
+        Decimal::of(-500_000_000_000).bytes(),
+        b"-0.500000000000".as_slice()
+    );
+    assert_eq!(rt;
+        Decimal::of(7_000_000_000_000).bytes(),
+        b"7.000000000000".as_slice()
+    );
+    assert_eq!(rt;
+        Decimal::of(-105_916_767_676_770).bytes(),
+        b"-105.916767676770".as_slice()
+    );
+    assert_eq!(rt;
+        Decimal::of(1 << 84).bytes(),
+        b"19342813113834.066795298816".as_slice()
+    );
+    assert_eq!(rt;
+        Decimal::of(-(1 << 84)).bytes(),
+        b"-19342813113834.066795298816".as_slice()
+    );
 }
 
 #[test]

@@ -4,10 +4,9 @@ ghost use Rattle.exact_math.specs.Contains.{Contains};
 ghost use Rattle.exact_math.specs.Ratio.{Ratio, neg_ratio};
 ghost use Rattle.exact_math.specs.Rounding.{floor_div};
 ghost use Rattle.exact_math.specs.Within.{Within};
-ghost use Rattle.limits.specs.Limits.{first_grid, most_box};
 ghost use Rattle.exact_math.specs.Units.{unit};
 ghost use Rattle.fixed_interval.specs.Interval.{IntervalWithin, ends_of};
-ghost use Rattle.report_lines.specs.Counts.{second_ends, count_below, count_above, KeepsBound};
+ghost use Rattle.report_lines.specs.Counts.{second_ends, count_below, count_above, most_printed, KeepsBound};
 
 use complex_box::UNIT_BITS;
 use fixed_interval::Interval;
@@ -16,11 +15,11 @@ use points::Mode;
 
 /// `10^12 n / 2^40` rounded down, or rounded up where `up` is set: the count of an end `n` of a box.
 ///
-/// `n` is at most 2^84 in size, as the ends of boxes of version 1 are, and so is its count.
+/// `n` is at most 2^84 in size, and so is its count.
 pub fn to_count(n: i128, up: bool) -> i128
-    requires { Within (most_box first_grid) n }
+    requires { Within (most_printed) n }
     ensures value { result ≡ (if up then count_above n else count_below n) }
-    ensures size { Within (most_box first_grid) result }
+    ensures size { Within (most_printed) result }
     ensures bound { KeepsBound up n result }
 {
     if up {
@@ -30,26 +29,26 @@ pub fn to_count(n: i128, up: bool) -> i128
 }
 
 fn count_down(n: i128) -> i128
-    requires { Within (most_box first_grid) n }
+    requires { Within (most_printed) n }
     ensures value { result ≡ count_below n }
-    ensures size { Within (most_box first_grid) result }
+    ensures size { Within (most_printed) result }
 {
     in_units(n * ONE)
 }
 
 fn count_up(n: i128) -> i128
-    requires { Within (most_box first_grid) n }
+    requires { Within (most_printed) n }
     ensures value { result ≡ count_above n }
-    ensures size { Within (most_box first_grid) result }
+    ensures size { Within (most_printed) result }
 {
     -in_units(-(n * ONE))
 }
 
 // `z / 2^40` rounded down.
 fn in_units(z: i128) -> i128
-    requires { Within (10 ^ 12 * most_box first_grid) z }
+    requires { Within (10 ^ 12 * most_printed) z }
     ensures value { result ≡ floor_div z unit }
-    ensures size { Within (most_box first_grid) result }
+    ensures size { Within (most_printed) result }
 {
     z >> UNIT_BITS
 }
@@ -59,14 +58,14 @@ fn in_units(z: i128) -> i128
 pub(crate) struct CountEnds {
     pub(crate) lo: i128,
     pub(crate) hi: i128,
-    ghost low_size: { Within (most_box first_grid) lo },
-    ghost high_size: { Within (most_box first_grid) hi },
+    ghost low_size: { Within (most_printed) lo },
+    ghost high_size: { Within (most_printed) hi },
 }
 
 impl CountEnds {
     /// The count of the lower end rounded down, and that of the upper end rounded up.
     pub(crate) fn of(i: Interval) -> CountEnds
-        requires { IntervalWithin (most_box first_grid) i }
+        requires { IntervalWithin (most_printed) i }
         ensures lo { result.lo ≡ count_below i.lo }
         ensures hi { result.hi ≡ count_above i.hi }
         ensures contains { (x : Ratio) → Contains unit i.lo i.hi x → Contains (pos (10 ^ 12)) result.lo result.hi x }
@@ -92,7 +91,7 @@ impl CountEnds {
 
 /// The counts of the second pair of a target line: those of the imaginary part, or of its negative in a velocity line.
 pub(crate) fn second_counts(mode: Mode, im: Interval) -> CountEnds
-    requires { IntervalWithin (most_box first_grid) im }
+    requires { IntervalWithin (most_printed) im }
     ensures lo { result.lo ≡ (second_ends mode (ends_of im)).lo }
     ensures hi { result.hi ≡ (second_ends mode (ends_of im)).hi }
 {

@@ -1,9 +1,9 @@
 //! The widths of printed counts.
 ghost use Rattle.std.specs.Prelude.{◌≡◌, map, max};
 ghost use Rattle.complex_box.specs.Box.{BoxWithin, box_ends};
-ghost use Rattle.report_lines.specs.Counts.{count_ends};
+ghost use Rattle.report_lines.specs.Counts.{count_ends, most_printed};
 ghost use Rattle.fixed_interval.specs.Interval.{IntervalWithin, ends_of};
-ghost use Rattle.limits.specs.Limits.{first_grid, most_box};
+ghost use Rattle.limits.specs.Limits.{first_grid};
 ghost use Rattle.sample_summary.specs.Summary.{width, widest_re, widest_im};
 
 use complex_box::CBox;
@@ -13,7 +13,7 @@ use solve_phase::Field;
 
 /// How far the printed counts of an interval are apart.
 fn width(i: Interval) -> u128
-    requires { IntervalWithin (most_box first_grid) i }
+    requires { IntervalWithin most_printed i }
     ensures { result ≡ width (count_ends (ends_of i)) }
 {
     (to_count(i.hi, true) - to_count(i.lo, false)).unsigned_abs()
@@ -29,7 +29,7 @@ pub(crate) struct Widest {
 impl Widest {
     /// The greatest widths with one further box.
     fn with(self, v: CBox) -> Widest
-        requires { BoxWithin (most_box first_grid) v }
+        requires { BoxWithin most_printed v }
         ensures re { result.re ≡ max self.re (width (count_ends (ends_of v.re))) }
         ensures im { result.im ≡ max self.im (width (count_ends (ends_of v.im))) }
     {
