@@ -4,7 +4,8 @@ use std::process::Abort;
 use test_boxes::{Ends, ends};
 
 pub fn row_is(rt: &impl Abort, got: &[CBox; 4], row: &[Ends; 4]) {
-    for k in 0..4usize {
-        assert_eq!(rt; ends(got[k]), row[k]);
-    }
+    assert_eq!(rt;
+        [ends(got[0]), ends(got[1]), ends(got[2]), ends(got[3])],
+        *row
+    );
 }

@@ -15,11 +15,9 @@ fn goes_and_comes(rt: &impl Abort, kind: Kind, second: CBox)
     let source = Point { x: 0, y: 0, kind };
     let mut row = [CBox::zero(); 4];
     add_source::<4>(&mut row, SMALL, &source);
-    assert_eq!(rt; row[1], second);
+    let added = row[1];
     take_source::<4>(&mut row, SMALL, &source);
-    for k in 0..4 {
-        assert_eq!(rt; row[k], CBox::zero());
-    }
+    assert_eq!(rt; (added, row), (second, [CBox::zero(); 4]));
 }
 
 #[test]

@@ -18,22 +18,24 @@ fn charges(rt: HostRuntime) {
         y: 0,
         kind: Kind::Charge(1),
     };
-    assert_eq!(rt; ends(pair(&source, 1, 0, &mut work)), ((ONE, ONE), (0, 0)));
-    assert_eq!(rt;
+    let got = [
+        ends(pair(&source, 1, 0, &mut work)),
         ends(pair(&source, 0, 1, &mut work)),
-        ((0, 0), (-ONE, -ONE))
-    );
-    assert_eq!(rt;
         ends(pair(&source, 3, 0, &mut work)),
-        ((THIRD, THIRD + 1), (0, 0))
-    );
-    assert_eq!(rt;
         ends(pair(&source, -3, 0, &mut work)),
-        ((-THIRD - 1, -THIRD), (0, 0))
+    ];
+    assert_eq!(rt;
+        got,
+        [
+            ((ONE, ONE), (0, 0)),
+            ((0, 0), (-ONE, -ONE)),
+            ((THIRD, THIRD + 1), (0, 0)),
+            ((-THIRD - 1, -THIRD), (0, 0))
+        ]
     );
-    assert_eq!(rt; work.pairs(), 4);
-    assert_eq!(rt; ends(pair(&source, 0, 0, &mut work)), ((0, 0), (0, 0)));
-    assert_eq!(rt; work.pairs(), 4);
+    let four = work.pairs();
+    let same_place = ends(pair(&source, 0, 0, &mut work));
+    assert_eq!(rt; (four, same_place, work.pairs()), (4, ((0, 0), (0, 0)), 4));
 }
 
 #[test]
@@ -44,25 +46,28 @@ fn other_kinds(rt: HostRuntime) {
         y: 0,
         kind: Kind::Dipole(1, 0),
     };
-    assert_eq!(rt;
-        ends(pair(&dipole, 1, 1, &mut work)),
-        ((0, 0), (-HALF, -HALF))
-    );
     let vortex = Point {
         x: 0,
         y: 0,
         kind: Kind::Vortex(1),
     };
-    assert_eq!(rt;
-        ends(pair(&vortex, 1, 0, &mut work)),
-        ((0, 0), (-ONE, -ONE))
-    );
     let target = Point {
         x: 0,
         y: 0,
         kind: Kind::Target,
     };
-    assert_eq!(rt; ends(pair(&target, 1, 0, &mut work)), ((0, 0), (0, 0)));
-    assert_eq!(rt; work.pairs(), 3);
-    assert_eq!(rt; work.translations(), 0);
+    let got = [
+        ends(pair(&dipole, 1, 1, &mut work)),
+        ends(pair(&vortex, 1, 0, &mut work)),
+        ends(pair(&target, 1, 0, &mut work)),
+    ];
+    assert_eq!(rt;
+        got,
+        [
+            ((0, 0), (-HALF, -HALF)),
+            ((0, 0), (-ONE, -ONE)),
+            ((0, 0), (0, 0))
+        ]
+    );
+    assert_eq!(rt; (work.pairs(), work.translations()), (3, 0));
 }

@@ -24,24 +24,35 @@ fn weights(rt: HostRuntime) {
         y: 0,
         kind: Kind::Target,
     };
-    assert_eq!(rt; weight(&charge, 4), 3);
-    assert_eq!(rt; weight(&vortex, 4), 7);
-    assert_eq!(rt; weight(&dipole, 4), 88);
-    assert_eq!(rt; weight(&target, 4), 0);
+    assert_eq!(rt;
+        [
+            weight(&charge, 4),
+            weight(&vortex, 4),
+            weight(&dipole, 4),
+            weight(&target, 4)
+        ],
+        [3, 7, 88, 0]
+    );
 }
 
 #[test]
 fn radii(rt: HostRuntime) {
     // One charge far from a cell of side 4, nine charges in such a cell, and nine seen from a cell of side 1.
-    let mut ledger = Ledger::new();
-    ledger.add_single(1, 4, 4);
-    assert_eq!(rt; ledger.radius(), 13_668_646_683);
-    let mut ledger = Ledger::new();
-    ledger.add_single(9, 4, 4);
-    assert_eq!(rt; ledger.radius(), 123_017_820_143);
-    let mut ledger = Ledger::new();
-    ledger.add_pair(9, 1, 4);
-    assert_eq!(rt; ledger.radius(), 1_789_868_981_808);
-    ledger.add_pair(1, 2, 8);
-    assert_eq!(rt; ledger.radius(), 1_798_861_837_968);
+    let mut one = Ledger::new();
+    one.add_single(1, 4, 4);
+    let mut nine = Ledger::new();
+    nine.add_single(9, 4, 4);
+    let mut seen = Ledger::new();
+    seen.add_pair(9, 1, 4);
+    let first = seen.radius();
+    seen.add_pair(1, 2, 8);
+    assert_eq!(rt;
+        [one.radius(), nine.radius(), first, seen.radius()],
+        [
+            13_668_646_683,
+            123_017_820_143,
+            1_789_868_981_808,
+            1_798_861_837_968
+        ]
+    );
 }

@@ -11,7 +11,7 @@ use local_expansion::at_local;
 use local_shift::shift_down;
 use points::Kind;
 use std::process::Abort;
-use test_boxes::ends;
+use test_boxes::{Ends, ends};
 
 /// The row alone, brought down.
 fn brought_down(rt: &impl Abort, parent: &[CBox], q: Quadrant) -> [CBox; 4]
@@ -22,8 +22,7 @@ fn brought_down(rt: &impl Abort, parent: &[CBox], q: Quadrant) -> [CBox; 4]
     let mut row = [CBox::zero(); 4];
     let mut work = Work::new();
     shift_down::<4>(Row::new(parent), q, &mut row, &mut work);
-    assert_eq!(rt; work.translations(), 1);
-    assert_eq!(rt; work.pairs(), 0);
+    assert_eq!(rt; (work.translations(), work.pairs()), (1, 0));
     row
 }
 
@@ -34,10 +33,16 @@ fn square_is(rt: &impl Abort, q: Quadrant, first: i128, re: i128, im: i128) {
         &[CBox::zero(), CBox::zero(), CBox::point(16, 0), CBox::zero()],
         q,
     );
-    assert_eq!(rt; ends(row[0]), ((0, 0), (first, first)));
-    assert_eq!(rt; ends(row[1]), ((re, re), (im, im)));
-    assert_eq!(rt; ends(row[2]), ((2, 2), (0, 0)));
-    assert_eq!(rt; ends(row[3]), ((0, 0), (0, 0)));
+    row_is(
+        rt,
+        &row,
+        &[
+            ((0, 0), (first, first)),
+            ((re, re), (im, im)),
+            ((2, 2), (0, 0)),
+            ((0, 0), (0, 0)),
+        ],
+    );
 }
 
 const TOP_RIGHT: Quadrant = Quadrant {
@@ -63,43 +68,46 @@ fn square_in_each_quadrant(rt: HostRuntime) {
     square_is(&rt, BOTTOM_LEFT, 1, -2, -2);
 }
 
-/// What a charge 1 at (8, 0) adds to the row of the cell of side 4 at the origin, in the cells of side 2 and 1 there.
+/// What a charge 1 at (8, 0) adds to the row of the cell of side 4 at the origin, in the cell of side 2 there.
 #[test]
-fn far_charge_twice(rt: HostRuntime) {
+fn far_charge_once(rt: HostRuntime) {
     let charge = far_point(Kind::Charge(1));
     row_is(&rt, &charge, &FAR_CHARGE);
     let first = brought_down(&rt, &charge, BOTTOM_LEFT);
     assert_eq!(rt;
-        ends(first[0]),
-        (
-            (-307_973_206_941, -307_973_206_939),
-            (-44_750_123_252, -44_750_123_249)
-        )
+        [ends(first[0]), ends(first[3])],
+        [
+            (
+                (-307_973_206_941, -307_973_206_939),
+                (-44_750_123_252, -44_750_123_249)
+            ),
+            (
+                (-3_078_632_558, -3_078_632_557),
+                (-10_555_311_627, -10_555_311_626)
+            )
+        ]
     );
-    assert_eq!(rt;
-        ends(first[3]),
-        (
-            (-3_078_632_558, -3_078_632_557),
-            (-10_555_311_627, -10_555_311_626)
-        )
-    );
+}
+
+/// Its row in the cell of side 1.
+const FAR_CHARGE_TWICE: [Ends; 4] = [
+    (
+        (-146_351_869_606, -146_351_869_603),
+        (-11_538_000_146, -11_538_000_142),
+    ),
+    (
+        (-16_382_723_256, -16_382_723_252),
+        (-948_328_781, -948_328_777),
+    ),
+    ((-4_576_717_151, -4_576_717_150), (261_134_010, 261_134_013)),
+    ((-192_414_535, -192_414_534), (-659_706_977, -659_706_976)),
+];
+
+#[test]
+fn far_charge_twice(rt: HostRuntime) {
+    let first = brought_down(&rt, &far_point(Kind::Charge(1)), BOTTOM_LEFT);
     let second = brought_down(&rt, &first, BOTTOM_LEFT);
-    row_is(
-        &rt,
-        &second,
-        &[
-            (
-                (-146_351_869_606, -146_351_869_603),
-                (-11_538_000_146, -11_538_000_142),
-            ),
-            (
-                (-16_382_723_256, -16_382_723_252),
-                (-948_328_781, -948_328_777),
-            ),
-            ((-4_576_717_151, -4_576_717_150), (261_134_010, 261_134_013)),
-            ((-192_414_535, -192_414_534), (-659_706_977, -659_706_976)),
-        ],
-    );
+    row_is(&rt, &second, &FAR_CHARGE_TWICE);
     assert_eq!(rt;
         ends(at_local::<4>(Row::new(&second), SMALL, 0, 0)),
         (

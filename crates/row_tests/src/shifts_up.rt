@@ -3,12 +3,21 @@ ghost use Rattle.std.specs.Prelude.{◌≡◌, ◌^◌, length};
 ghost use Rattle.row_recursions.specs.Rows.{row_of};
 ghost use Rattle.row_recursions.specs.Sizes.{RowWithin};
 
+use crate::compare::row_is;
 use crate::known::{BOTTOM_LEFT, LARGE, SMALL, nine_charges};
 use cell_name::Quadrant;
 use complex_box::{CBox, Row, Work};
 use multipole::at_multipole;
 use multipole_shift::{shift_up, take_up};
-use test_boxes::ends;
+use test_boxes::{Ends, ends};
+
+/// What the row of `up_and_away` adds to that of the cell above.
+const SEEN_FROM_ABOVE: [Ends; 4] = [
+    ((1, 1), (0, 0)),
+    ((1, 2), (-1, 0)),
+    ((-1, 1), (-1, 1)),
+    ((0, 2), (0, 3)),
+];
 
 #[test]
 fn up_and_away(rt: HostRuntime) {
@@ -26,16 +35,12 @@ fn up_and_away(rt: HostRuntime) {
     let mut work = Work::new();
     let mut row = [CBox::zero(); 4];
     shift_up::<4>(child_row, below_on_the_right, &mut row, &mut work);
-    assert_eq!(rt; ends(row[0]), ((1, 1), (0, 0)));
-    assert_eq!(rt; ends(row[1]), ((1, 2), (-1, 0)));
-    assert_eq!(rt; ends(row[2]), ((-1, 1), (-1, 1)));
-    assert_eq!(rt; ends(row[3]), ((0, 2), (0, 3)));
+    row_is(&rt, &row, &SEEN_FROM_ABOVE);
     take_up::<4>(child_row, below_on_the_right, &mut row, &mut work);
-    for k in 0..4 {
-        assert_eq!(rt; row[k], CBox::zero());
-    }
-    assert_eq!(rt; work.translations(), 2);
-    assert_eq!(rt; work.pairs(), 0);
+    assert_eq!(rt;
+        (row, work.translations(), work.pairs()),
+        ([CBox::zero(); 4], 2, 0)
+    );
 }
 
 /// The row about the centre of the cell above.

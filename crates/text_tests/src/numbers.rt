@@ -2,7 +2,6 @@
 use number_text::{
     cut_at, next_int, one_spelling, read_four, read_int, read_three, read_two, read_uint,
 };
-use std::test::Fail;
 
 const MOST: i64 = 1_000_000_000_000_000_000;
 
@@ -26,34 +25,46 @@ const WORDS: [(&[u8], Option<i64>); 16] = [
 ];
 
 #[test]
-fn words_are_read(rt: HostRuntime) -> Result<(), Fail> {
+fn words_are_read(rt: HostRuntime) {
     for &(word, number) in &WORDS {
         assert_eq!(rt; read_int(word), number);
     }
-    assert_eq!(rt;
-        read_uint(b"18446744073709551616"),
-        Some(1_000_000_000_000_000_000)
-    );
-    assert_eq!(rt; read_uint(b"4096"), Some(4096));
-    assert_eq!(rt; read_uint(b"-1"), None);
     one_spelling();
-    Ok(())
 }
 
 #[test]
-fn texts_are_cut(rt: HostRuntime) -> Result<(), Fail> {
-    let (front, back) = cut_at(b' ', b"charge 1 2").ok_or("a space")?;
-    assert_eq!(rt; front, b"charge".as_slice());
-    assert_eq!(rt; back, b"1 2".as_slice());
-    assert!(rt; cut_at(b'\n', b"charge 1 2").is_none());
-    let (first, rest) = next_int(b"12 -3").ok_or("a number")?;
-    assert_eq!(rt; first, 12);
-    assert_eq!(rt; rest, b"-3".as_slice());
-    assert_eq!(rt; read_two(b"12 -3"), Some((12, -3)));
-    assert_eq!(rt; read_two(b"12 -3 4"), None);
-    assert_eq!(rt; read_three(b"12 -3 4"), Some((12, -3, 4)));
-    assert_eq!(rt; read_three(b"12  -3 4"), None);
-    assert_eq!(rt; read_four(b"12 -3 4 0"), Some((12, -3, 4, 0)));
-    assert_eq!(rt; read_four(b"12 -3 4 "), None);
-    Ok(())
+fn counts_are_read(rt: HostRuntime) {
+    assert_eq!(rt;
+        [
+            read_uint(b"18446744073709551616"),
+            read_uint(b"4096"),
+            read_uint(b"-1")
+        ],
+        [Some(1_000_000_000_000_000_000), Some(4096), None]
+    );
+}
+
+#[test]
+fn texts_are_cut(rt: HostRuntime) {
+    assert_eq!(rt;
+        [cut_at(b' ', b"charge 1 2"), cut_at(b'\n', b"charge 1 2")],
+        [Some((b"charge".as_slice(), b"1 2".as_slice())), None]
+    );
+    assert_eq!(rt; next_int(b"12 -3"), Some((12, b"-3".as_slice())));
+}
+
+#[test]
+fn so_many_numbers(rt: HostRuntime) {
+    assert_eq!(rt;
+        [read_two(b"12 -3"), read_two(b"12 -3 4")],
+        [Some((12, -3)), None]
+    );
+    assert_eq!(rt;
+        [read_three(b"12 -3 4"), read_three(b"12  -3 4")],
+        [Some((12, -3, 4)), None]
+    );
+    assert_eq!(rt;
+        [read_four(b"12 -3 4 0"), read_four(b"12 -3 4 ")],
+        [Some((12, -3, 4, 0)), None]
+    );
 }

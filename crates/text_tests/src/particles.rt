@@ -1,9 +1,14 @@
 //! Worked rows of the text and its border cases.
+ghost use Rattle.limits.specs.Limits.{widest_grid};
+ghost use Rattle.points.specs.Limits.{InRange};
+
 use limits::{FIRST_GRID, in_grid};
 use particle_text::{
     ParseFault, TextKind, admit, first_fault, one_reading, one_text, parse, parse_point, print,
 };
 use points::{Kind, Mode, Point};
+use std::alloc::Global;
+use std::process::Abort;
 use std::test::Fail;
 
 const FAULTS: [(&[u8], u64, TextKind); 28] = [
@@ -64,63 +69,91 @@ const TEXTS: [(&[u8], usize); 4] = [
 ];
 
 #[test]
-fn faults_are_named(rt: HostRuntime) -> Result<(), Fail> {
+fn faults_are_named(rt: HostRuntime) {
     for &(text, line, what) in &FAULTS {
-        match parse(rt.alloc(), text) {
-            Ok(_) => assert!(rt; false, "read in spite of line {line}"),
-            Err(fault) => assert_eq!(rt; fault, ParseFault::Text { line, what }),
-        }
-        assert_eq!(rt; first_fault(text), Some((line, what)));
+        assert_eq!(rt;
+            (parse(rt.alloc(), text).err(), first_fault(text)),
+            (Some(ParseFault::Text { line, what }), Some((line, what)))
+        );
     }
+}
+
+/// The text has so many points, and is what they print to.
+fn comes_back(rt: &impl Abort, alloc: Global, text: &[u8], count: usize) -> Result<(), Fail> {
+    let points = parse(alloc, text)?;
+    assert_eq!(rt;
+        (
+            points.version,
+            points.list.points().len(),
+            first_fault(text)
+        ),
+        (1, count, None)
+    );
+    let printed = print(alloc, &points)?;
+    assert_eq!(rt; printed.as_slice(), text);
     Ok(())
 }
 
 #[test]
 fn texts_are_read_and_printed_back(rt: HostRuntime) -> Result<(), Fail> {
     for &(text, count) in &TEXTS {
-        let points = parse(rt.alloc(), text)?;
-        assert_eq!(rt; points.version, 1);
-        assert_eq!(rt; points.list.points().len(), count);
-        let printed = print(rt.alloc(), &points)?;
-        assert_eq!(rt; printed.as_slice(), text);
-        assert_eq!(rt; first_fault(text), None);
+        comes_back(&rt, rt.alloc(), text, count)?;
     }
     Ok(())
+}
+
+/// The field text with this line so many times.
+fn text_of(alloc: Global, count: u32, line: &[u8]) -> Result<Vec<u8>, Fail> {
+    let mut text = Vec::from_slice(alloc, b"fmm 1 field\n")?;
+    for _ in 0..count {
+        text.extend_from_slice(line)?;
+    }
+    Ok(text)
 }
 
 #[test]
 fn the_weight_has_a_limit(rt: HostRuntime) -> Result<(), Fail> {
-    let mut text = Vec::from_slice(rt.alloc(), b"fmm 1 field\n")?;
-    for _ in 0..32 {
-        text.extend_from_slice(b"dipole 0 0 1048576 1048576\n")?;
-    }
-    assert_eq!(rt; first_fault(text.as_slice()), None);
+    let mut text = text_of(rt.alloc(), 32, b"dipole 0 0 1048576 1048576\n")?;
+    let most = first_fault(text.as_slice());
     text.extend_from_slice(b"charge 0 0 1\n")?;
-    assert_eq!(rt;
-        first_fault(text.as_slice()),
-        Some((34, TextKind::Strength))
-    );
+    let more = first_fault(text.as_slice());
+    assert_eq!(rt; (most, more), (None, Some((34, TextKind::Strength))));
     Ok(())
+}
+
+/// How many points the text has.
+fn count_of(alloc: Global, text: &[u8]) -> Result<usize, Fail> {
+    Ok(parse(alloc, text)?.list.points().len())
 }
 
 #[test]
 fn the_list_has_a_limit(rt: HostRuntime) -> Result<(), Fail> {
-    let mut text = Vec::from_slice(rt.alloc(), b"fmm 1 field\n")?;
-    for _ in 0..65_536 {
-        text.extend_from_slice(b"target 0 0\n")?;
-    }
-    let points = parse(rt.alloc(), text.as_slice())?;
-    assert_eq!(rt; points.list.points().len(), 65_536);
+    let mut text = text_of(rt.alloc(), 65_536, b"target 0 0\n")?;
+    let most = count_of(rt.alloc(), text.as_slice())?;
     text.extend_from_slice(b"target 0 0\n")?;
-    assert_eq!(rt;
-        first_fault(text.as_slice()),
-        Some((65_538, TextKind::Many))
-    );
+    let more = first_fault(text.as_slice());
+    assert_eq!(rt; (most, more), (65_536, Some((65_538, TextKind::Many))));
     Ok(())
 }
 
+/// The point of a line, and its pole, dipole and weight.
+fn line_has(
+    rt: &impl Abort,
+    line: &[u8],
+    point: Point,
+    pole: (i64, i64),
+    dipole: (i64, i64),
+    weight: u64,
+)
+    requires { InRange widest_grid point }
+{
+    assert_eq!(rt; parse_point(1, line), Ok(point));
+    let got = (point.pole(), point.dipole(), point.weight64());
+    assert_eq!(rt; got, (pole, dipole, weight));
+}
+
 #[test]
-fn points_have_poles_and_weights(rt: HostRuntime) -> Result<(), Fail> {
+fn points_have_poles_and_weights(rt: HostRuntime) {
     let charge = Point {
         x: 1,
         y: -2,
@@ -136,46 +169,43 @@ fn points_have_poles_and_weights(rt: HostRuntime) -> Result<(), Fail> {
         y: 0,
         kind: Kind::Vortex(7),
     };
-    assert_eq!(rt; parse_point(1, b"charge 1 -2 -3"), Ok(charge));
-    assert_eq!(rt; parse_point(1, b"dipole 0 0 5 -6"), Ok(dipole));
-    assert_eq!(rt; parse_point(1, b"vortex 0 0 7"), Ok(vortex));
-    assert_eq!(rt;
-        (charge.pole(), charge.dipole(), charge.weight64()),
-        ((-3, 0), (0, 0), 3)
-    );
-    assert_eq!(rt;
-        (dipole.pole(), dipole.dipole(), dipole.weight64()),
-        ((0, 0), (5, -6), 704)
-    );
-    assert_eq!(rt;
-        (vortex.pole(), vortex.dipole(), vortex.weight64()),
-        ((0, -7), (0, 0), 7)
-    );
-    Ok(())
+    line_has(&rt, b"charge 1 -2 -3", charge, (-3, 0), (0, 0), 3);
+    line_has(&rt, b"dipole 0 0 5 -6", dipole, (0, 0), (5, -6), 704);
+    line_has(&rt, b"vortex 0 0 7", vortex, (0, -7), (0, 0), 7);
 }
 
 #[test]
 fn points_are_admitted(rt: HostRuntime) -> Result<(), Fail> {
     let charge = parse_point(1, b"charge 1 -2 -3")?;
     let heavy = 4_294_967_296 - 3;
-    assert_eq!(rt; admit(1, Mode::Field, 65_535, heavy, &charge), None);
     assert_eq!(rt;
-        admit(1, Mode::Field, 65_535, heavy + 1, &charge),
-        Some(TextKind::Strength)
-    );
-    assert_eq!(rt;
-        admit(1, Mode::Field, 65_536, heavy + 1, &charge),
-        Some(TextKind::Many)
-    );
-    assert_eq!(rt;
-        admit(1, Mode::Velocity, 65_536, heavy + 1, &charge),
-        Some(TextKind::Mixed)
+        [
+            admit(1, Mode::Field, 65_535, heavy, &charge),
+            admit(1, Mode::Field, 65_535, heavy + 1, &charge),
+            admit(1, Mode::Field, 65_536, heavy + 1, &charge),
+            admit(1, Mode::Velocity, 65_536, heavy + 1, &charge)
+        ],
+        [
+            None,
+            Some(TextKind::Strength),
+            Some(TextKind::Many),
+            Some(TextKind::Mixed)
+        ]
     );
     assert!(rt; charge.is_in_range(FIRST_GRID));
+    Ok(())
+}
+
+#[test]
+fn lines_outside_the_grid(rt: HostRuntime) {
     assert!(rt; in_grid(FIRST_GRID, -32_768, 32_767) && !in_grid(FIRST_GRID, 0, 32_768));
-    assert_eq!(rt; parse_point(1, b"target 0 32768"), Err(TextKind::Range));
-    assert_eq!(rt; parse_point(1, b"target 0"), Err(TextKind::Syntax));
+    assert_eq!(rt;
+        [
+            parse_point(1, b"target 0 32768"),
+            parse_point(1, b"target 0")
+        ],
+        [Err(TextKind::Range), Err(TextKind::Syntax)]
+    );
     one_reading();
     one_text();
-    Ok(())
 }

@@ -7,6 +7,7 @@ use io_ports::{
 };
 use std::alloc::Global;
 use std::io::Write;
+use std::process::Abort;
 use std::test::Fail;
 
 // What `read_all` makes of six bytes, in reads of that step that fail where `failing` says.
@@ -34,23 +35,61 @@ fn put_six(
     Ok((done, Vec::from_slice(alloc, sink.held())?))
 }
 
+// These reads give all six bytes.
+fn all_are_read(rt: &impl Abort, alloc: Global, step: usize, failing: &[u64]) -> Result<(), Fail>
+    requires { 1 ≤ step }
+{
+    let bytes = read_six(alloc, step, failing, 6)?;
+    assert_eq!(rt; bytes.as_slice(), b"abcdef".as_slice());
+    Ok(())
+}
+
 #[test]
 fn reads_to_the_end(rt: HostRuntime) -> Result<(), Fail> {
-    let alloc = rt.alloc();
-    let bytes = read_six(alloc, 1, &[], 6)?;
-    assert_eq!(rt; bytes.as_slice(), b"abcdef".as_slice());
-    let bytes = read_six(alloc, 4, &[4], 6)?;
-    assert_eq!(rt; bytes.as_slice(), b"abcdef".as_slice());
-    assert_eq!(rt; read_six(alloc, 1, &[], 5).err(), Some(InFault::Long));
-    assert_eq!(rt; read_six(alloc, 100, &[], 0).err(), Some(InFault::Long));
-    assert_eq!(rt; read_six(alloc, 4, &[2], 6).err(), Some(InFault::ReadFault));
+    all_are_read(&rt, rt.alloc(), 1, &[])?;
+    all_are_read(&rt, rt.alloc(), 4, &[4])
+}
 
-    let mut sure = SureSource::new(Vec::from_slice(alloc, b"abc")?);
-    let bytes = read_all(alloc, &mut sure, 3)?;
-    assert_eq!(rt; bytes.as_slice(), b"abc".as_slice());
+#[test]
+fn reads_that_stop(rt: HostRuntime) {
+    let alloc = rt.alloc();
     assert_eq!(rt;
-        read_all(alloc, &mut BrokenSource::new(), 3).err(),
-        Some(InFault::ReadFault)
+        [
+            read_six(alloc, 1, &[], 5).err(),
+            read_six(alloc, 100, &[], 0).err(),
+            read_six(alloc, 4, &[2], 6).err(),
+            read_all(alloc, &mut BrokenSource::new(), 3).err()
+        ],
+        [
+            Some(InFault::Long),
+            Some(InFault::Long),
+            Some(InFault::ReadFault),
+            Some(InFault::ReadFault)
+        ]
+    );
+}
+
+#[test]
+fn reads_a_sure_source(rt: HostRuntime) -> Result<(), Fail> {
+    let mut sure = SureSource::new(Vec::from_slice(rt.alloc(), b"abc")?);
+    let bytes = read_all(rt.alloc(), &mut sure, 3)?;
+    assert_eq!(rt; bytes.as_slice(), b"abc".as_slice());
+    Ok(())
+}
+
+// A room, a step and a write that fails; and whether all is put, and how much.
+fn put_is(
+    rt: &impl Abort,
+    alloc: Global,
+    (room, step, failing): (usize, usize, u64),
+    done: bool,
+    count: usize,
+) -> Result<(), Fail> {
+    let got = put_six(alloc, room, step.max(1), &[failing])?;
+    assert_eq!(rt;
+        (got.0, got.1.as_slice()),
+        (done, &b"abcdef"[..count.min(6)]),
+        "room {room} step {step}"
     );
     Ok(())
 }
@@ -58,25 +97,11 @@ fn reads_to_the_end(rt: HostRuntime) -> Result<(), Fail> {
 #[test]
 fn puts_what_fits(rt: HostRuntime) -> Result<(), Fail> {
     let alloc = rt.alloc();
-    let cases: [(usize, usize, u64, bool, usize); 5] = [
-        (6, 6, 0, true, 6),
-        (6, 1, 0, true, 6),
-        (4, 3, 0, false, 4),
-        (9, 1, 3, false, 2),
-        (0, 1, 0, false, 0),
-    ];
-    for (room, step, failing, done, count) in cases {
-        let got = put_six(alloc, room, step.max(1), &[failing])?;
-        assert_eq!(rt; got.0, done, "room {room} step {step}");
-        assert_eq!(rt;
-            got.1.as_slice(),
-            &b"abcdef"[..count.min(6)],
-            "room {room} step {step}"
-        );
-    }
-    assert_eq!(rt; put(&mut DropSink, b"abc"), Ok(()));
-    assert_eq!(rt; put(&mut BrokenSink::new(), b"abc"), Err(WriteFault));
-    Ok(())
+    put_is(&rt, alloc, (6, 6, 0), true, 6)?;
+    put_is(&rt, alloc, (6, 1, 0), true, 6)?;
+    put_is(&rt, alloc, (4, 3, 0), false, 4)?;
+    put_is(&rt, alloc, (9, 1, 3), false, 2)?;
+    put_is(&rt, alloc, (0, 1, 0), false, 0)
 }
 
 // A writer that takes nothing.
@@ -94,18 +119,31 @@ impl Write for Stuck {
 }
 
 #[test]
-fn adapts_readers_and_writers(rt: HostRuntime) -> Result<(), Fail> {
-    let alloc = rt.alloc();
+fn adapts_readers(rt: HostRuntime) -> Result<(), Fail> {
     let text: &[u8] = b"from a reader";
-    let bytes = read_all(alloc, &mut ReadSource::new(text), 13)?;
+    let bytes = read_all(rt.alloc(), &mut ReadSource::new(text), 13)?;
     assert_eq!(rt; bytes.as_slice(), text);
-
-    let mut written = Vec::new(alloc);
-    assert_eq!(rt;
-        put(&mut WriteSink::new(&mut written), b"to a writer"),
-        Ok(())
-    );
-    assert_eq!(rt; written.as_slice(), b"to a writer".as_slice());
-    assert_eq!(rt; put(&mut WriteSink::new(Stuck), b"a"), Err(WriteFault));
     Ok(())
+}
+
+#[test]
+fn adapts_writers(rt: HostRuntime) {
+    let mut written = Vec::new(rt.alloc());
+    let done = put(&mut WriteSink::new(&mut written), b"to a writer");
+    assert_eq!(rt;
+        (done, written.as_slice()),
+        (Ok(()), b"to a writer".as_slice())
+    );
+}
+
+#[test]
+fn other_sinks(rt: HostRuntime) {
+    assert_eq!(rt;
+        [
+            put(&mut DropSink, b"abc"),
+            put(&mut BrokenSink::new(), b"abc"),
+            put(&mut WriteSink::new(Stuck), b"a")
+        ],
+        [Ok(()), Err(WriteFault), Err(WriteFault)]
+    );
 }

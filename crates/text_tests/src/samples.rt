@@ -4,7 +4,7 @@ use points::{Kind, Point};
 use std::test::Fail;
 
 #[test]
-fn samples(rt: HostRuntime) -> Result<(), Fail> {
+fn the_first_sample(rt: HostRuntime) -> Result<(), Fail> {
     let sample = sample_points(rt.alloc(), 0, 2)?;
     let first = Point {
         x: -32_527,
@@ -18,7 +18,11 @@ fn samples(rt: HostRuntime) -> Result<(), Fail> {
     };
     assert_eq!(rt; sample.version, 1);
     assert!(rt; sample.list.points() == [first, second].as_slice());
+    Ok(())
+}
 
+#[test]
+fn targets_of_a_sample(rt: HostRuntime) -> Result<(), Fail> {
     let sample = sample_points(rt.alloc(), 1, 500)?;
     let targets = sample
         .list
@@ -26,7 +30,6 @@ fn samples(rt: HostRuntime) -> Result<(), Fail> {
         .iter()
         .filter(|p| p.kind == Kind::Target)
         .count();
-    assert_eq!(rt; sample.list.points().len(), 500);
-    assert_eq!(rt; targets, 122);
+    assert_eq!(rt; (sample.list.points().len(), targets), (500, 122));
     Ok(())
 }

@@ -4,7 +4,7 @@ use cell_name::{Cell, Quadrant};
 const WEST: i64 = -32768;
 
 #[test]
-fn cells_of_places(rt: HostRuntime) {
+fn the_root(rt: HostRuntime) {
     let root = Cell::of(WEST, 32767, 0, 16);
     assert_eq!(rt;
         root,
@@ -15,41 +15,60 @@ fn cells_of_places(rt: HostRuntime) {
             grid: 16
         }
     );
-    assert_eq!(rt; root.side(), 65536);
-    assert_eq!(rt; root.corner(), (WEST, WEST));
-    assert_eq!(rt; root.doubled_centre(), (0, 0));
+    assert_eq!(rt;
+        (root.side(), root.corner(), root.doubled_centre()),
+        (65536, (WEST, WEST), (0, 0))
+    );
+}
+
+#[test]
+fn cells_of_side_one(rt: HostRuntime) {
     let middle = Cell::of(0, 0, 16, 16);
     assert_eq!(rt; (middle.level, middle.i, middle.j), (16, 32768, 32768));
-    assert_eq!(rt; middle.side(), 1);
-    assert_eq!(rt; middle.corner(), (0, 0));
-    assert_eq!(rt; middle.doubled_centre(), (1, 1));
-    assert_eq!(rt; middle.offset(8, 0), (15, -1));
-    assert!(rt; middle.holds(0, 0));
-    assert!(rt; !middle.holds(1, 0));
-    assert!(rt; !middle.holds(0, -1));
+    assert_eq!(rt;
+        (middle.side(), middle.corner(), middle.doubled_centre()),
+        (1, (0, 0), (1, 1))
+    );
     let corner = Cell::of(32767, WEST, 16, 16);
     assert_eq!(rt; (corner.i, corner.j), (65535, 0));
 }
 
 #[test]
-fn cells_of_the_widest_grid(rt: HostRuntime) {
-    let root = Cell::root(20);
-    assert_eq!(rt; Cell::of(524_287, -524_288, 0, 20), root);
-    assert_eq!(rt; root.side(), 1_048_576);
-    assert_eq!(rt; root.corner(), (-524_288, -524_288));
-    let middle = Cell::of(0, 0, 20, 20);
-    assert_eq!(rt; (middle.i, middle.j), (524_288, 524_288));
-    assert_eq!(rt; middle.side(), 1);
-    assert_eq!(rt; middle.corner(), (0, 0));
-    assert_eq!(rt; middle.ancestor(0), root);
+fn places_from_a_cell(rt: HostRuntime) {
+    let middle = Cell::of(0, 0, 16, 16);
+    assert_eq!(rt; middle.offset(8, 0), (15, -1));
+    assert_eq!(rt;
+        (middle.holds(0, 0), middle.holds(1, 0), middle.holds(0, -1)),
+        (true, false, false)
+    );
 }
 
 #[test]
-fn families_and_neighbours(rt: HostRuntime) {
+fn the_widest_root(rt: HostRuntime) {
+    let root = Cell::root(20);
+    assert_eq!(rt; Cell::of(524_287, -524_288, 0, 20), root);
+    assert_eq!(rt;
+        (root.side(), root.corner()),
+        (1_048_576, (-524_288, -524_288))
+    );
+}
+
+#[test]
+fn cells_of_the_widest_grid(rt: HostRuntime) {
+    let middle = Cell::of(0, 0, 20, 20);
+    assert_eq!(rt; (middle.i, middle.j), (524_288, 524_288));
+    assert_eq!(rt; (middle.side(), middle.corner()), (1, (0, 0)));
+    assert_eq!(rt; middle.ancestor(0), Cell::root(20));
+}
+
+#[test]
+fn families(rt: HostRuntime) {
     let cell = Cell::of(8, 0, 14, 16);
-    assert_eq!(rt; (cell.i, cell.j), (8194, 8192));
     let up = cell.parent();
-    assert_eq!(rt; (up.level, up.i, up.j), (13, 4097, 4096));
+    assert_eq!(rt;
+        ((cell.i, cell.j), (up.level, up.i, up.j)),
+        ((8194, 8192), (13, 4097, 4096))
+    );
     let quadrant = cell.quadrant();
     assert_eq!(rt;
         quadrant,
@@ -59,6 +78,11 @@ fn families_and_neighbours(rt: HostRuntime) {
         }
     );
     assert_eq!(rt; up.child(quadrant), cell);
+}
+
+#[test]
+fn ancestors(rt: HostRuntime) {
+    let cell = Cell::of(8, 0, 14, 16);
     assert_eq!(rt;
         cell.ancestor(1),
         Cell {
@@ -68,9 +92,15 @@ fn families_and_neighbours(rt: HostRuntime) {
             grid: 16
         }
     );
+    let quadrant = cell.quadrant();
+    let below = cell.ancestor(16 - 2).child(quadrant).child(quadrant);
+    assert!(rt; Cell::of(-1, -1, 16, 16) < below);
+}
+
+#[test]
+fn neighbours(rt: HostRuntime) {
     let southwest = Cell::of(-1, -1, 16, 16);
     assert!(rt; southwest.touches(Cell::of(0, 0, 16, 16)));
     assert!(rt; southwest.touches(Cell::of(0, 0, 0, 16)));
     assert!(rt; !southwest.touches(Cell::of(1, 0, 16, 16)));
-    assert!(rt; southwest < cell.ancestor(16 - 2).child(quadrant).child(quadrant));
 }

@@ -1,118 +1,206 @@
 //! Lists worked by hand, of two places each.
-use cell_lists::{first_apart, lists};
+ghost use Rattle.cell_lists.specs.Lists.{AreLists};
+
+use crate::known::tree_of;
+use cell_lists::{EntryLists, first_apart, lists};
 use cell_name::Cell;
 use letters::Letter;
 use quadtree::Tree;
 use std::alloc::Global;
 use std::process::Abort;
 use std::test::Fail;
-use test_points::points_of;
 
-/// The tree of a list of some lines at capacity 8.
-fn tree_of(alloc: Global, lines: &[(u32, &str)]) -> Result<Tree, Fail> {
-    let points = points_of(alloc, lines)?;
-    Ok(Tree::build(alloc, &points, 8)?)
+/// What the tree of some lines at capacity 8 has.
+struct Case {
+    /// The lines, each so many times.
+    lines: &'static [(u32, &'static str)],
+    /// How many cells.
+    count: usize,
+    /// How many entries of each letter.
+    totals: [u64; 4],
+    /// A cell.
+    cell: usize,
+    /// Its four lists.
+    lists: [&'static [u32]; 4],
+    /// Two leaves.
+    leaves: (usize, usize),
+    /// The letter of their entry.
+    letter: Letter,
+    /// The cells of their entry.
+    cells: (usize, usize),
 }
 
-/// The totals of the four letters, and the four lists of a cell.
-fn lists_are(
-    rt: &impl Abort,
-    alloc: Global,
-    tree: &Tree,
-    totals: [u64; 4],
-    b: usize,
-    cells: [&[u32]; 4],
-) -> Result<(), Fail> {
-    let found = lists(alloc, tree)?;
+/// How many cells the tree has, and how many entries of each letter.
+fn totals_are(rt: &impl Abort, tree: &Tree, found: &EntryLists, case: &Case) {
+    let totals = [
+        found.total(Letter::U),
+        found.total(Letter::V),
+        found.total(Letter::W),
+        found.total(Letter::X),
+    ];
+    assert_eq!(rt; (tree.cells().len(), totals), (case.count, case.totals));
+}
+
+/// The four lists of the cell.
+fn lists_are(rt: &impl Abort, tree: &Tree, found: &EntryLists, case: &Case)
+    requires { AreLists tree.now found.now }
+{
     let count = tree.cells().len();
+    let b = case.cell;
     assert!(rt; b < count);
-    assert_eq!(rt; found.total(Letter::U), totals[0]);
-    assert_eq!(rt; found.total(Letter::V), totals[1]);
-    assert_eq!(rt; found.total(Letter::W), totals[2]);
-    assert_eq!(rt; found.total(Letter::X), totals[3]);
-    assert_eq!(rt; found.u_list(b), cells[0]);
-    assert_eq!(rt; found.v_list(b), cells[1]);
-    assert_eq!(rt; found.w_list(b), cells[2]);
-    assert_eq!(rt; found.x_list(b), cells[3]);
+    assert_eq!(rt;
+        [
+            found.u_list(b),
+            found.v_list(b),
+            found.w_list(b),
+            found.x_list(b)
+        ],
+        case.lists
+    );
+}
+
+/// The entry of the two leaves has this letter and these cells.
+fn entry_is(rt: &impl Abort, tree: &Tree, case: &Case) {
+    let count = tree.cells().len();
+    let (b, c) = case.leaves;
+    assert!(rt; b < count);
+    assert!(rt; c < count);
+    assert!(rt; tree.is_leaf(b));
+    assert!(rt; tree.is_leaf(c));
+    assert!(rt; tree.has_target(b));
+    assert!(rt; tree.has_source(c));
+    let entry = first_apart(tree, b, c);
+    assert_eq!(rt;
+        (entry.letter, (entry.b, entry.c)),
+        (case.letter, case.cells)
+    );
+}
+
+fn lists_hold(rt: &impl Abort, alloc: Global, tree: &Tree, case: &Case) -> Result<(), Fail> {
+    let found = lists(alloc, tree)?;
+    totals_are(rt, tree, &found, case);
+    lists_are(rt, tree, &found, case);
     Ok(())
 }
 
-/// The entry of two leaves has this letter and these cells.
-fn entry_is(
-    rt: &impl Abort,
-    tree: &Tree,
-    b: usize,
-    c: usize,
-    letter: Letter,
-    cells: (usize, usize),
-) {
-    let count = tree.cells().len();
-    assert!(rt; b < count && c < count);
-    assert!(rt; tree.is_leaf(b) && tree.is_leaf(c));
-    assert!(rt; tree.has_target(b) && tree.has_source(c));
-    let entry = first_apart(tree, b, c);
-    assert_eq!(rt; entry.letter, letter);
-    assert_eq!(rt; (entry.b, entry.c), cells);
+fn each_holds(rt: &impl Abort, alloc: Global, cases: &[Case]) -> Result<(), Fail> {
+    for case in cases {
+        let tree = tree_of(alloc, case.lines)?;
+        entry_is(rt, &tree, case);
+        lists_hold(rt, alloc, &tree, case)?;
+    }
+    Ok(())
 }
 
-const NINE_CHARGES: (u32, &str) = (9, "charge 0 0 1\n");
+const TOUCHING: [Case; 4] = [
+    Case {
+        lines: &[(7, "charge 0 0 1\n"), (1, "target 1 0\n")],
+        count: 1,
+        totals: [1, 0, 0, 0],
+        cell: 0,
+        lists: [&[0], &[], &[], &[]],
+        leaves: (0, 0),
+        letter: Letter::U,
+        cells: (0, 0),
+    },
+    Case {
+        lines: &[(8, "charge 0 0 1\n"), (1, "target 1 0\n")],
+        count: 18,
+        totals: [1, 0, 0, 0],
+        cell: 17,
+        lists: [&[16], &[], &[], &[]],
+        leaves: (17, 16),
+        letter: Letter::U,
+        cells: (17, 16),
+    },
+    Case {
+        lines: &[(9, "charge 0 0 1\n"), (9, "target 1 0\n")],
+        count: 18,
+        totals: [1, 0, 0, 0],
+        cell: 17,
+        lists: [&[16], &[], &[], &[]],
+        leaves: (17, 16),
+        letter: Letter::U,
+        cells: (17, 16),
+    },
+    Case {
+        lines: &[(9, "charge -1 -1 1\n"), (9, "target 0 0\n")],
+        count: 33,
+        totals: [1, 0, 0, 0],
+        cell: 32,
+        lists: [&[31], &[], &[], &[]],
+        leaves: (32, 31),
+        letter: Letter::U,
+        cells: (32, 31),
+    },
+];
 
 #[test]
 fn touching_leaves(rt: HostRuntime) -> Result<(), Fail> {
-    let alloc = rt.alloc();
-    let one = tree_of(alloc, &[(7, "charge 0 0 1\n"), (1, "target 1 0\n")])?;
-    lists_are(&rt, alloc, &one, [1, 0, 0, 0], 0, [&[0], &[], &[], &[]])?;
-    entry_is(&rt, &one, 0, 0, Letter::U, (0, 0));
-    let eight = tree_of(alloc, &[(8, "charge 0 0 1\n"), (1, "target 1 0\n")])?;
-    assert_eq!(rt; eight.cells().len(), 18);
-    lists_are(&rt, alloc, &eight, [1, 0, 0, 0], 17, [&[16], &[], &[], &[]])?;
-    entry_is(&rt, &eight, 17, 16, Letter::U, (17, 16));
-    let beside = tree_of(alloc, &[NINE_CHARGES, (9, "target 1 0\n")])?;
-    lists_are(
-        &rt,
-        alloc,
-        &beside,
-        [1, 0, 0, 0],
-        17,
-        [&[16], &[], &[], &[]],
-    )?;
-    entry_is(&rt, &beside, 17, 16, Letter::U, (17, 16));
-    let corner = tree_of(alloc, &[(9, "charge -1 -1 1\n"), (9, "target 0 0\n")])?;
-    lists_are(
-        &rt,
-        alloc,
-        &corner,
-        [1, 0, 0, 0],
-        32,
-        [&[31], &[], &[], &[]],
-    )?;
-    entry_is(&rt, &corner, 32, 31, Letter::U, (32, 31));
+    each_holds(&rt, rt.alloc(), &TOUCHING)
+}
+
+const V: Case = Case {
+    lines: &[(9, "charge 0 0 1\n"), (9, "target 2 0\n")],
+    count: 19,
+    totals: [0, 1, 0, 0],
+    cell: 18,
+    lists: [&[], &[17], &[], &[]],
+    leaves: (18, 17),
+    letter: Letter::V,
+    cells: (18, 17),
+};
+
+const W: Case = Case {
+    lines: &[(9, "charge 0 0 1\n"), (1, "target 8 0\n")],
+    count: 18,
+    totals: [0, 0, 1, 0],
+    cell: 14,
+    lists: [&[], &[], &[15], &[]],
+    leaves: (14, 17),
+    letter: Letter::W,
+    cells: (14, 15),
+};
+
+const X: Case = Case {
+    lines: &[(1, "charge 8 0 1\n"), (9, "target 0 0\n")],
+    count: 18,
+    totals: [0, 0, 0, 1],
+    cell: 15,
+    lists: [&[], &[], &[], &[14]],
+    leaves: (17, 14),
+    letter: Letter::X,
+    cells: (15, 14),
+};
+
+#[test]
+fn cells_apart(rt: HostRuntime) -> Result<(), Fail> {
+    each_holds(&rt, rt.alloc(), &[V, W, X])
+}
+
+/// The number of a cell in the tree of a case.
+fn number_is(
+    rt: &impl Abort,
+    alloc: Global,
+    case: &Case,
+    cell: Cell,
+    n: Option<usize>,
+) -> Result<(), Fail> {
+    let tree = tree_of(alloc, case.lines)?;
+    assert_eq!(rt; tree.find(cell), n);
     Ok(())
 }
 
 #[test]
-fn cells_apart(rt: HostRuntime) -> Result<(), Fail> {
-    let alloc = rt.alloc();
-    let v = tree_of(alloc, &[NINE_CHARGES, (9, "target 2 0\n")])?;
-    assert_eq!(rt; v.cells().len(), 19);
-    assert_eq!(rt;
-        (
-            v.find(Cell::of(2, 0, 16, 16)),
-            v.find(Cell::of(0, 0, 16, 16))
-        ),
-        (Some(18), Some(17))
-    );
-    lists_are(&rt, alloc, &v, [0, 1, 0, 0], 18, [&[], &[17], &[], &[]])?;
-    entry_is(&rt, &v, 18, 17, Letter::V, (18, 17));
-    let w = tree_of(alloc, &[NINE_CHARGES, (1, "target 8 0\n")])?;
-    assert_eq!(rt; Cell::of(0, 0, 14, 16).side(), 4);
-    assert_eq!(rt; w.cells().len(), 18);
-    assert_eq!(rt; w.find(Cell::of(0, 0, 14, 16)), Some(15));
-    lists_are(&rt, alloc, &w, [0, 0, 1, 0], 14, [&[], &[], &[15], &[]])?;
-    entry_is(&rt, &w, 14, 17, Letter::W, (14, 15));
-    let x = tree_of(alloc, &[(1, "charge 8 0 1\n"), (9, "target 0 0\n")])?;
-    assert_eq!(rt; x.find(Cell::of(0, 0, 14, 16)), Some(15));
-    lists_are(&rt, alloc, &x, [0, 0, 0, 1], 15, [&[], &[], &[], &[14]])?;
-    entry_is(&rt, &x, 17, 14, Letter::X, (15, 14));
-    Ok(())
+fn numbers_of_small_cells(rt: HostRuntime) -> Result<(), Fail> {
+    number_is(&rt, rt.alloc(), &V, Cell::of(2, 0, 16, 16), Some(18))?;
+    number_is(&rt, rt.alloc(), &V, Cell::of(0, 0, 16, 16), Some(17))
+}
+
+#[test]
+fn numbers_of_large_cells(rt: HostRuntime) -> Result<(), Fail> {
+    let large = Cell::of(0, 0, 14, 16);
+    assert_eq!(rt; large.side(), 4);
+    number_is(&rt, rt.alloc(), &W, large, Some(15))?;
+    number_is(&rt, rt.alloc(), &X, large, Some(15))
 }

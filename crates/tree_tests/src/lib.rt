@@ -6,4 +6,6 @@ mod cells;
 #[cfg(test)]
 mod entries;
 #[cfg(test)]
+mod known;
+#[cfg(test)]
 mod trees;

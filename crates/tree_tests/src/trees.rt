@@ -1,70 +1,110 @@
 //! Trees worked by hand, and those that a list may not have.
+use crate::known::tree_of;
 use cell_name::Cell;
 use particle_text::parse;
 use quadtree::{Tree, TreeFault};
 use std::alloc::Global;
+use std::process::Abort;
 use std::test::Fail;
 use test_points::{full_text, points_of};
 
-/// How many cells the tree of such a list has at capacity 8.
+/// How many cells the tree of such a list has.
 fn cells_of(alloc: Global, lines: &[(u32, &str)]) -> Result<usize, Fail> {
-    let points = points_of(alloc, lines)?;
-    let tree = Tree::build(alloc, &points, 8)?;
-    Ok(tree.cells().len())
+    Ok(tree_of(alloc, lines)?.cells().len())
 }
+
+/// Lists, and how many cells the tree of each has.
+const SMALL_LISTS: [(&[(u32, &str)], usize); 7] = [
+    (&[], 0),
+    (&[(7, "charge 0 0 1\n"), (1, "target 1 0\n")], 1),
+    (&[(8, "charge 0 0 1\n"), (1, "target 1 0\n")], 18),
+    (&[(9, "charge 0 0 1\n"), (9, "target 2 0\n")], 19),
+    (&[(9, "charge -1 -1 1\n"), (9, "target 0 0\n")], 33),
+    (&[(9, "charge 0 0 1\n"), (1, "target 8 0\n")], 18),
+    (&[(1, "charge 8 0 1\n"), (9, "target 0 0\n")], 18),
+];
 
 #[test]
 fn cells_of_small_lists(rt: HostRuntime) -> Result<(), Fail> {
-    let alloc = rt.alloc();
-    let charge = "charge 0 0 1\n";
-    assert_eq!(rt; cells_of(alloc, &[])?, 0);
-    assert_eq!(rt; cells_of(alloc, &[(7, charge), (1, "target 1 0\n")])?, 1);
-    assert_eq!(rt; cells_of(alloc, &[(8, charge), (1, "target 1 0\n")])?, 18);
-    assert_eq!(rt; cells_of(alloc, &[(9, charge), (9, "target 2 0\n")])?, 19);
-    assert_eq!(rt;
-        cells_of(alloc, &[(9, "charge -1 -1 1\n"), (9, "target 0 0\n")])?,
-        33
-    );
-    assert_eq!(rt; cells_of(alloc, &[(9, charge), (1, "target 8 0\n")])?, 18);
-    assert_eq!(rt;
-        cells_of(alloc, &[(1, "charge 8 0 1\n"), (9, "target 0 0\n")])?,
-        18
-    );
+    for &(lines, count) in &SMALL_LISTS {
+        let found = cells_of(rt.alloc(), lines)?;
+        assert_eq!(rt; found, count);
+    }
     Ok(())
 }
+
+const TWO_PLACES: [(u32, &str); 2] = [(8, "charge 0 0 1\n"), (1, "target 1 0\n")];
 
 #[test]
 fn cells_of_two_places(rt: HostRuntime) -> Result<(), Fail> {
-    let alloc = rt.alloc();
-    let points = points_of(alloc, &[(8, "charge 0 0 1\n"), (1, "target 1 0\n")])?;
-    let tree = Tree::build(alloc, &points, 8)?;
-    assert_eq!(rt; tree.grid(), 16);
+    let tree = tree_of(rt.alloc(), &TWO_PLACES)?;
+    assert_eq!(rt; (tree.grid(), tree.cells().len()), (16, 18));
+    let near = tree.find(Cell::of(1, 0, 16, 16));
+    let far = tree.find(Cell::of(5, 5, 16, 16));
+    assert_eq!(rt; (near, far), (Some(17), None));
+    Ok(())
+}
+
+/// The parent of a cell, whether it is a leaf, how many points it has, and whether it has a source and a target.
+fn cell_is(
+    rt: &impl Abort,
+    tree: &Tree,
+    n: usize,
+    expected: (usize, bool, u64),
+    has: (bool, bool),
+) {
+    let count = tree.cells().len();
+    assert!(rt; n < count);
+    assert_eq!(rt;
+        (
+            (tree.parent(n), tree.is_leaf(n), tree.count(n)),
+            (tree.has_source(n), tree.has_target(n))
+        ),
+        (expected, has)
+    );
+}
+
+#[test]
+fn each_cell_of_two_places(rt: HostRuntime) -> Result<(), Fail> {
+    let tree = tree_of(rt.alloc(), &TWO_PLACES)?;
+    cell_is(&rt, &tree, 0, (0, false, 9), (true, true));
+    cell_is(&rt, &tree, 15, (14, false, 9), (true, true));
+    cell_is(&rt, &tree, 16, (15, true, 8), (true, false));
+    cell_is(&rt, &tree, 17, (15, true, 1), (false, true));
+    Ok(())
+}
+
+/// The children of a cell.
+fn children_are(rt: &impl Abort, tree: &Tree, n: usize, children: &[u32]) {
+    let count = tree.cells().len();
+    assert!(rt; n < count);
+    assert_eq!(rt; tree.children(n), children);
+}
+
+#[test]
+fn members_and_children_of_two_places(rt: HostRuntime) -> Result<(), Fail> {
+    let tree = tree_of(rt.alloc(), &TWO_PLACES)?;
+    children_are(&rt, &tree, 15, &[16, 17]);
+    children_are(&rt, &tree, 17, &[]);
     assert_eq!(rt; tree.cells().len(), 18);
-    assert_eq!(rt; tree.find(Cell::of(1, 0, 16, 16)), Some(17));
-    assert_eq!(rt; tree.find(Cell::of(5, 5, 16, 16)), None);
-    assert_eq!(rt;
-        (tree.parent(0), tree.parent(16), tree.parent(17)),
-        (0, 15, 15)
-    );
-    assert_eq!(rt;
-        (tree.is_leaf(15), tree.is_leaf(16), tree.is_leaf(17)),
-        (false, true, true)
-    );
-    assert_eq!(rt; (tree.count(15), tree.count(16), tree.count(17)), (9, 8, 1));
-    assert_eq!(rt; (tree.has_source(16), tree.has_target(16)), (true, false));
-    assert_eq!(rt; (tree.has_source(17), tree.has_target(17)), (false, true));
     assert_eq!(rt; tree.members(17), [8].as_slice());
-    assert_eq!(rt; tree.children(15), [16, 17].as_slice());
-    assert_eq!(rt; tree.children(17).len(), 0);
-    let last = tree.level(16);
-    assert_eq!(rt; (last.start, last.end), (16, 18));
-    let first = tree.level(0);
-    assert_eq!(rt; (first.start, first.end), (0, 1));
     Ok(())
 }
 
 #[test]
-fn crowded_places_and_too_many_cells(rt: HostRuntime) -> Result<(), Fail> {
+fn levels_of_two_places(rt: HostRuntime) -> Result<(), Fail> {
+    let tree = tree_of(rt.alloc(), &TWO_PLACES)?;
+    let last = tree.level(16);
+    let first = tree.level(0);
+    assert_eq!(rt;
+        ((last.start, last.end), (first.start, first.end)),
+        ((16, 18), (0, 1))
+    );
+    Ok(())
+}
+
+#[test]
+fn crowded_places(rt: HostRuntime) -> Result<(), Fail> {
     let alloc = rt.alloc();
     let crowded = points_of(alloc, &[(4097, "charge 0 0 1\n")])?;
     match Tree::build(alloc, &crowded, 8) {
@@ -76,7 +116,12 @@ fn crowded_places_and_too_many_cells(rt: HostRuntime) -> Result<(), Fail> {
         }
         _ => panic!(rt; "the place is crowded"),
     }
-    let most = cells_of(alloc, &[(4095, "charge 0 0 1\n"), (1, "target 0 0\n")])?;
+    Ok(())
+}
+
+#[test]
+fn the_fullest_place(rt: HostRuntime) -> Result<(), Fail> {
+    let most = cells_of(rt.alloc(), &[(4095, "charge 0 0 1\n"), (1, "target 0 0\n")])?;
     assert_eq!(rt; most, 17);
     Ok(())
 }

@@ -15,9 +15,9 @@ at_local-requires g c = (
     inl refl,
     (
       record { west = omega (arith, ints); east = omega (arith, ints); south = omega (arith, ints); north = omega (arith, ints) },
-      subst (λ cells. RowWithin 4 (2 ^ 90) (row_of cells)) (sym c.new-3.ensures)
+      subst (λ cells. RowWithin 4 (2 ^ 90) (row_of cells)) (sym c.new-2.ensures)
           (λ k h. box_wider (0 + 3 * 2 ^ 78) (2 ^ 90) _ (lit≤ tt) (c.convert.ensures.size (2 ^ 78) 0
-          (subst (λ cells. RowWithin 4 (2 ^ 79) (row_of cells)) (sym c.new-2.ensures) c.nine_charges-moments.ensures)
+          (subst (λ cells. RowWithin 4 (2 ^ 79) (row_of cells)) (sym c.new.ensures) c.nine_charges-moments.ensures)
           (zeros_within 0 c.zero-row.result c.zero-row.ensures.ends) k h)),
     ),
   ),

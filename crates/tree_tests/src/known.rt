@@ -1,0 +1,11 @@
+//! The trees that the tests begin with.
+use quadtree::Tree;
+use std::alloc::Global;
+use std::test::Fail;
+use test_points::points_of;
+
+/// The tree of a list of some lines at capacity 8.
+pub fn tree_of(alloc: Global, lines: &[(u32, &str)]) -> Result<Tree, Fail> {
+    let points = points_of(alloc, lines)?;
+    Ok(Tree::build(alloc, &points, 8)?)
+}
