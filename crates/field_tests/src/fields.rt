@@ -131,16 +131,21 @@ fn far_source(rt: HostRuntime) -> Result<(), Fail> {
     Ok(())
 }
 
-/// A charge near two targets, in a tree of one cell.
+/// The numbers of a charge near two targets, in a tree of one cell.
+fn has_near_numbers(rt: &impl Abort, field: &Field<4>) {
+    assert_eq!(rt; (field.tree().cells().len(), field.targets()), (1, 2));
+    assert_eq!(rt; (field.translations(), field.pairs()), (0, 2));
+    values_are(rt, field, NEAR);
+}
+
+const NEAR: Ends = (
+    (131_941_395_333, 131_941_395_334),
+    (-175_921_860_445, -175_921_860_444),
+);
+
 #[test]
 fn near_charge(rt: HostRuntime) -> Result<(), Fail> {
     let field = field_of(rt.alloc(), &[(1, "charge 0 0 1\n"), (2, "target 3 4\n")])?;
-    let known = (
-        (131_941_395_333, 131_941_395_334),
-        (-175_921_860_445, -175_921_860_444),
-    );
-    assert_eq!(rt; (field.tree().cells().len(), field.targets()), (1, 2));
-    assert_eq!(rt; (field.translations(), field.pairs()), (0, 2));
-    values_are(&rt, &field, known);
+    has_near_numbers(&rt, &field);
     Ok(())
 }

@@ -1,5 +1,7 @@
 //! Rows that are known from elsewhere.
 use crate::compare::{NINE_CHARGES, field_of, has_row};
+use solve_phase::Field;
+use std::process::Abort;
 use std::test::Fail;
 use test_boxes::Ends;
 
@@ -25,15 +27,19 @@ const ROOT: [Ends; 4] = [
     ((0, 0), (0, 0)),
 ];
 
+fn has_moments(rt: &impl Abort, field: &Field<4>) {
+    assert!(rt; field.tree().cells().len() == 19);
+    has_row(rt, field.up(0), &ROOT);
+    // the targets' cell of level 15
+    assert!(rt; field.up(16).is_none());
+    has_row(rt, field.up(17), &LEAF);
+}
+
 /// Nine charges at the origin, by hand.
 #[test]
 fn multipole_rows(rt: HostRuntime) -> Result<(), Fail> {
     let field = field_of(rt.alloc(), &[NINE_CHARGES, (9, "target 2 0\n")])?;
-    assert!(rt; field.tree().cells().len() == 19);
-    has_row(&rt, field.up(0), &ROOT);
-    // the targets' cell of level 15
-    assert!(rt; field.up(16).is_none());
-    has_row(&rt, field.up(17), &LEAF);
+    has_moments(&rt, &field);
     Ok(())
 }
 
@@ -57,11 +63,15 @@ const FAR_CHARGE: [Ends; 4] = [
     ),
 ];
 
+fn has_far_charge(rt: &impl Abort, field: &Field<4>) {
+    assert!(rt; field.tree().cells().len() == 18);
+    has_row(rt, field.local(15), &FAR_CHARGE);
+    assert_eq!(rt; (field.radius(14), field.radius(15)), (0, 13_668_646_683));
+}
+
 #[test]
 fn local_rows(rt: HostRuntime) -> Result<(), Fail> {
     let field = field_of(rt.alloc(), &[(1, "charge 8 0 1\n"), (9, "target 0 0\n")])?;
-    assert!(rt; field.tree().cells().len() == 18);
-    has_row(&rt, field.local(15), &FAR_CHARGE);
-    assert_eq!(rt; (field.radius(14), field.radius(15)), (0, 13_668_646_683));
+    has_far_charge(&rt, &field);
     Ok(())
 }
