@@ -17,16 +17,22 @@ fn tell(rt: &HostRuntime) -> io::Result<()> {
     )
 }
 
+/// How many of forty tables were made.
+fn made(rt: &HostRuntime) -> u32 {
+    let mut made = 0u32;
+    for _ in 0..40 {
+        if Kernel::<24>::new(rt.alloc()).is_ok() {
+            made = made.saturating_add(1);
+        }
+    }
+    made
+}
+
 pub fn run(rt: &HostRuntime, timed: bool) -> io::Result<()> {
     tell(rt)?;
     if timed {
         let start = Instant::now(rt)?;
-        let mut made = 0u32;
-        for _ in 0..40 {
-            if Kernel::<24>::new(rt.alloc()).is_ok() {
-                made = made.saturating_add(1);
-            }
-        }
+        let made = made(rt);
         let micros = start.elapsed(rt)?.as_micros();
         println!(rt; "{made} tables in {micros} us")?;
     }

@@ -61,14 +61,20 @@ fn has_word(rt: &HostRuntime, wanted: &str) -> io::Result<bool> {
     Ok(found)
 }
 
-fn main(rt: HostRuntime) -> io::Result<()> {
-    let timed = has_word(&rt, "time")?;
-    let mut all = true;
+/// Whether the command line names none of them.
+fn names_none(rt: &HostRuntime) -> io::Result<bool> {
+    let mut none = true;
     for bench in Bench::ALL {
-        if has_word(&rt, bench.name())? {
-            all = false;
+        if has_word(rt, bench.name())? {
+            none = false;
         }
     }
+    Ok(none)
+}
+
+fn main(rt: HostRuntime) -> io::Result<()> {
+    let timed = has_word(&rt, "time")?;
+    let all = names_none(&rt)?;
     for bench in Bench::ALL {
         if all || has_word(&rt, bench.name())? {
             bench.run(&rt, timed)?;

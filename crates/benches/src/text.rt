@@ -21,14 +21,20 @@ fn sample(rt: &HostRuntime, lines: u32) -> Option<Vec<u8>> {
     Some(text)
 }
 
-/// Says how many bytes went through since the start, or how fast.
-fn tell(rt: &HostRuntime, timed: bool, name: &str, bytes: usize, start: Instant) -> io::Result<()> {
-    if !timed {
-        return println!(rt; "{name} {bytes} bytes");
-    }
+/// Says how fast so many bytes went through since the start.
+fn tell_rate(rt: &HostRuntime, name: &str, bytes: usize, start: Instant) -> io::Result<()> {
     let micros = start.elapsed(rt)?.as_micros().max(1);
     let rate = bytes as u128 / micros;
     println!(rt; "{name} {bytes} bytes in {micros} us, {rate} MB/s")
+}
+
+/// Says how many bytes went through since the start, or how fast.
+fn tell(rt: &HostRuntime, timed: bool, name: &str, bytes: usize, start: Instant) -> io::Result<()> {
+    if timed {
+        tell_rate(rt, name, bytes, start)
+    } else {
+        println!(rt; "{name} {bytes} bytes")
+    }
 }
 
 /// Writes the line of one target.
@@ -71,21 +77,23 @@ fn printed(rt: &HostRuntime, points: &Points) -> usize
     }
 }
 
-/// Reads, prints and writes that many lines.
-fn measure(rt: &HostRuntime, timed: bool, lines: u32) -> io::Result<()>
-    requires { lines ≤ most_points first_grid }
-{
-    let Some(text) = sample(rt, lines) else {
-        return Ok(());
-    };
+/// Reads a text, and prints its points; says whether it was read.
+fn measure_points(rt: &HostRuntime, timed: bool, text: &[u8]) -> io::Result<bool> {
     let start = Instant::now(rt)?;
-    let Ok(points) = parse(rt.alloc(), text.as_slice()) else {
-        return Ok(());
+    let Ok(points) = parse(rt.alloc(), text) else {
+        return Ok(false);
     };
     tell(rt, timed, "parse", text.len(), start)?;
     let start = Instant::now(rt)?;
     let bytes = printed(rt, &points);
     tell(rt, timed, "print", bytes, start)?;
+    Ok(true)
+}
+
+/// Writes that many lines of targets.
+fn measure_lines(rt: &HostRuntime, timed: bool, lines: u32) -> io::Result<()>
+    requires { lines ≤ most_points first_grid }
+{
     let line = line_length(rt).min(256);
     let start = Instant::now(rt)?;
     let bytes = if write_lines(lines) {
@@ -94,6 +102,19 @@ fn measure(rt: &HostRuntime, timed: bool, lines: u32) -> io::Result<()>
         0
     };
     tell(rt, timed, "write_target", bytes, start)
+}
+
+/// Reads, prints and writes that many lines.
+fn measure(rt: &HostRuntime, timed: bool, lines: u32) -> io::Result<()>
+    requires { lines ≤ most_points first_grid }
+{
+    let Some(text) = sample(rt, lines) else {
+        return Ok(());
+    };
+    if measure_points(rt, timed, text.as_slice())? {
+        measure_lines(rt, timed, lines)?;
+    }
+    Ok(())
 }
 
 pub fn run(rt: &HostRuntime, timed: bool) -> io::Result<()> {

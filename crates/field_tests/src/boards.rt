@@ -2,6 +2,7 @@
 use crate::compare::{FAR_TARGET, NINE_CHARGES};
 use complex_box::Work;
 use row_board::{Board, Name};
+use std::alloc::Global;
 use std::process::Abort;
 use std::test::Fail;
 use test_boxes::ends;
@@ -30,31 +31,43 @@ fn target_is_known(rt: &impl Abort, board: &Board<4>) {
 /// The points of the board.
 const POINTS: [(u32, &str); 2] = [NINE_CHARGES, (1, "target 8 0\n")];
 
-#[test]
-fn rows_in_order(rt: HostRuntime) -> Result<(), Fail> {
-    let alloc = rt.alloc();
+fn board_of_points(alloc: Global) -> Result<Board<4>, Fail> {
     let points = points_of(alloc, &POINTS)?;
-    let mut board = Board::<4>::new(alloc, &points, 8)?;
+    Ok(Board::<4>::new(alloc, &points, 8)?)
+}
+
+/// The place is filled now, or there is none.
+fn fills(rt: &impl Abort, board: &mut Board<4>, name: Name) {
+    assert!(rt; missing(board, name).is_none());
+}
+
+#[test]
+fn rows_below_wait(rt: HostRuntime) -> Result<(), Fail> {
+    let mut board = board_of_points(rt.alloc())?;
     assert!(rt; board.has(Name::Local(1)) && !board.has(Name::Local(18)));
     assert!(rt; missing(&mut board, Name::Local(1)) == Some(Name::Local(0)));
-    assert!(rt; missing(&mut board, Name::Local(0)).is_none());
-    assert!(rt; missing(&mut board, Name::Local(1)).is_none());
+    fills(&rt, &mut board, Name::Local(0));
+    fills(&rt, &mut board, Name::Local(1));
+    Ok(())
+}
+
+#[test]
+fn rows_in_order(rt: HostRuntime) -> Result<(), Fail> {
+    let mut board = board_of_points(rt.alloc())?;
     for n in (0..18usize).rev() {
-        assert!(rt; missing(&mut board, Name::Up(n)).is_none());
+        fills(&rt, &mut board, Name::Up(n));
     }
     for n in 0..18usize {
-        assert!(rt; missing(&mut board, Name::Local(n)).is_none());
+        fills(&rt, &mut board, Name::Local(n));
     }
-    assert!(rt; missing(&mut board, Name::Value(0)).is_none());
+    fills(&rt, &mut board, Name::Value(0));
     target_is_known(&rt, &board);
     Ok(())
 }
 
 #[test]
 fn rows_as_they_become_ready(rt: HostRuntime) -> Result<(), Fail> {
-    let alloc = rt.alloc();
-    let points = points_of(alloc, &POINTS)?;
-    let mut board = Board::<4>::new(alloc, &points, 8)?;
+    let mut board = board_of_points(rt.alloc())?;
     for _ in 0..20u32 {
         let _ = missing(&mut board, Name::Value(0));
         for n in 0..18usize {

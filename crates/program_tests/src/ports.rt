@@ -31,6 +31,28 @@ pub const SURE: Ports<'static> = Ports {
     failing_writes: &[],
 };
 
+/// The text in steps, where some reads fail.
+fn source_of(alloc: Global, text: &[u8], step: usize, failing: &[u64]) -> Result<MemSource, Fail>
+    requires { 0 < step }
+{
+    let bytes = Vec::from_slice(alloc, text)?;
+    let failing = Vec::from_slice(alloc, failing)?;
+    Ok(MemSource::new(bytes, step, failing))
+}
+
+/// A sink that takes steps, where some writes fail.
+fn sink_of(alloc: Global, step: usize, failing: &[u64]) -> Result<MemSink, Fail>
+    requires { 0 < step }
+{
+    let failing = Vec::from_slice(alloc, failing)?;
+    Ok(MemSink::with_room(alloc, 4096, step, failing)?)
+}
+
+/// The sink holds these bytes.
+fn holds(rt: &impl Abort, sink: &MemSink, written: &[u8]) {
+    assert_eq!(rt; sink.held(), written);
+}
+
 /// Runs the words on a text, and compares how it ended and what it wrote. Nothing is read or written beside that.
 pub fn expect(
     rt: &impl Abort,
@@ -44,24 +66,20 @@ pub fn expect(
     requires { 0 < ports.step }
 {
     let words = words_of(alloc, words)?;
-    let bytes = Vec::from_slice(alloc, text)?;
-    let failing_reads = Vec::from_slice(alloc, ports.failing_reads)?;
-    let failing_writes = Vec::from_slice(alloc, ports.failing_writes)?;
-    let mut points = MemSource::new(bytes, ports.step, failing_reads);
-    let mut out = MemSink::with_room(alloc, 4096, ports.step, failing_writes)?;
-    let mut nothing = SureSource::new(Vec::new(alloc));
-    let mut cert_out = MemSink::with_room(alloc, 4096, ports.step, Vec::new(alloc))?;
+    let mut points = source_of(alloc, text, ports.step, ports.failing_reads)?;
+    let mut out = sink_of(alloc, ports.step, ports.failing_writes)?;
+    let mut cert_out = sink_of(alloc, ports.step, &[])?;
     let answer = run(
         alloc,
         &words,
         &mut points,
-        &mut nothing,
+        &mut SureSource::new(Vec::new(alloc)),
         &mut out,
         &mut cert_out,
     );
     assert_eq!(rt; answer, status);
-    assert_eq!(rt; out.held(), written);
-    assert_eq!(rt; cert_out.held(), b"".as_slice());
+    holds(rt, &out, written);
+    holds(rt, &cert_out, b"");
     Ok(())
 }
 
