@@ -76,14 +76,14 @@ fn moments_of_nine_charges(rt: HostRuntime) {
     row_is(&rt, &nine_charges(SMALL), &MOMENTS);
 }
 
-fn small_kernel(alloc: Global) -> Result<Kernel<4>, Fail> {
+fn kernel_of_order_4(alloc: Global) -> Result<Kernel<4>, Fail> {
     Ok(Kernel::<4>::new(alloc).ok().ok_or("no memory")?)
 }
 
 /// The value at (2, 0) of the moments of nine charges two cells of side 1 to the west.
 #[test]
 fn far_cell(rt: HostRuntime) -> Result<(), Fail> {
-    let kernel = small_kernel(rt.alloc())?;
+    let kernel = kernel_of_order_4(rt.alloc())?;
     let moments = nine_charges(SMALL);
     let mut row = [CBox::zero(); 4];
     let mut work = Work::new();
