@@ -13,9 +13,13 @@ use Rattle.quadtree.specs.Tree.{HasTarget}
 use Rattle.quadtree.specs.TreeModel.{TreeModel, size, square_of, IsTreeOf}
 use Rattle.row_recursions.specs.Rows.{row_of, AreSameRows}
 use Rattle.tree_field.specs.Field.{multipole_row, local_row, local_radius, target_box, target_boxes, targets}
-use Rattle.tree_field.specs.Lists.{TreeLists, AreTreeLists}
+use Rattle.tree_field.specs.Lists.{TreeLists, OfTreeLists}
 use Rattle.tree_field.specs.Work.{pairs}
 use Rattle.field_basis.specs.Basis.{BasisModel, target_place}
+
+-- a fact of the lists of a basis
+abbrev pub OfLists : BasisModel → (TreeLists → Type 0) → Type 0
+OfLists b P = OfTreeLists b.tree.grid b.points b.cap P
 
 -- ---- multipole rows
 -- the row of cell n, with each capacity that gives the tree, and the radius 0
@@ -44,8 +48,7 @@ pub record HasNoRow (P : ℕ) (place : PlaceModel) : Type 0 where
 
 -- those of cell n where it has a target, and zero where it has none
 pub record IsLocalPlace (P : ℕ) (b : BasisModel) (n : ℕ) (place : PlaceModel) : Type 0 where
-  pub with_target : HasTarget b.points (square_of b.tree n) → (lists : TreeLists)
-      → AreTreeLists b.tree.grid b.points b.cap lists → HasLocalRow P b lists n place
+  pub with_target : HasTarget b.points (square_of b.tree n) → OfLists b (λ lists. HasLocalRow P b lists n place)
   pub without : (HasTarget b.points (square_of b.tree n) → ⊥) → HasNoRow P place
 
 -- there is a place for each cell, which holds these
@@ -61,12 +64,11 @@ pub record HasLocalPlace (P : ℕ) (b : BasisModel) (places : List PlaceModel) (
 -- ---- boxes
 -- the box of the k-th target, over the lists of the tree
 abbrev pub IsTargetBox : ℕ → BasisModel → ℕ → CBox → Type 0
-IsTargetBox P b k value = (lists : TreeLists) → AreTreeLists b.tree.grid b.points b.cap lists → box_ends value ≡ target_box b.points b.cap P lists (target_place b k)
+IsTargetBox P b k value = OfLists b (λ lists. box_ends value ≡ target_box b.points b.cap P lists (target_place b k))
 
 -- the boxes of all targets, in the order of the list
 abbrev pub AreTargetBoxes : ℕ → BasisModel → List CBox → Type 0
-AreTargetBoxes P b values =
-    (lists : TreeLists) → AreTreeLists b.tree.grid b.points b.cap lists → map box_ends values ≡ target_boxes b.points b.cap P lists
+AreTargetBoxes P b values = OfLists b (λ lists. map box_ends values ≡ target_boxes b.points b.cap P lists)
 
 -- the box of each target contains the direct sum there
 abbrev pub BoxesContain : List Point → List CBox → Type 0
@@ -74,4 +76,4 @@ BoxesContain points values = AllZip (λ t v. BoxContains unit v (direct_sum (pla
 
 -- the pairs of all targets
 abbrev pub AreAllPairs : BasisModel → ℕ → Type 0
-AreAllPairs b count = (lists : TreeLists) → AreTreeLists b.tree.grid b.points b.cap lists → count ≡ pairs b.points lists
+AreAllPairs b count = OfLists b (λ lists. count ≡ pairs b.points lists)

@@ -6,7 +6,7 @@ ghost use Rattle.io_ports.specs.Faults.{HasCause};
 ghost use Rattle.limits.specs.Limits.{first_grid, grid_of};
 ghost use Rattle.points.specs.Limits.{InRange, WithinLimits};
 ghost use Rattle.solve_phase.specs.Field.{IsSolved};
-ghost use Rattle.tree_field.specs.Lists.{TreeLists, AreTreeLists};
+ghost use Rattle.tree_field.specs.Lists.{OfTreeLists};
 
 use io_ports::{Sink, WriteFault};
 use points::{Mode, Point, Points};
@@ -23,8 +23,8 @@ fn write_targets<const P: usize, S: Sink>(
     requires range { All (InRange first_grid) points.now }
     requires field { IsSolved points.now field.now.basis.cap P field.now }
     requires grid { field.now.basis.tree.grid ≡ first_grid }
-    ensures bytes { (lists : TreeLists) → AreTreeLists first_grid points.now field.now.basis.cap lists
-        → Writes result (S.held sink.old) (S.held sink.new) (target_text mode points.now field.now.basis.cap P lists points.now) }
+    ensures bytes { OfTreeLists first_grid points.now field.now.basis.cap (λ lists.
+        Writes result (S.held sink.old) (S.held sink.new) (target_text mode points.now field.now.basis.cap P lists points.now)) }
     ensures cause { HasCause (S.faults sink.old) (S.faults sink.new) result }
 {
     let mut k = 0;
@@ -54,8 +54,8 @@ pub fn write_report<const P: usize, S: Sink>(
     requires list { WithinLimits points.now }
     requires field { IsSolved points.now.list cap P field.now }
     requires grid { field.now.basis.tree.grid ≡ grid_of points.now.version }
-    ensures bytes { (lists : TreeLists) → AreTreeLists (grid_of points.now.version) points.now.list cap lists
-        → Writes result (S.held sink.old) (S.held sink.new) (field_text points.now P cap lists) }
+    ensures bytes { OfTreeLists (grid_of points.now.version) points.now.list cap (λ lists.
+        Writes result (S.held sink.old) (S.held sink.new) (field_text points.now P cap lists)) }
     ensures cause { HasCause (S.faults sink.old) (S.faults sink.new) result }
 {
     write_head(points.mode, P as u32, cap, sink)?;

@@ -80,10 +80,6 @@ told_any : (left : Option (List ℕ)) (P Q : List ℕ → Type 0) → ((input : 
 told_any None P Q h p = tt
 told_any (Some xs) P Q h p = h xs p
 
-any_told : (left : Option (List ℕ)) (P : List ℕ → Type 0) → ((input : List ℕ) → P input) → IfSome left P
-any_told None P h = tt
-any_told (Some xs) P h = h xs
-
 module _ (order cap : ℕ) (left rest : Option (List ℕ)) (r s : ℕ) (status : Status) where
   abbrev EndsFor : Flow → Flow → List ℕ → Type 0
   EndsFor out cert input = Ends (SolveAnswers order cap input) status out cert
@@ -114,11 +110,6 @@ module _ (order cap : ℕ) (left rest : Option (List ℕ)) (r s : ℕ) (status :
       other : (status ≡ Refused) ⊎ (status ≡ WriteFault) → status ≡ ReadFault → ⊥
       other (inl e) h = cc
       other (inr e) h = cc
-
-  -- it was not read whole, and nothing went out
-  pub unread_run : (out : Flow) (bytes : List ℕ) → Consumes left rest bytes → ((input : List ℕ) → EndsFor out untold input) → (status ≡ ReadFault → Rose r s) → (status ≡ WriteFault → ⊥)
-      → SolveRun order cap status (flow left rest r s) out untold
-  unread_run out bytes p ends read write = solve_run out untold (any_told left (EndsFor out untold) ends) (bytes, p, ends bytes) read (λ h. absurd (write h))
 
 -- after a flush, where the port of a certificate stays as it is
 module _ (order cap : ℕ) (left rest : Option (List ℕ)) (r s : ℕ) (before mid after cert : Option (List ℕ)) (kept : Keeps mid after) (b m a c d : ℕ) (status result : Status) (stays : (result ≡ status) ⊎ (result ≡ WriteFault))

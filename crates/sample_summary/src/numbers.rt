@@ -6,7 +6,7 @@ ghost use Rattle.points.specs.Points.{is_source};
 ghost use Rattle.quadtree.specs.TreeModel.{size, node_of};
 ghost use Rattle.sample_summary.specs.Summary.{summary_of};
 ghost use Rattle.solve_phase.specs.Field.{IsSolved};
-ghost use Rattle.tree_field.specs.Lists.{TreeLists, AreTreeLists};
+ghost use Rattle.tree_field.specs.Lists.{OfTreeLists};
 
 use crate::widths::Widest;
 use letters::Letter;
@@ -58,8 +58,7 @@ impl Summary {
     pub(crate) fn of<const P: usize>(points: &[Point], field: &Field<P>) -> Summary
         requires field { IsSolved points.now field.now.basis.cap P field.now }
         requires grid { field.now.basis.tree.grid ≡ first_grid }
-        ensures { (lists : TreeLists) → AreTreeLists first_grid points.now field.now.basis.cap lists
-            → result ≡ summary_of points.now field.now.basis.cap P lists }
+        ensures { OfTreeLists first_grid points.now field.now.basis.cap (λ lists. result ≡ summary_of points.now field.now.basis.cap P lists) }
     {
         let tree = field.tree();
         let lists = field.lists();

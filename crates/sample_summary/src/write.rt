@@ -6,7 +6,7 @@ ghost use Rattle.limits.specs.Limits.{first_grid};
 ghost use Rattle.sample_summary.specs.Summary.{summary_of};
 ghost use Rattle.sample_summary.specs.Text.{summary_text};
 ghost use Rattle.solve_phase.specs.Field.{IsSolved};
-ghost use Rattle.tree_field.specs.Lists.{TreeLists, AreTreeLists};
+ghost use Rattle.tree_field.specs.Lists.{OfTreeLists};
 
 use crate::numbers::Summary;
 use crate::text::summary_text;
@@ -31,8 +31,8 @@ pub fn write_summary<const P: usize, S: Sink>(
 ) -> Result<(), WriteFault>
     requires field { IsSolved points.now.list cap P field.now }
     requires grid { field.now.basis.tree.grid ≡ first_grid }
-    ensures bytes { (lists : TreeLists) → AreTreeLists first_grid points.now.list cap lists
-        → Writes result (S.held sink.old) (S.held sink.new) (summary_text seed (length points.now.list) P cap (summary_of points.now.list cap P lists)) }
+    ensures bytes { OfTreeLists first_grid points.now.list cap (λ lists.
+        Writes result (S.held sink.old) (S.held sink.new) (summary_text seed (length points.now.list) P cap (summary_of points.now.list cap P lists))) }
     ensures cause { HasCause (S.faults sink.old) (S.faults sink.new) result }
 {
     let summary = Summary::of(points.list.points(), field);

@@ -11,7 +11,7 @@ use Rattle.row_recursions.specs.Fields.{HoldsField}
 use Rattle.row_recursions.specs.Geometry.{doubled_centre}
 use Rattle.row_recursions.specs.Moments.{HoldsMoments}
 use Rattle.row_recursions.specs.Rows.{row_of}
-use Rattle.tree_field.specs.Lists.{TreeLists, AreTreeLists}
+use Rattle.tree_field.specs.Lists.{TreeLists, OfTreeLists}
 use Rattle.solve_phase.specs.Parts.{FieldParts}
 
 -- the first P boxes contain the moments of the sources in the cell c about its centre
@@ -25,5 +25,5 @@ ContainsField P points lists c row = HoldsField P (side c) (doubled_centre c) (l
 -- the multipole row of each cell, and over the lists of the tree the local row of each cell with a target
 pub record RowsContain (points : List Point) (P : ℕ) (f : FieldParts) : Type 0 where
   pub moments : (n : ℕ) → n < size f.basis.tree → ContainsMoments P points (square_of f.basis.tree n) (place_at f.up n).row
-  pub fields : (lists : TreeLists) → AreTreeLists f.basis.tree.grid points f.basis.cap lists → (n : ℕ) → n < size f.basis.tree
-      → HasTarget points (square_of f.basis.tree n) → ContainsField P points lists (square_of f.basis.tree n) (place_at f.local n).row
+  pub fields : OfTreeLists f.basis.tree.grid points f.basis.cap (λ lists.
+      (n : ℕ) → n < size f.basis.tree → HasTarget points (square_of f.basis.tree n) → ContainsField P points lists (square_of f.basis.tree n) (place_at f.local n).row)

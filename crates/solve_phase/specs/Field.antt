@@ -8,7 +8,7 @@ use Rattle.letters.specs.declared.Letter.TheVariants.{V}
 use Rattle.points.specs.declared.Point.{Point}
 use Rattle.quadtree.specs.TreeModel.{IsTreeOf}
 use Rattle.tree_field.specs.Field.{target_boxes}
-use Rattle.tree_field.specs.Lists.{TreeLists, AreTreeLists}
+use Rattle.tree_field.specs.Lists.{TreeLists, OfTreeLists}
 use Rattle.tree_field.specs.Work.{translations, pairs}
 use Rattle.solve_phase.specs.Parts.{FieldParts}
 
@@ -28,4 +28,4 @@ pub record IsSolved (points : List Point) (cap P : ℕ) (f : FieldParts) : Type 
   pub lists_are : AreLists f.basis.tree f.basis.lists
   pub up_are : AreAllMultipolePlaces P f.basis.points f.basis.tree f.up
   pub local_are : AreAllLocalPlaces P f.basis f.local
-  pub over : (lists : TreeLists) → AreTreeLists f.basis.tree.grid points cap lists → IsFieldOver points cap P lists f
+  pub over : OfTreeLists f.basis.tree.grid points cap (λ lists. IsFieldOver points cap P lists f)

@@ -24,3 +24,7 @@ pub record AreTreeLists (grid : ℕ) (points : List Point) (cap : ℕ) (lists : 
   pub of_grid : lists.grid ≡ grid
   pub cells_are : AreTreeCells grid points cap lists.cells
   pub entries_are : (letter : Letter) (b : Square) → IsTreeCell grid points cap b → AreEntriesOf grid points cap letter b (lists.entries letter b)
+
+-- a fact of the lists of the points with a leaf capacity, of which there is one by a law
+abbrev pub OfTreeLists : ℕ → List Point → ℕ → (TreeLists → Type 0) → Type 0
+OfTreeLists grid points cap P = (lists : TreeLists) → AreTreeLists grid points cap lists → P lists
