@@ -6,8 +6,12 @@ mod lines;
 #[cfg(test)]
 mod ports;
 #[cfg(test)]
+mod reports;
+#[cfg(test)]
 mod runs;
 #[cfg(test)]
 mod samples;
+#[cfg(test)]
+mod texts;
 #[cfg(test)]
 mod trees;

@@ -53,16 +53,15 @@ fn holds(rt: &impl Abort, sink: &MemSink, written: &[u8]) {
     assert_eq!(rt; sink.held(), written);
 }
 
-/// Runs the words on a text, and compares how it ended and what it wrote. Nothing is read or written beside that.
-pub fn expect(
+/// What a run of the words on a text writes. It ends with this status, and nothing is read or written beside that.
+pub fn output_of(
     rt: &impl Abort,
     alloc: Global,
     words: &[&str],
     text: &[u8],
     ports: Ports<'_>,
     status: Status,
-    written: &[u8],
-) -> Result<(), Fail>
+) -> Result<MemSink, Fail>
     requires { 0 < ports.step }
 {
     let words = words_of(alloc, words)?;
@@ -78,9 +77,42 @@ pub fn expect(
         &mut cert_out,
     );
     assert_eq!(rt; answer, status);
-    holds(rt, &out, written);
     holds(rt, &cert_out, b"");
+    Ok(out)
+}
+
+/// Runs the words on a text, and compares how it ended and what it wrote. Nothing is read or written beside that.
+pub fn expect(
+    rt: &impl Abort,
+    alloc: Global,
+    words: &[&str],
+    text: &[u8],
+    ports: Ports<'_>,
+    status: Status,
+    written: &[u8],
+) -> Result<(), Fail>
+    requires { 0 < ports.step }
+{
+    let out = output_of(rt, alloc, words, text, ports, status)?;
+    holds(rt, &out, written);
     Ok(())
+}
+
+/// Runs the words on a text where all is written, a byte at a time, and the flush behind it fails.
+pub fn flush_fails(
+    rt: &impl Abort,
+    alloc: Global,
+    words: &[&str],
+    text: &[u8],
+    written: &[u8],
+) -> Result<(), Fail> {
+    let flush = [written.len() as u64 + 1];
+    let ports = Ports {
+        step: 1,
+        failing_writes: &flush,
+        ..SURE
+    };
+    expect(rt, alloc, words, text, ports, Status::WriteFault, written)
 }
 
 /// The words of a solve at order 8 with 8 points a leaf.

@@ -1,7 +1,7 @@
 //! Worked examples of one leaf through the top call.
 ghost use Rattle.std.specs.Prelude.{◌<◌};
 
-use crate::ports::{Ports, SOLVE, SURE, expect, words_of};
+use crate::ports::{Ports, SOLVE, SURE, expect, flush_fails, words_of};
 use fmm_program::{Opening, Status, plan, run};
 use io_ports::{BrokenSink, BrokenSource, DropSink, MemSink, SureSource};
 use std::alloc::Global;
@@ -254,6 +254,21 @@ fn usage(rt: HostRuntime) -> Result<(), Fail> {
     for &words in &WRONG {
         let text = b"fmm 1 field\n";
         expect(&rt, rt.alloc(), words, text, SURE, Status::Usage, USAGE)?;
+    }
+    Ok(())
+}
+
+/// Words and a text, and the report, the line of refusal or the usage line that they get.
+const FLUSHED: [(&[&str], &[u8], &[u8]); 3] = [
+    (&SOLVE, ONE_PAIR, ONE_PAIR_REPORT),
+    (&SOLVE, b"", b"refused line 1 syntax\n"),
+    (&[], ONE_PAIR, USAGE),
+];
+
+#[test]
+fn flush_faults(rt: HostRuntime) -> Result<(), Fail> {
+    for &(words, text, written) in &FLUSHED {
+        flush_fails(&rt, rt.alloc(), words, text, written)?;
     }
     Ok(())
 }

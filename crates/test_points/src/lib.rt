@@ -29,28 +29,44 @@ pub fn points_of(alloc: Global, lines: &[(u32, &str)]) -> Result<Points, ParseFa
     }
 }
 
-/// Appends nine charges at a place, and seven targets near it.
-fn push_group(alloc: Global, text: &mut Vec<u8>, x: i32, y: i32) -> Result<(), AllocError> {
+/// Appends nine charges at a place, and targets so far to the east of it.
+fn push_group(
+    alloc: Global,
+    text: &mut Vec<u8>,
+    x: i32,
+    y: i32,
+    easts: &[u16],
+) -> Result<(), AllocError> {
     let charge = format!(in alloc; "charge {x} {y} 1\n")?;
     for _ in 0..9u8 {
         text.extend_from_slice(charge.as_bytes())?;
     }
-    for east in [512i64, 256, 128, 64, 32, 16, 8] {
-        let target = format!(in alloc; "target {} {y}\n", i64::from(x) + east)?;
+    for &east in easts {
+        let target = format!(in alloc; "target {} {y}\n", i64::from(x) + i64::from(east))?;
         text.extend_from_slice(target.as_bytes())?;
     }
     Ok(())
 }
 
-/// The text of 64 times 64 such groups: as many points as a list may have, in more cells than a tree may have.
-pub fn full_text(alloc: Global) -> Result<Vec<u8>, AllocError> {
+/// The text of 64 times 64 such groups.
+fn groups_text(alloc: Global, easts: &[u16]) -> Result<Vec<u8>, AllocError> {
     let mut text = Vec::from_slice(alloc, b"fmm 1 field\n")?;
     for i in 0..64u8 {
         for j in 0..64u8 {
             let x = 1024 * i32::from(i) - 32_768;
             let y = 1024 * i32::from(j) - 32_768;
-            push_group(alloc, &mut text, x, y)?;
+            push_group(alloc, &mut text, x, y, easts)?;
         }
     }
     Ok(text)
+}
+
+/// A text of as many points as a list may have, in more cells than a tree may have.
+pub fn full_text(alloc: Global) -> Result<Vec<u8>, AllocError> {
+    groups_text(alloc, &[512, 256, 128, 64, 32, 16, 8])
+}
+
+/// A text of 53,248 points, whose tree at capacity 8 has 62,805 cells.
+pub fn large_text(alloc: Global) -> Result<Vec<u8>, AllocError> {
+    groups_text(alloc, &[512, 256, 128, 64])
 }

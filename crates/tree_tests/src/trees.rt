@@ -6,7 +6,7 @@ use quadtree::{Tree, TreeFault};
 use std::alloc::Global;
 use std::process::Abort;
 use std::test::Fail;
-use test_points::{full_text, points_of};
+use test_points::{full_text, large_text, points_of};
 
 /// How many cells the tree of such a list has.
 fn cells_of(alloc: Global, lines: &[(u32, &str)]) -> Result<usize, Fail> {
@@ -123,6 +123,19 @@ fn crowded_places(rt: HostRuntime) -> Result<(), Fail> {
 fn the_fullest_place(rt: HostRuntime) -> Result<(), Fail> {
     let most = cells_of(rt.alloc(), &[(4095, "charge 0 0 1\n"), (1, "target 0 0\n")])?;
     assert_eq!(rt; most, 17);
+    Ok(())
+}
+
+/// 1,365 cells of levels 0 to 5, and 15 for each of 4,096 groups: nearly as many as a tree may have.
+#[test]
+fn a_large_tree(rt: HostRuntime) -> Result<(), Fail> {
+    let alloc = rt.alloc();
+    let points = parse(alloc, &large_text(alloc)?)?;
+    let tree = Tree::build(alloc, &points, 8)?;
+    assert_eq!(rt;
+        (points.list.points().len(), tree.cells().len()),
+        (53_248, 62_805)
+    );
     Ok(())
 }
 

@@ -1,0 +1,256 @@
+//! Texts of points in clusters, whose trees have entries of all four letters.
+
+/// Charges, dipoles and targets.
+pub const MIXED: &str = "\
+fmm 1 field
+dipole 20135 -20529 392 154
+dipole 8303 -26292 -289 -399
+charge 8287 -26235 -229
+dipole 19983 -20698 485 -474
+target 19857 -20882
+charge 8276 -26263 310
+dipole 19882 -20852 220 369
+target -8217 27520
+target -8219 27532
+dipole -8223 27540 -26 67
+dipole 8292 -26281 -347 238
+target 19840 -20908
+charge 20244 -20872 137
+charge 8260 -26254 467
+dipole -8423 27208 -206 405
+target 8275 -26263
+charge -8223 27540 400
+charge -8223 27541 -57
+charge -7101 -10377 153
+charge -8228 27517 75
+charge -8188 27833 68
+dipole -7087 -10379 -496 -46
+dipole -8203 27543 17 -177
+dipole 19878 -20890 -342 -147
+target 8285 -26270
+dipole 19846 -20866 -181 -365
+target -8018 27888
+target 8276 -26261
+charge 8251 -26260 -297
+dipole 19855 -20884 82 -4
+charge 8277 -26256 221
+target -8202 27538
+dipole -7482 -10527 -90 -158
+target -8113 27794
+charge -7112 -10376 342
+dipole -8223 27541 -329 -295
+charge 19856 -20884 334
+charge -7116 -10375 102
+charge -8106 27487 379
+charge 19859 -20887 287
+target 19855 -20882
+dipole -7114 -10374 -332 150
+target 8257 -26275
+charge -8428 27369 171
+target 8278 -26264
+charge 8275 -26264 155
+target -7099 -10355
+target 19835 -20892
+target -8223 27542
+charge 8277 -26261 337
+dipole -7105 -10347 -471 90
+target 19502 -21037
+target 19880 -20872
+charge 19840 -20912 -475
+target 19588 -20966
+target -8303 27817
+dipole 19858 -20880 -182 -480
+charge -8113 27629 -325
+charge -7912 27872 -400
+charge -8551 27655 343
+charge 19690 -20650 426
+dipole 19777 -20889 -197 154
+dipole -6942 -9992 -384 -267
+charge -8233 27558 -57
+charge -7109 -10362 -68
+charge 8275 -26263 -255
+target -8567 27302
+target -8222 27542
+dipole 19854 -20882 278 469
+target 8543 -26395
+dipole -7294 -10197 209 -13
+dipole 19854 -20900 -107 -8
+dipole -8220 27549 -489 -217
+dipole -8218 27531 -429 -441
+target -7124 -10377
+target -8386 27481
+target 19530 -21141
+target 8273 -26237
+dipole 8278 -26263 -239 456
+target -8221 27540
+charge -7983 27185 309
+dipole 19706 -20682 149 284
+charge 8146 -26411 -74
+charge -8223 27541 248
+target 8560 -26283
+target -7128 -10392
+dipole 8167 -26616 -350 -238
+target -7116 -10376
+charge -8196 27538 190
+target 19857 -20881
+";
+
+/// Dipoles and targets.
+pub const DIPOLES: &str = "\
+fmm 1 field
+dipole -430 170 280 -49
+dipole -537 277 -343 335
+dipole -384 132 231 -65
+dipole 125 535 -93 404
+dipole -361 636 -111 55
+target 385 608
+target -538 279
+dipole 269 325 -397 -137
+target -513 264
+dipole 414 606 -133 198
+target -359 -186
+dipole -561 300 -399 -489
+target -366 -213
+target -441 -500
+target -358 -189
+dipole -360 -190 -386 25
+target -565 274
+dipole -578 -113 -147 -384
+dipole -684 31 -61 472
+target 410 619
+target -563 -125
+dipole 379 637 -39 -226
+dipole -579 -113 380 -260
+dipole 778 266 126 30
+dipole 395 613 47 -239
+dipole -575 -112 -356 191
+target -567 126
+dipole -361 -186 215 -473
+dipole -566 298 -262 307
+target -536 275
+dipole -538 275 -398 104
+dipole -537 263 425 -157
+target 403 596
+dipole -183 582 -253 9
+dipole -528 251 -310 251
+dipole -536 277 -283 -113
+target -681 -408
+dipole -535 277 -198 -372
+dipole -472 -438 -299 -225
+dipole 397 610 -182 388
+dipole 398 612 -224 305
+dipole 397 611 -349 -447
+dipole -780 -140 -337 -125
+dipole -338 -161 -181 112
+dipole 396 611 -485 342
+target -539 275
+target -536 277
+target 396 614
+dipole -343 -212 179 96
+dipole -522 302 -329 202
+target -338 -168
+target 112 1010
+target 396 612
+dipole -360 -186 268 402
+dipole -539 277 3 -349
+dipole -823 312 -353 1
+dipole -537 279 -207 -256
+target 19 -260
+dipole 39 -499 43 -172
+dipole -571 -139 -111 244
+target -252 437
+target -357 -178
+dipole -586 -85 -444 163
+dipole -358 -189 -228 -448
+dipole -635 181 -167 64
+dipole -341 -195 -418 -359
+dipole -576 -112 -240 184
+target -577 -114
+target 395 613
+target -285 371
+";
+
+/// Vortices, dipoles and targets.
+pub const VORTICES: &str = "\
+fmm 1 velocity
+vortex -7996 -11709 470
+target -10763 -7331
+target -3806 -4243
+dipole -7973 -11713 -158 416
+dipole -3775 -4226 -320 -437
+dipole 10753 -6300 -339 192
+vortex -3777 -4228 -222
+vortex -7997 -11660 -359
+vortex 10642 -6165 408
+dipole -3779 -4237 427 -324
+dipole -3778 -4227 -5 -300
+vortex 11064 -6353 251
+dipole -7967 -11688 118 -262
+target -10763 -7332
+vortex -7892 -11322 -122
+dipole -11141 -6953 28 -225
+dipole -10440 -7344 -341 -486
+vortex -3766 -4221 -410
+vortex -10900 -7134 -62
+vortex -10793 -7313 -183
+vortex -3582 -4237 -43
+target -3668 -4363
+vortex 10750 -6330 222
+target -10742 -7316
+vortex -7953 -11666 85
+target -7951 -11682
+dipole -10765 -7333 -106 -336
+vortex -3517 -4236 -67
+dipole 10744 -6282 -285 -393
+dipole 10733 -6288 420 -370
+target 10780 -6317
+target -3788 -4230
+dipole -4047 -4082 319 -348
+vortex -10755 -7338 140
+target -10865 -7273
+vortex -10766 -7331 68
+vortex -7969 -11691 -71
+vortex -7967 -11689 323
+dipole -10766 -7330 130 -434
+vortex -3985 -4445 66
+target 10756 -6305
+vortex 10667 -5951 321
+target -3775 -4222
+dipole 10768 -6271 476 -43
+target -3778 -4228
+target -10766 -7330
+target 10752 -6292
+vortex -7969 -11691 -494
+vortex -10753 -7302 -240
+target -7969 -11692
+target -3759 -4204
+vortex -10763 -7331 222
+vortex -7692 -11975 -320
+vortex -7859 -11954 -417
+dipole -10764 -7312 277 198
+target -3797 -4211
+target -3795 -4249
+vortex 10408 -6487 -128
+vortex -7969 -11690 477
+vortex -10765 -7330 334
+dipole -10765 -7332 -483 -436
+vortex -3768 -4230 -185
+target -10764 -7332
+dipole -3924 -4433 -480 338
+dipole -10497 -7509 -45 415
+dipole -10762 -7334 -290 -39
+dipole -3776 -4229 138 46
+dipole 10727 -6323 313 -109
+target -3950 -3835
+vortex -3755 -4234 -356
+target 10384 -5924
+target -7944 -11685
+target -4111 -4494
+dipole -10682 -7091 -272 256
+vortex -10690 -7039 104
+target -7991 -11685
+dipole -3549 -3961 464 459
+vortex -10383 -7088 -313
+vortex -10779 -7332 268
+target 10529 -6642
+";
