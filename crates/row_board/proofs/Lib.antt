@@ -7,4 +7,5 @@ pub mod FullBoard
 pub mod FullWork
 pub mod Missing
 pub mod Needed
+pub mod Needs
 pub mod Values

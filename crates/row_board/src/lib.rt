@@ -11,5 +11,5 @@ mod name;
 mod search;
 
 pub use board::Board;
-pub use law::full_board;
+pub use law::{full_board, needs_are_places};
 pub use name::{Name, NotReady};
