@@ -3,7 +3,11 @@ use Rattle.std.proofs.Common.{ℕ, ◌≡◌, ◌+◌, ◌≤◌, ◌<◌, ℤ, 
 use Rattle.std.specs.Int.{w128}
 use Rattle.std.specs.Prelude.{Contains, sum_by}
 use Rattle.std.specs.List.{range_with_len}
+use Rattle.std.proofs.Math.ListN.{set}
+use Rattle.std.proofs.lemmas.Bool.{cases_lt}
 use Rattle.std.proofs.lemmas.Int.{ints}
+use Rattle.std.proofs.lemmas.List.{get_or-set_same, get_or-set_other}
+use mathlib.Core.Logic.{⊎_elim}
 use Rattle.std.proofs.lemmas.List.Elements.{Contains-get_or}
 use Rattle.std.proofs.lemmas.List.Filters.{sum_by-filter_both}
 use Rattle.std.proofs.lemmas.List.Sums.{sum_by-cons, sum_by-le-sum_by, sum_by_more_le}
@@ -26,6 +30,7 @@ use Rattle.exact_math.proofs.Lists.{range_below}
 use Rattle.tree_field.proofs.Program.{nodes_of_tree}
 use Rattle.soundness.proofs.Sums.{sum_by-map}
 use Rattle.field_basis.specs.Trees.{IsTreeOfPoints}
+use Rattle.field_basis.specs.Weights.{IsWeight}
 
 abbrev weighs : ℕ → Point → ℕ
 weighs P p = weight P (source_of p)
@@ -58,6 +63,16 @@ pub light_sum : (total w : ℤ) (a b : ℕ) → total ≡ pos a → w ≡ pos b 
 light_sum total w a b t e small =
     let i : to_z w128 (of_z w128 w) ≡ pos b = omega (arith, ints, e, small) in
     omega (arith, ints, i, t, small)
+
+-- ---- a weight is written
+pub weight_kept : (w : ℤ) → IsWeight w → to_z w128 (of_z w128 w) ≡ w
+weight_kept w h = omega (arith, ints, h.least, h.most)
+
+pub one_more : (p : ℕ → ℤ → Type 0) (weights : List ℤ) (n : ℕ) (w : ℤ) → n < length weights → p n w → ((m : ℕ) → m < n → p m (get_or weights m (pos 0))) → (m : ℕ) → m < n + 1 → p m (get_or (set weights n w) m (pos 0))
+one_more p weights n w lt here before m below =
+    ⊎_elim (λ less. subst (p m) (sym (get_or-set_other weights n m w (pos 0) (λ e. omega (arith, less, e)))) (before m less))
+    (λ ge. let e : n ≡ m = omega (arith, ge, below) in subst (λ j. p j (get_or (set weights n w) j (pos 0))) e (subst (p n) (sym (get_or-set_same weights n w (pos 0) lt)) here))
+    (cases_lt m n)
 
 -- ---- the members of a cell
 member_inside : (points : List Point) (c : Square) (k : ℕ) → Contains (members_of points c) k → k < length points

@@ -1,6 +1,7 @@
 //! The basis.
 ghost use Rattle.std.specs.Prelude.{◌≡◌, ◌≤◌, length, All, IfOk};
 ghost use Rattle.exact_math.specs.Orders.{IsCapacity, IsOrder};
+ghost use Rattle.cell_lists.specs.Lists.{AreLists, VListsAreShort};
 ghost use Rattle.points.specs.Limits.{AreWithin};
 ghost use Rattle.quadtree.specs.TreeModel.{IsTreeOf, size};
 ghost use Rattle.field_basis.specs.Basis.{IsBasis};
@@ -86,6 +87,29 @@ impl<const P: usize> Basis<P> {
         let Ok(kernel) = Kernel::new(alloc) else {
             return Err(AllocError);
         };
+        Basis::with_lists(alloc, points, cap, tree, lists, kernel)
+    }
+
+    /// The basis over the tree of the points with the tree's lists and the kernel.
+    fn with_lists(
+        alloc: Global,
+        points: &[Point],
+        cap: u32,
+        tree: Tree,
+        lists: EntryLists,
+        kernel: Kernel<P>,
+    ) -> Result<Basis<P>, AllocError>
+        requires order { IsOrder P }
+        requires within { AreWithin tree.grid points.now }
+        requires capacity { IsCapacity cap }
+        requires tree { IsTreeOf tree points.now cap }
+        requires lists { AreLists tree lists }
+        requires short { VListsAreShort lists }
+        ensures stands { IfOk result (λ basis. IsBasis P basis) }
+        ensures points { IfOk result (λ basis. basis.points ≡ points.now) }
+        ensures cap { IfOk result (λ basis. basis.cap ≡ cap) }
+        ensures tree { IfOk result (λ basis. basis.tree ≡ tree) }
+    {
         let weights = cell_weights(alloc, &tree, points, P as u32)?;
         let targets = target_positions(alloc, points)?;
         let points = Vec::from_slice(alloc, points)?;

@@ -11,8 +11,7 @@ use Rattle.complex_box.specs.declared.CBox.{CBox}
 use Rattle.field_basis.specs.Basis.{IsBasis}
 use Rattle.field_basis.specs.FieldPlaces.{HasNoRow}
 use Rattle.places.specs.Place.{PlaceModel, no_place, place_at}
-use Rattle.quadtree.specs.TreeModel.{size}
-use Rattle.row_board.specs.Board.{IsBoard, IsZeroPlace}
+use Rattle.row_board.specs.Board.{IsBoard, IsZeroPlace, AreEmptyPlaces}
 use Rattle.row_board.specs.Names.{is_filled}
 use Rattle.row_board.specs.Parts.{BoardParts}
 use Rattle.row_board.specs.declared.name.Name.{Name}
@@ -31,25 +30,14 @@ no_row P places rows radii n = record {
   radius_is = read_at (λ (p : PlaceModel). p.radius ≡ 0) places no_place refl radii n;
 }
 
--- no mark is set
+-- there is a mark for each place, and none is set
 pub record NoneIsMarked (b : BoardParts) : Type 0 where
+  pub up_marks : length b.has_up ≡ length b.up
+  pub local_marks : length b.has_local ≡ length b.local
+  pub value_marks : length b.has_value ≡ length b.values
   pub up : All (λ mark. mark ≡ false) b.has_up
   pub local : All (λ mark. mark ≡ false) b.has_local
   pub value : All (λ mark. mark ≡ false) b.has_value
-
--- there is a place for each row, and it holds zero
-pub record AreEmptyPlaces (b : BoardParts) : Type 0 where
-  pub up_each : length b.up ≡ size b.basis.tree
-  pub local_each : length b.local ≡ size b.basis.tree
-  pub value_each : length b.values ≡ length b.basis.targets
-  pub up_marks : length b.has_up ≡ size b.basis.tree
-  pub local_marks : length b.has_local ≡ size b.basis.tree
-  pub value_marks : length b.has_value ≡ length b.basis.targets
-  pub up_rows : All (λ p. All IsZero p.row) b.up
-  pub up_radii : All (λ p. p.radius ≡ 0) b.up
-  pub local_rows : All (λ p. All IsZero p.row) b.local
-  pub local_radii : All (λ p. p.radius ≡ 0) b.local
-  pub values : All IsZero b.values
 
 module _ (b : BoardParts) (marks : NoneIsMarked b) where
   pub none_filled : (name : Name) → is_filled b name ≡ false
@@ -57,11 +45,11 @@ module _ (b : BoardParts) (marks : NoneIsMarked b) where
   none_filled (Local n) = read_at (λ mark. mark ≡ false) b.has_local false refl marks.local n
   none_filled (Value k) = read_at (λ mark. mark ≡ false) b.has_value false refl marks.value k
 
-  module _ (P : ℕ) (basis : IsBasis P b.basis) (places : AreEmptyPlaces b) where
+  module _ (P : ℕ) (basis : IsBasis P b.basis) (places : AreEmptyPlaces b.basis b.up b.local b.values) where
     all_zero : (name : Name) → IsZeroPlace P b name
     all_zero (Up n) = no_row P b.up places.up_rows places.up_radii n
     all_zero (Local n) = no_row P b.local places.local_rows places.local_radii n
-    all_zero (Value k) = zero_at b.values places.values k
+    all_zero (Value k) = zero_at b.values places.boxes k
 
     pub empty_board : IsBoard P b
     empty_board = record {
@@ -69,9 +57,9 @@ module _ (b : BoardParts) (marks : NoneIsMarked b) where
       up_each = places.up_each;
       local_each = places.local_each;
       value_each = places.value_each;
-      up_marks = places.up_marks;
-      local_marks = places.local_marks;
-      value_marks = places.value_marks;
+      up_marks = marks.up_marks ∙ places.up_each;
+      local_marks = marks.local_marks ∙ places.local_each;
+      value_marks = marks.value_marks ∙ places.value_each;
       named = λ name t. absurd (false≢true (sym (none_filled name) ∙ t));
       filled = λ name t. absurd (false≢true (sym (none_filled name) ∙ t));
       empty = λ name f. all_zero name;

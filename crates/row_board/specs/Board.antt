@@ -1,14 +1,14 @@
 -- What the places of a board hold: filled places hold what the field has, and the others zero.
-use Rattle.std.specs.Prelude.{ℕ, ◌≡◌, ◌≢◌, true, false, length}
+use Rattle.std.specs.Prelude.{ℕ, ◌≡◌, ◌≢◌, true, false, List, length, All}
 use Rattle.exact_math.specs.Ends.{zero_box}
 use Rattle.complex_box.specs.Box.{box_ends}
 use Rattle.complex_box.specs.Counts.{Counts}
-use Rattle.complex_box.specs.Rows.{at}
+use Rattle.complex_box.specs.Rows.{at, IsZero}
 use Rattle.complex_box.specs.declared.CBox.{CBox}
-use Rattle.field_basis.specs.Basis.{IsBasis}
+use Rattle.field_basis.specs.Basis.{BasisModel, IsBasis}
 use Rattle.field_basis.specs.Counts.{shifts_into, translations_into, pairs_of_target, translated, paired}
 use Rattle.field_basis.specs.FieldPlaces.{IsMultipolePlace, IsLocalPlace, HasNoRow, IsTargetBox}
-use Rattle.places.specs.Place.{place_at}
+use Rattle.places.specs.Place.{PlaceModel, place_at}
 use Rattle.quadtree.specs.TreeModel.{size}
 use Rattle.row_board.specs.Names.{IsName, is_filled}
 use Rattle.row_board.specs.Parts.{BoardParts}
@@ -50,6 +50,17 @@ pub record IsBoard (P : ℕ) (b : BoardParts) : Type 0 where
   pub named : (name : Name) → is_filled b name ≡ true → IsName b name
   pub filled : (name : Name) → is_filled b name ≡ true → IsOfField P b name
   pub empty : (name : Name) → is_filled b name ≡ false → IsZeroPlace P b name
+
+-- there is a place for each row of a basis, and it holds zero
+pub record AreEmptyPlaces (basis : BasisModel) (up local : List PlaceModel) (values : List CBox) : Type 0 where
+  pub up_each : length up ≡ size basis.tree
+  pub local_each : length local ≡ size basis.tree
+  pub value_each : length values ≡ length basis.targets
+  pub up_rows : All (λ p. All IsZero p.row) up
+  pub up_radii : All (λ p. p.radius ≡ 0) up
+  pub local_rows : All (λ p. All IsZero p.row) local
+  pub local_radii : All (λ p. p.radius ≡ 0) local
+  pub boxes : All IsZero values
 
 -- nothing has changed but the place of the name
 pub record OtherPlacesStay (name : Name) (old new : BoardParts) : Type 0 where

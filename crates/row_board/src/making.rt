@@ -2,11 +2,12 @@
 ghost use Rattle.std.specs.Prelude.{◌≡◌, false, length, All, IfOk, IfErr, OnOk};
 ghost use Rattle.exact_math.specs.Orders.{IsCapacity, IsOrder};
 ghost use Rattle.complex_box.specs.Rows.{IsZero};
+ghost use Rattle.field_basis.specs.Basis.{IsBasis};
 ghost use Rattle.limits.specs.Limits.{grid_of};
 ghost use Rattle.points.specs.Limits.{AreWithin, WithinLimits};
 ghost use Rattle.quadtree.specs.Faults.{HasTree, IsFaultOf};
 ghost use Rattle.quadtree.specs.TreeModel.{IsTreeOf};
-ghost use Rattle.row_board.specs.Board.{IsBoard};
+ghost use Rattle.row_board.specs.Board.{AreEmptyPlaces, IsBoard};
 ghost use Rattle.row_board.specs.Names.{is_filled};
 ghost use Rattle.row_board.specs.declared.name.Name.{Name};
 
@@ -80,15 +81,42 @@ impl<const P: usize> Board<P> {
         ensures grid { IfOk result (λ board. board.basis.tree.grid ≡ tree.grid) }
         ensures empty { IfOk result (λ board. (name : Name) → is_filled board name ≡ false) }
     {
-        let basis = Basis::<P>::over(alloc, points, cap, tree)?;
+        let basis = Basis::over(alloc, points, cap, tree)?;
+        Board::empty(alloc, basis)
+    }
+
+    /// The board of a basis, with no place filled.
+    fn empty(alloc: Global, basis: Basis<P>) -> Result<Board<P>, AllocError>
+        requires { IsBasis P basis }
+        ensures board { IfOk result (λ board. IsBoard P board) }
+        ensures basis { IfOk result (λ board. board.basis ≡ basis.entry) }
+        ensures empty { IfOk result (λ board. (name : Name) → is_filled board name ≡ false) }
+    {
         let cells = basis.tree.cells().len();
         let targets = basis.targets.len();
         let up = zero_places(alloc, cells)?;
         let local = zero_places(alloc, cells)?;
         let values = zero_boxes(alloc, targets)?;
-        let has_up = no_marks(alloc, cells)?;
-        let has_local = no_marks(alloc, cells)?;
-        let has_value = no_marks(alloc, targets)?;
+        Board::unmarked(alloc, basis, up, local, values)
+    }
+
+    /// The board of a basis with these empty places.
+    fn unmarked(
+        alloc: Global,
+        basis: Basis<P>,
+        up: Vec<Place<P>>,
+        local: Vec<Place<P>>,
+        values: Vec<CBox>,
+    ) -> Result<Board<P>, AllocError>
+        requires basis { IsBasis P basis }
+        requires places { AreEmptyPlaces basis up.items local.items values.items }
+        ensures board { IfOk result (λ board. IsBoard P board) }
+        ensures basis { IfOk result (λ board. board.basis ≡ basis.entry) }
+        ensures empty { IfOk result (λ board. (name : Name) → is_filled board name ≡ false) }
+    {
+        let has_up = no_marks(alloc, up.len())?;
+        let has_local = no_marks(alloc, local.len())?;
+        let has_value = no_marks(alloc, values.len())?;
         Ok(Board {
             basis,
             up,

@@ -1,11 +1,12 @@
 //! The solve.
-ghost use Rattle.std.specs.Prelude.{◌≡◌, IfErr, IfOk, OnOk};
+ghost use Rattle.std.specs.Prelude.{◌≡◌, length, IfErr, IfOk, OnOk};
 ghost use Rattle.exact_math.specs.Orders.{IsCapacity, IsOrder};
+ghost use Rattle.field_basis.specs.Basis.{IsBasis};
 ghost use Rattle.field_basis.specs.FieldPlaces.{BoxesContain};
 ghost use Rattle.limits.specs.Limits.{grid_of};
 ghost use Rattle.points.specs.Limits.{AreWithin, WithinLimits};
 ghost use Rattle.quadtree.specs.Faults.{HasTree, IsFaultOf};
-ghost use Rattle.quadtree.specs.TreeModel.{IsTreeOf};
+ghost use Rattle.quadtree.specs.TreeModel.{IsTreeOf, size};
 ghost use Rattle.solve_phase.specs.Contents.{RowsContain};
 ghost use Rattle.solve_phase.specs.Field.{IsSolved};
 
@@ -37,22 +38,41 @@ fn field_over<const P: usize>(
 {
     let basis = Basis::<P>::over(alloc, points, cap, tree)?;
     let cells = basis.tree.cells().len();
-    let mut up = vec![in alloc; Place::zero(); cells]?;
-    let mut local = vec![in alloc; Place::zero(); cells]?;
-    let mut values = vec![in alloc; TargetPlace::zero(); basis.targets.len()]?;
+    let up = vec![in alloc; Place::zero(); cells]?;
+    let local = vec![in alloc; Place::zero(); cells]?;
+    let values = vec![in alloc; TargetPlace::zero(); basis.targets.len()]?;
+    Ok(filled(basis, up, local, values))
+}
+
+/// The field of a basis, whose places are filled here: one for each cell and for each target.
+fn filled<const P: usize>(
+    basis: Basis<P>,
+    mut up: Vec<Place<P>>,
+    mut local: Vec<Place<P>>,
+    mut values: Vec<TargetPlace>,
+) -> Field<P>
+    requires basis { IsBasis P basis }
+    requires up { length up.items ≡ size basis.tree }
+    requires local { length local.items ≡ size basis.tree }
+    requires values { length values.items ≡ length basis.targets }
+    ensures field { IsSolved basis.entry.points basis.entry.cap P result }
+    ensures basis { result.basis ≡ basis.entry }
+    ensures rows { RowsContain basis.entry.points P result }
+    ensures contains { BoxesContain basis.entry.points result.values }
+{
     upward_pass::<P>(&basis.tree, &basis.points, &mut up);
     downward_pass(&basis, &up, &mut local);
     value_pass(&basis, &up, &local, &mut values);
     let translations = all_translations::<P>(&up) + all_translations::<P>(&local);
     let pairs = all_pairs(&values);
-    Ok(Field {
+    Field {
         basis,
         up,
         local,
         values,
         translations,
         pairs,
-    })
+    }
 }
 
 /// The field of a list of points with a leaf capacity, at the order `P`. Each row is made once, level by level. A multipole row then contains
