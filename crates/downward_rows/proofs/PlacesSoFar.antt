@@ -17,8 +17,14 @@ one_place_more Q old moved n x lt stay before here m h = elim (cases_lt m n) [
 ]
 
 -- the first of the rest is written
-pub rest_written : (places above rest : List PlaceModel) (n : ℕ) (x : PlaceModel) → places ≡ above ++ rest → length above ≡ n → OthersStay n places (above ++ slice_set rest 0 x)
-rest_written places above rest n x whole len =
-    let start : n - n ≡ 0 = omega arith in
-    let moved : slice_set places n x ≡ above ++ slice_set rest 0 x = ap (λ l. slice_set l n x) whole ∙ set-append_right above rest n n x len (omega arith) ∙ ap (λ k. above ++ slice_set rest k x) start in
-    subst (OthersStay n places) moved (record { as_many = length-set places n x; others = λ m other. get_or-set_other places n m x no_place other })
+module _ (places above rest : List PlaceModel) (n : ℕ) (x : PlaceModel) (whole : places ≡ above ++ rest) (len : length above ≡ n) where
+  moved_rest : slice_set places n x ≡ above ++ slice_set rest 0 x
+  moved_rest =
+      let start : n - n ≡ 0 = omega arith in
+      ap (λ l. slice_set l n x) whole ∙ set-append_right above rest n n x len (omega arith) ∙ ap (λ k. above ++ slice_set rest k x) start
+
+  pub rest_written : OthersStay n places (above ++ slice_set rest 0 x)
+  rest_written = subst (OthersStay n places) moved_rest (record { as_many = length-set places n x; others = λ m other. get_or-set_other places n m x no_place other })
+
+  pub rest_own : n < length places → place_at (above ++ slice_set rest 0 x) n ≡ x
+  rest_own inside = sym (ap (λ l. place_at l n) moved_rest) ∙ get_or-set_same places n x no_place inside

@@ -1,8 +1,11 @@
 //! The command `sample`.
 ghost use Rattle.std.specs.Prelude.{◌≡◌, ℕ, ◌≤◌, IfSome, IfNone};
 ghost use Rattle.exact_math.specs.Orders.{IsCapacity, IsOrder};
+ghost use Rattle.limits.specs.Limits.{first_grid, grid_of};
 ghost use Rattle.points.specs.Limits.{WithinLimits};
 ghost use Rattle.point_sample.specs.Sample.{most_sampled, sample};
+ghost use Rattle.quadtree.specs.Faults.{HasTree};
+ghost use Rattle.solve_phase.specs.Field.{IsSolved};
 ghost use Rattle.fmm_program.specs.Endings.{Ends, TellsFaults, flow, untold};
 ghost use Rattle.fmm_program.specs.Runs.{SampleRun};
 ghost use Rattle.fmm_program.specs.SampleAnswers.{SampleAnswers};
@@ -16,6 +19,7 @@ use io_ports::Sink;
 use point_sample::{most_sampled, sample_points};
 use points::Points;
 use sample_summary::write_summary;
+use solve_phase::Field;
 use std::alloc::Global;
 
 /// The command `sample SEED N ORDER CAP`.
@@ -47,6 +51,29 @@ pub(crate) fn asked_sample(words: &Words) -> Option<SampleCommand>
     })
 }
 
+/// Writes the summary of the points of a sample and their field.
+fn summarize_field<const P: usize, O: Sink>(
+    seed: u32,
+    points: &Points,
+    cap: u32,
+    field: &Field<P>,
+    out: &mut O,
+) -> Status
+    requires list { WithinLimits points.now }
+    requires order { IsOrder P }
+    requires field { IsSolved points.now.list cap P field.now }
+    requires grid { field.now.basis.tree.grid ≡ first_grid }
+    ensures ends { (n : ℕ) → points.now ≡ sample seed n → HasTree (grid_of points.now.version) points.now.list cap
+        → Ends (SampleAnswers seed n P cap) result (flow (O.held out.old) (O.held out.new) (O.faults out.old) (O.faults out.new)) untold }
+    ensures write { TellsFaults result (flow (O.held out.old) (O.held out.new) (O.faults out.old) (O.faults out.new)) }
+    ensures read { result ≡ Status.ReadFault → ⊥ }
+{
+    match write_summary(seed, points, cap, field, out) {
+        Ok(()) => Status::Done,
+        Err(_) => Status::WriteFault,
+    }
+}
+
 /// Solves the points of a sample at the order `P`, and writes the summary of their field or the line that refuses them.
 fn summarize<const P: usize, O: Sink>(
     alloc: Global,
@@ -64,10 +91,7 @@ fn summarize<const P: usize, O: Sink>(
     ensures read { result ≡ Status.ReadFault → ⊥ }
 {
     match solve_phase::solve::<P>(alloc, points, cap) {
-        Ok(field) => match write_summary(seed, points, cap, &field, out) {
-            Ok(()) => Status::Done,
-            Err(_) => Status::WriteFault,
-        },
+        Ok(field) => summarize_field(seed, points, cap, &field, out),
         Err(fault) => refuse_depth(fault, out),
     }
 }

@@ -4,7 +4,10 @@ ghost use Rattle.std.specs.Io.KnownBytes.{Consumes};
 ghost use Rattle.exact_math.specs.Orders.{IsCapacity, IsOrder};
 ghost use Rattle.io_ports.specs.Bytes.{read_size};
 ghost use Rattle.io_ports.specs.Faults.{Rose};
+ghost use Rattle.limits.specs.Limits.{grid_of};
 ghost use Rattle.points.specs.Limits.{WithinLimits};
+ghost use Rattle.quadtree.specs.Faults.{HasTree};
+ghost use Rattle.solve_phase.specs.Field.{IsSolved};
 ghost use Rattle.fmm_program.specs.Answers.{IsRead, SolveAnswers, most_input};
 ghost use Rattle.fmm_program.specs.Endings.{Ends, TellsFaults, flow, untold};
 ghost use Rattle.fmm_program.specs.Runs.{SolveRun};
@@ -16,10 +19,33 @@ use field_report::write_report;
 use io_ports::{InFault, Sink, Source, read_all};
 use particle_text::{ParseFault, parse};
 use points::Points;
+use solve_phase::Field;
 use std::alloc::Global;
 
 /// The greatest number of bytes of an input.
 const MOST_INPUT: u64 = 16_777_216;
+
+/// Writes the report of the points and their field.
+fn answer_field<const P: usize, O: Sink>(
+    points: &Points,
+    cap: u32,
+    field: &Field<P>,
+    out: &mut O,
+) -> Status
+    requires list { WithinLimits points.now }
+    requires order { IsOrder P }
+    requires field { IsSolved points.now.list cap P field.now }
+    requires grid { field.now.basis.tree.grid ≡ grid_of points.now.version }
+    ensures ends { (input : List ℕ) → IsRead input points.now → HasTree (grid_of points.now.version) points.now.list cap
+        → Ends (SolveAnswers P cap input) result (flow (O.held out.old) (O.held out.new) (O.faults out.old) (O.faults out.new)) untold }
+    ensures write { TellsFaults result (flow (O.held out.old) (O.held out.new) (O.faults out.old) (O.faults out.new)) }
+    ensures read { result ≡ Status.ReadFault → ⊥ }
+{
+    match write_report(points, cap, field, out) {
+        Ok(()) => Status::Done,
+        Err(_) => Status::WriteFault,
+    }
+}
 
 /// Solves the points at the order `P`, and writes the report of their field or the line that refuses them.
 fn answer_points<const P: usize, O: Sink>(
@@ -37,10 +63,7 @@ fn answer_points<const P: usize, O: Sink>(
     ensures read { result ≡ Status.ReadFault → ⊥ }
 {
     match solve_phase::solve::<P>(alloc, points, cap) {
-        Ok(field) => match write_report(points, cap, &field, out) {
-            Ok(()) => Status::Done,
-            Err(_) => Status::WriteFault,
-        },
+        Ok(field) => answer_field(points, cap, &field, out),
         Err(fault) => refuse_depth(fault, out),
     }
 }

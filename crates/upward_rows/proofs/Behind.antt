@@ -1,11 +1,12 @@
 -- The places of the last cells of a tree.
-use Rattle.std.proofs.Common.{ℕ, ◌≡◌, ◌+◌, ◌-◌, ◌<◌, ◌^◌, ◌≤◌, List, length, get_or, sym, ap, ◌∙◌, subst, arith}
-use Rattle.std.proofs.lemmas.List.{get_or_default}
+use Rattle.std.proofs.Common.{ℕ, ◌≡◌, ◌+◌, ◌-◌, ◌<◌, ◌^◌, ◌≤◌, List, ◌++◌, length, get_or, sym, ap, ◌∙◌, subst, arith, get_or-set_same, get_or-set_other}
+use Rattle.std.proofs.lemmas.List.{get_or_default, length-set, set-append_left}
+use Rattle.std.specs.Prelude.{slice_set}
 use Rattle.exact_math.specs.Ends.{BoxEndsWithin}
 use Rattle.complex_box.specs.declared.CBox.{CBox}
 use Rattle.field_basis.specs.FieldPlaces.{IsMultipolePlace}
 use Rattle.field_basis.specs.Trees.{IsTreeOfPoints}
-use Rattle.places.specs.Place.{PlaceModel, no_place, place_at}
+use Rattle.places.specs.Place.{OthersStay, PlaceModel, no_place, place_at}
 use Rattle.points.specs.declared.Point.{Point}
 use Rattle.quadtree.specs.TreeModel.{TreeModel, size, square_of, IsTreeOf}
 use Rattle.row_recursions.specs.Rows.{row_of, AreSameRows}
@@ -40,3 +41,14 @@ module _ (P : ℕ) (points : List Point) (tree : TreeModel) (behind : List Place
       let at : ℕ = m - (size tree - length behind) in
       let here : place_at behind at ≡ place_at places m = each at no_place ∙ ap (place_at places) (let e : n + 1 + at ≡ m = omega (arith, whole, after, inside) in e) in
       record { is_behind = omega (arith, whole, after); row = subst (IsMultipolePlace P points tree m) (sym here) h }
+
+-- one place is written
+module _ (places front behind : List PlaceModel) (n : ℕ) (x : PlaceModel) (whole : places ≡ front ++ behind) (lt : n < length front) (inside : n < length places) where
+  moved : slice_set places n x ≡ slice_set front n x ++ behind
+  moved = ap (λ l. slice_set l n x) whole ∙ set-append_left front behind n x lt
+
+  pub others_stay : OthersStay n places (slice_set front n x ++ behind)
+  others_stay = subst (OthersStay n places) moved (record { as_many = length-set places n x; others = λ m other. get_or-set_other places n m x no_place other })
+
+  pub own_place : place_at (slice_set front n x ++ behind) n ≡ x
+  own_place = sym (ap (λ l. place_at l n) moved) ∙ get_or-set_same places n x no_place inside

@@ -1,8 +1,9 @@
-use Rattle.std.proofs.Common.{subst, arith, lit<}
+use Rattle.std.proofs.Common.{subst, sym, arith, lit<}
 use Rattle.exact_math.proofs.Orders.{order_bounds}
 use Rattle.field_basis.specs.Basis.{IsBasis}
+use Rattle.field_basis.specs.FieldPlaces.{IsLocalPlace}
 use Rattle.downward_rows.proofs.MadePlaces.{parent_above}
-use Rattle.downward_rows.proofs.PlacesSoFar.{rest_written}
+use Rattle.downward_rows.proofs.PlacesSoFar.{rest_own, rest_written}
 use Rattle.downward_rows.proofs.fill.fill_place.Goals as goal
 
 pub make_place-requires : goal.make_place-requires
@@ -29,3 +30,10 @@ make_place-requires g c =
 
 pub returns-clause-others : goal.returns-clause-others
 returns-clause-others g c = rest_written c.args.places.now c.split_at_mut-above.result.0.now c.split_at_mut-above.result.1.now c.args.n c.make_place.new.place c.split_at_mut-above.ensures.value c.split_at_mut-above.ensures.front_len
+
+pub returns-clause-local : goal.returns-clause-local
+returns-clause-local g c =
+    let h = c.split_at_mut-above.ensures in
+    subst (IsLocalPlace g.row.P c.args.basis.now c.args.n)
+    (sym (rest_own c.args.places.now c.split_at_mut-above.result.0.now c.split_at_mut-above.result.1.now c.args.n c.make_place.new.place h.value h.front_len (omega (arith, c.requires.cell, c.requires.len))))
+    c.make_place.ensures.local

@@ -11,7 +11,7 @@ use Rattle.points.proofs.Ranges.{range_in_widest}
 use Rattle.points.specs.Limits.{InRange}
 use Rattle.points.specs.Points.{place}
 use Rattle.points.specs.declared.Point.{Point}
-use Rattle.quadtree.specs.TreeModel.{node_of}
+use Rattle.quadtree.specs.TreeModel.{node_of, size}
 use Rattle.soundness.specs.Computed.{total_box}
 use Rattle.tree_field.proofs.Program.{nodes_of_tree}
 use Rattle.target_values.proofs.PairSums.{sources, ends-step, count-step, one_at_most, paired_again}
@@ -19,6 +19,11 @@ use Rattle.field_basis.proofs.Sizes.{inside}
 use Rattle.target_values.proofs.Numbers.{few_members, member_below}
 use Rattle.target_values.proofs.Read.{point_read}
 use Rattle.target_values.proofs.u_entries.cell_pairs.Goals as goal
+
+pub members-k-items-requires : goal.members-k-items-requires
+members-k-items-requires g c =
+    let same : size c.basis.inside.tree ≡ size c.args.basis.now.tree = ap (λ (b : BasisModel). size b.tree) c.basis.view_is in
+    omega (arith, same, c.requires.number)
 
 pub index-requires : goal.index-requires
 index-requires g c =
@@ -94,3 +99,12 @@ returns-clause-few g c =
     let is : IsBasis g.row.P c.args.basis.now = subst (IsBasis g.row.P) c.basis.view_is c.basis.invariant in
     let few = few_members g.row.P c.args.basis.now is c.args.c c.requires.number c.members-k-items.result.now (c.members-k-items.ensures ∙ ap (λ (b : BasisModel). (node_of b.tree c.args.c).members) c.basis.view_is) in
     omega (arith, few, c.loop-k.auto.k-index-end, c.loop-k.invariant.few)
+
+pub returns-clause-work : goal.returns-clause-work
+returns-clause-work g c =
+    let b = c.args.basis.now in
+    let t = place c.args.target.now in
+    let ms : List ℕ = (node_of b.tree c.args.c).members in
+    let same : c.members-k-items.result.now ≡ ms = c.members-k-items.ensures ∙ ap (λ (b : BasisModel). (node_of b.tree c.args.c).members) c.basis.view_is in
+    c.loop-k.invariant.work
+    ∙ ap (λ (l : List ℕ). paired (count_apart t (sources_at b.points l)) c.args.work.now) (take_all c.loop-k.k-index ms (omega (arith, ap length same, c.loop-k-test.false)))

@@ -1,6 +1,7 @@
 -- The pairs with the sources of one cell more.
 use Rattle.std.proofs.Common.{rules, ◌≡◌, ◌∙◌, ◌+◌, ◌<◌, ℕ, ap, sym, subst, arith, List, length, get_or, take}
 use Rattle.std.specs.Prelude.{sum_by}
+use Rattle.std.proofs.lemmas.List.{take_all}
 use Rattle.std.proofs.lemmas.List.Sums.{sum_by_more}
 use Rattle.exact_math.specs.Ends.{BoxEnds, add_box}
 use Rattle.cell_lists.specs.ListAt.{list_at}
@@ -11,6 +12,7 @@ use Rattle.field_basis.specs.Counts.{paired}
 use Rattle.letters.specs.declared.Letter.TheVariants.{U}
 use Rattle.points.specs.Points.{place}
 use Rattle.quadtree.specs.TreeModel.{size}
+use Rattle.soundness.specs.Computed.{total_box}
 use Rattle.target_values.proofs.PairSums.{total-step, paired_again}
 use Rattle.target_values.proofs.Numbers.{number_below, few_items}
 use Rattle.target_values.specs.Values.{pairs_of_cell, count_of_cell}
@@ -62,3 +64,18 @@ returns-clause-size g c =
     let is : IsBasis g.row.P b = subst (IsBasis g.row.P) c.basis.view_is c.basis.invariant in
     let few = few_items g.row.P b is U c.args.leaf c.requires.number c.u_list-c-items.result.now (c.u_list-c-items.ensures ∙ ap (λ (b : BasisModel). list_at b.lists.u c.args.leaf) c.basis.view_is) in
     box_wider _ _ _ (omega (arith, few, c.loop-c.auto.c-index-end)) c.loop-c.invariant.size
+
+pub returns-clause-ends : goal.returns-clause-ends
+returns-clause-ends g c =
+    let b = c.args.basis.now in
+    let xs : List ℕ = list_at b.lists.u c.args.leaf in
+    let same : c.u_list-c-items.result.now ≡ xs = c.u_list-c-items.ensures ∙ ap (λ (b : BasisModel). list_at b.lists.u c.args.leaf) c.basis.view_is in
+    c.loop-c.invariant.ends ∙ ap (total_box (pairs_of_cell b (place c.args.target.now))) (take_all c.loop-c.c-index xs (omega (arith, ap length same, c.loop-c-test.false)))
+
+pub returns-clause-work : goal.returns-clause-work
+returns-clause-work g c =
+    let b = c.args.basis.now in
+    let count : ℕ → ℕ = count_of_cell b (place c.args.target.now) in
+    let xs : List ℕ = list_at b.lists.u c.args.leaf in
+    let same : c.u_list-c-items.result.now ≡ xs = c.u_list-c-items.ensures ∙ ap (λ (b : BasisModel). list_at b.lists.u c.args.leaf) c.basis.view_is in
+    c.loop-c.invariant.work ∙ ap (λ (l : List ℕ). paired (sum_by count l) c.args.work.now) (take_all c.loop-c.c-index xs (omega (arith, ap length same, c.loop-c-test.false)))

@@ -1,5 +1,6 @@
 -- The value of one cell more.
 use Rattle.std.proofs.Common.{rules, ◌≡◌, ◌∙◌, ◌<◌, ℕ, ap, sym, subst, arith, List, length, get_or}
+use Rattle.std.proofs.lemmas.List.{take_all}
 use Rattle.exact_math.proofs.Orders.{order_bounds}
 use Rattle.exact_math.specs.Ends.{BoxEnds, add_box}
 use Rattle.cell_lists.specs.ListAt.{list_at}
@@ -11,6 +12,7 @@ use Rattle.letters.specs.declared.Letter.TheVariants.{W}
 use Rattle.places.specs.Place.{place_at}
 use Rattle.points.specs.Points.{place}
 use Rattle.quadtree.specs.TreeModel.{size}
+use Rattle.soundness.specs.Computed.{total_box}
 use Rattle.target_values.proofs.FarCells.{far_from}
 use Rattle.target_values.proofs.PairSums.{total-step}
 use Rattle.target_values.proofs.Numbers.{number_below, few_items}
@@ -69,3 +71,10 @@ returns-clause-size g c =
     let is : IsBasis g.row.P b = subst (IsBasis g.row.P) c.basis.view_is c.basis.invariant in
     let few = few_items g.row.P b is W c.args.leaf c.requires.number c.w_list-c-items.result.now (c.w_list-c-items.ensures ∙ ap (λ (b : BasisModel). list_at b.lists.w c.args.leaf) c.basis.view_is) in
     box_wider _ _ _ (omega (arith, few, c.loop-c.auto.c-index-end)) c.loop-c.invariant.size
+
+pub returns-clause-ends : goal.returns-clause-ends
+returns-clause-ends g c =
+    let b = c.args.basis.now in
+    let xs : List ℕ = list_at b.lists.w c.args.leaf in
+    let same : c.w_list-c-items.result.now ≡ xs = c.w_list-c-items.ensures ∙ ap (λ (b : BasisModel). list_at b.lists.w c.args.leaf) c.basis.view_is in
+    c.loop-c.invariant.ends ∙ ap (total_box (value_of_cell g.row.P b (place c.args.target.now))) (take_all c.loop-c.c-index xs (omega (arith, ap length same, c.loop-c-test.false)))

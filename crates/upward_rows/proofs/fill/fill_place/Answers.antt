@@ -1,5 +1,5 @@
 -- The places behind that of the cell.
-use Rattle.std.proofs.Common.{◌<◌, length, ◌∙◌, arith}
+use Rattle.std.proofs.Common.{◌<◌, length, ◌∙◌, arith, subst, sym}
 use Rattle.std.proofs.lemmas.List.Elements.{All-contains}
 use Rattle.exact_math.proofs.Orders.{order_bounds}
 use Rattle.field_basis.specs.FieldPlaces.{IsMultipolePlace}
@@ -7,7 +7,7 @@ use Rattle.places.specs.Place.{place_at}
 use Rattle.exact_math.proofs.Lists.{All-from_members}
 use Rattle.tree_field.specs.Program.{source_children}
 use Rattle.upward_rows.specs.Behind.{IsBehind}
-use Rattle.upward_rows.proofs.Behind.{place_behind}
+use Rattle.upward_rows.proofs.Behind.{others_stay, own_place, place_behind}
 use Rattle.upward_rows.proofs.Children.{source_child_is}
 use Rattle.upward_rows.proofs.fill.fill_place.Goals as goal
 
@@ -26,3 +26,15 @@ make_place-requires g c =
     let held = All-contains (λ m. (m < length places) × IsMultipolePlace P points tree m (place_at places m)) (source_children tree n) m c.requires.quarters listed in
     place_behind P points tree behind m child.in_range n places whole child.behind c.split_at_mut-front.ensures.by_index.1 held.1) in
     (omega (arith, few), (c.requires.order, (c.requires.tree, (c.requires.cell, (record { few = omega (arith, whole); each = each }, c.requires.room)))))
+
+pub returns-clause-others : goal.returns-clause-others
+returns-clause-others g c =
+    let h = c.split_at_mut-front.ensures in
+    others_stay c.args.places.now c.split_at_mut-front.result.0.now c.split_at_mut-front.result.1.now c.args.n c.make_place.new.place h.value (omega (arith, h.front_len)) (omega (arith, c.requires.cell, c.requires.len))
+
+pub returns-clause-row : goal.returns-clause-row
+returns-clause-row g c =
+    let h = c.split_at_mut-front.ensures in
+    subst (IsMultipolePlace g.row.P c.args.points.now c.args.tree.now c.args.n)
+    (sym (own_place c.args.places.now c.split_at_mut-front.result.0.now c.split_at_mut-front.result.1.now c.args.n c.make_place.new.place h.value (omega (arith, h.front_len)) (omega (arith, c.requires.cell, c.requires.len))))
+    c.make_place.ensures.row
