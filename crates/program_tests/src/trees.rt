@@ -80,7 +80,7 @@ const TREES: [Tree<'static>; 6] = [
 ];
 
 /// The tree's points give its report.
-fn reports(rt: &impl Abort, alloc: Global, tree: &Tree<'_>) -> Result<(), Fail> {
+fn tree_reports(rt: &impl Abort, alloc: Global, tree: &Tree<'_>) -> Result<(), Fail> {
     let text = text_of(alloc, HEAD, &tree.points)?;
     let head = format!(in alloc; "fmm report 1 field order {} cap 8\n", tree.order)?;
     let report = text_of(alloc, &head, &[tree.targets, (1, tree.work), (1, "end\n")])?;
@@ -91,7 +91,7 @@ fn reports(rt: &impl Abort, alloc: Global, tree: &Tree<'_>) -> Result<(), Fail> 
 #[test]
 fn trees(rt: HostRuntime) -> Result<(), Fail> {
     for tree in &TREES {
-        reports(&rt, rt.alloc(), tree)?;
+        tree_reports(&rt, rt.alloc(), tree)?;
     }
     Ok(())
 }
