@@ -94,7 +94,7 @@ fn one_byte_at_a_time(rt: HostRuntime) -> Result<(), Fail> {
 }
 
 /// Texts that are refused, and how.
-const REFUSALS: [(&[u8], &[u8]); 6] = [
+const REFUSALS: [(&[u8], &[u8]); 7] = [
     (
         b"fmm 1 field\ncharge 0 0 1048577\n",
         b"refused line 2 range\n",
@@ -103,6 +103,7 @@ const REFUSALS: [(&[u8], &[u8]); 6] = [
     (b"fmm 1 field\nvortex 0 0 1\n", b"refused line 2 mixed\n"),
     (b"fmm 1 field\ncharge 00 0 1\n", b"refused line 2 syntax\n"),
     (b"fmm 1 field\rcharge 0 0 1\n", b"refused line 1 syntax\n"),
+    (b"fmm 2 field\ncharge 0 0 1\n", b"refused line 1 syntax\n"),
     (b"", b"refused line 1 syntax\n"),
 ];
 
