@@ -2,8 +2,8 @@
 ghost use Rattle.std.specs.Prelude.{◌≤◌};
 
 use io_ports::{
-    BrokenSink, BrokenSource, DropSink, InFault, MemSink, MemSource, ReadSource, SureSource,
-    WriteFault, WriteSink, put, read_all,
+    BrokenSink, BrokenSource, DropSink, Failed, InFault, MemSink, MemSource, ReadSource, Sink,
+    SureSource, WriteFault, WriteSink, put, read_all,
 };
 use std::alloc::Global;
 use std::io::Write;
@@ -104,7 +104,7 @@ fn puts_what_fits(rt: HostRuntime) -> Result<(), Fail> {
     put_is(&rt, alloc, (0, 1, 0), false, 0)
 }
 
-// A writer that takes nothing.
+// A writer that takes nothing, and can hand nothing on.
 #[derive(Drop)]
 struct Stuck;
 
@@ -114,7 +114,7 @@ impl Write for Stuck {
     }
 
     fn flush(&mut self) -> std::io::Result<()> {
-        Ok(())
+        Err(std::io::ErrorKind::BrokenPipe.into())
     }
 }
 
@@ -145,5 +145,17 @@ fn other_sinks(rt: HostRuntime) {
             put(&mut WriteSink::new(Stuck), b"a")
         ],
         [Ok(()), Err(WriteFault), Err(WriteFault)]
+    );
+}
+
+#[test]
+fn flushes(rt: HostRuntime) {
+    assert_eq!(rt;
+        [
+            DropSink.flush(),
+            BrokenSink::new().flush(),
+            WriteSink::new(Stuck).flush()
+        ],
+        [Ok(()), Err(Failed), Err(Failed)]
     );
 }
