@@ -121,7 +121,7 @@ impl<const N: usize> FrontText<N> {
 
     /// Puts the decimal of a count of 10^-12 before the text.
     pub fn prepend_count(&mut self, count: i128)
-        requires size { Within (2 ^ 84) count }
+        requires size { Within (2 ^ 96) count }
         requires room { 34 + length self.old ≤ N }
         ensures text { self.new ≡ decimal_text count ++ self.old }
         ensures room { length self.new ≤ 34 + length self.old }
