@@ -15,6 +15,7 @@ use points::Mode;
 
 // 2^12 divides both 10^12 and 2^40, so `10^12 n / 2^40` is `5^12 n / 2^28`, and the product stays below 2^125.
 const FACTOR: i128 = 244_140_625;
+
 const SHIFT: u32 = UNIT_BITS - 12;
 
 /// `10^12 n / 2^40` rounded down, or rounded up where `up` is set: the count of an end `n` of a box.
