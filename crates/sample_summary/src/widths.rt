@@ -1,9 +1,9 @@
 //! The widths of printed counts.
 ghost use Rattle.std.specs.Prelude.{◌≡◌, map, max};
 ghost use Rattle.complex_box.specs.Box.{BoxWithin, box_ends};
-ghost use Rattle.report_lines.specs.Counts.{count_ends, most_printed};
+ghost use Rattle.report_lines.specs.Counts.{count_ends};
 ghost use Rattle.fixed_interval.specs.Interval.{IntervalWithin, ends_of};
-ghost use Rattle.limits.specs.Limits.{first_grid};
+ghost use Rattle.limits.specs.Limits.{first_grid, most_printed};
 ghost use Rattle.sample_summary.specs.Summary.{width, widest_re, widest_im};
 
 use complex_box::CBox;
