@@ -1,8 +1,9 @@
--- Which places, kinds, strengths and lists the text allows.
+-- Which places, kinds, strengths and lists the text allows, and with which orders a list is solved.
 use Rattle.std.specs.Prelude.{ℕ, ◌≤◌, ◌==◌, IsTrue, not, List, length, All, sum_by}
+use Rattle.exact_math.specs.Orders.{IsOrder}
 use Rattle.exact_math.specs.Sizes.{weight_at}
 use Rattle.limits.specs.Grid.{IsInGrid}
-use Rattle.limits.specs.Limits.{IsVersion, first_grid, grid_of, most_strength, most_points, most_weight}
+use Rattle.limits.specs.Limits.{IsVersion, first_grid, grid_of, most_strength, most_points, most_weight, most_order}
 use Rattle.points.specs.declared.Kind.{Kind}
 use Rattle.points.specs.declared.Kind.TheVariants.{Charge, Vortex, Pole}
 use Rattle.points.specs.declared.Mode.{Mode}
@@ -51,3 +52,8 @@ pub record WithinLimits (points : Points) : Type 0 where
   pub version : IsVersion points.version
   pub mode_fits : All (λ p. FitsMode points.mode p.kind) points.list
   pub within : AreWithin (grid_of points.version) points.list
+
+-- one of the orders that the version of the grid has: the greatest is version 2's alone
+pub record IsOrderOf (grid order : ℕ) : Type 0 where
+  pub is_order : IsOrder order
+  pub most : order ≤ most_order grid

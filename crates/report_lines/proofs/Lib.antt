@@ -1,2 +1,3 @@
 -- Lemmas.
 pub mod Bounds
+mod Reduced

@@ -1,17 +1,12 @@
 -- The printed counts of a box: whole numbers of 10^-12.
-use Rattle.std.specs.Prelude.{ℕ, ◌+◌, ℤ, pos, ◌*ℤ◌, ◌≤ℤ◌, ◌<ℤ◌, ◌^◌, Bool, true, false}
+use Rattle.std.specs.Prelude.{ℤ, pos, ◌*ℤ◌, ◌≤ℤ◌, ◌<ℤ◌, ◌^◌, Bool, true, false}
 use Rattle.exact_math.specs.Contains.{Contains}
 use Rattle.exact_math.specs.Ends.{Ends, BoxEnds, neg_ends}
 use Rattle.exact_math.specs.Ratio.{Ratio, ComplexRatio, re_part, im_part, neg_ratio}
 use Rattle.exact_math.specs.Rounding.{floor_div, ceil_div}
 use Rattle.exact_math.specs.Units.{unit}
-use Rattle.limits.specs.Limits.{first_grid, most_box}
 use Rattle.points.specs.declared.Mode.{Mode}
 use Rattle.points.specs.declared.Mode.TheVariants.{Field, Velocity}
-
--- the greatest size of an end that is printed, and of its count: the boxes of version 1 stay below it
-abbrev pub most_printed : ℕ
-most_printed = most_box first_grid + 1
 
 -- an end in units of 2^-40 as a count of 10^-12, rounded down, and rounded up
 abbrev pub count_below : ℤ → ℤ

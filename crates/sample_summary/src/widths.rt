@@ -2,9 +2,8 @@
 ghost use Rattle.std.specs.Prelude.{◌≡◌, map, max};
 ghost use Rattle.std.specs.List.{fold};
 ghost use Rattle.complex_box.specs.Box.{BoxWithin, box_ends};
-ghost use Rattle.report_lines.specs.Counts.{most_printed};
 ghost use Rattle.fixed_interval.specs.Interval.{IntervalWithin, ends_of};
-ghost use Rattle.limits.specs.Limits.{first_grid};
+ghost use Rattle.limits.specs.Limits.{first_grid, most_printed};
 ghost use Rattle.sample_summary.specs.Summary.{width};
 
 use complex_box::CBox;
