@@ -14,7 +14,8 @@ use Rattle.complex_box.specs.Box.{box_ends}
 use Rattle.complex_box.specs.Rows.{at, zero_cbox}
 use Rattle.complex_box.specs.declared.CBox.{CBox}
 use Rattle.io_ports.specs.Bytes.{AppendsPrefix, Writes}
-use Rattle.limits.specs.Limits.{first_grid}
+use Rattle.limits.proofs.Grids.{in_widest, within_widest}
+use Rattle.limits.specs.Limits.{IsGrid, most_box, most_printed}
 use Rattle.points.specs.Points.{is_source, place}
 use Rattle.points.specs.Limits.{InRange}
 use Rattle.points.specs.declared.Mode.{Mode}
@@ -128,19 +129,20 @@ module _ (mode : Mode) (points : List Point) (cap P : ℕ) (lists : TreeLists) w
   abbrev written : Point → CBox → List ℕ
   written p v = target_line mode (record { x = to_z w64 (of_z w64 p.x); y = to_z w64 (of_z w64 p.y); counts = target_counts mode (box_ends v) })
 
-  written-line : (p : Point) (v : CBox) → InRange first_grid p → box_ends v ≡ target_box points cap P lists (place p) → written p v ≡ target_line mode (field_line mode points cap P lists p)
-  written-line p v range e =
-      let f : SFits w64 p.x = omega (arith, ints, range.place) in
-      let g : SFits w64 p.y = omega (arith, ints, range.place) in
+  written-line : (grid : ℕ) (p : Point) (v : CBox) → IsGrid grid → InRange grid p → box_ends v ≡ target_box points cap P lists (place p) → written p v ≡ target_line mode (field_line mode points cap P lists p)
+  written-line grid p v is range e =
+      let inside = in_widest grid p.x p.y is range.place in
+      let f : SFits w64 p.x = omega (arith, ints, inside) in
+      let g : SFits w64 p.y = omega (arith, ints, inside) in
       rw (to_z-of_z f, to_z-of_z g) (ap (λ b. target_line mode (record { x = p.x; y = p.y; counts = target_counts mode b })) e)
 
   -- one target more is written, or a part of its line
   module _ (values : List CBox) (i k : ℕ) (d : Point) (v : CBox) (lt : i < length points) (h : not (is_source (get_or points i d).kind) ≡ true) (count : k ≡ length (targets (take i points)))
-      (values_are : map box_ends values ≡ target_boxes points cap P lists) (range : InRange first_grid (get_or points i d)) (value_is : v ≡ at values k) (before mid after : Option (List ℕ))
+      (values_are : map box_ends values ≡ target_boxes points cap P lists) (grid : ℕ) (is : IsGrid grid) (range : InRange grid (get_or points i d)) (value_is : v ≡ at values k) (before mid after : Option (List ℕ))
       (held : Appends before mid (target_text mode points cap P lists (take i points)))
     where
       line : written (get_or points i d) v ≡ target_line mode (field_line mode points cap P lists (get_or points i d))
-      line = written-line (get_or points i d) v range (ap box_ends value_is ∙ value-at values i k d lt h count values_are)
+      line = written-line grid (get_or points i d) v is range (ap box_ends value_is ∙ value-at values i k d lt h count values_are)
 
       pub written-step : Appends mid after (written (get_or points i d) v) → Appends before after (target_text mode points cap P lists (take (i + 1) points))
       written-step q = text-step points i d lt h before mid after held (subst (Appends mid after) line q)
@@ -148,16 +150,20 @@ module _ (mode : Mode) (points : List Point) (cap P : ℕ) (lists : TreeLists) w
       pub written-exit : AppendsPrefix mid after (written (get_or points i d) v) → AppendsPrefix before after (target_text mode points cap P lists points)
       written-exit q = text-exit points i d lt h before mid after held (subst (AppendsPrefix mid after) line q)
 
+-- the boxes of each grid are small enough to be printed
+pub box_printed : (grid : ℕ) → IsGrid grid → most_box grid ≤ most_printed
+box_printed grid is = let w = within_widest grid is in omega (arith, w.box)
+
 -- the lists of one grid are those of another that is the same
 pub on_grid : (grid other : ℕ) (points : List Point) (cap : ℕ) (lists : TreeLists) → grid ≡ other → AreTreeLists grid points cap lists → AreTreeLists other points cap lists
 on_grid grid other points cap lists e are = subst (λ n. AreTreeLists n points cap lists) e are
 
 -- what is said of the lines of a list with a capacity, said of those that are equal to them
-pub of-same : (mode : Mode) (list points : List Point) (limit cap P : ℕ) (lists : TreeLists) (F : List ℕ → Type 0) → list ≡ points → limit ≡ cap → (AreTreeLists first_grid list limit lists → F (target_text mode list limit P lists list))
-    → AreTreeLists first_grid points cap lists → F (target_text mode points cap P lists points)
-of-same mode list points limit cap P lists F e k h =
-    subst (λ n. AreTreeLists first_grid points n lists → F (target_text mode points n P lists points)) k
-    (subst (λ ps. AreTreeLists first_grid ps limit lists → F (target_text mode ps limit P lists ps)) e h)
+pub of-same : (mode : Mode) (grid : ℕ) (list points : List Point) (limit cap P : ℕ) (lists : TreeLists) (F : List ℕ → Type 0) → list ≡ points → limit ≡ cap → (AreTreeLists grid list limit lists → F (target_text mode list limit P lists list))
+    → AreTreeLists grid points cap lists → F (target_text mode points cap P lists points)
+of-same mode grid list points limit cap P lists F e k h =
+    subst (λ n. AreTreeLists grid points n lists → F (target_text mode points n P lists points)) k
+    (subst (λ ps. AreTreeLists grid ps limit lists → F (target_text mode ps limit P lists ps)) e h)
 
 -- ---- the whole report, in three pieces
 module _ (points : Points) (order cap : ℕ) (lists : TreeLists) (made summed : ℕ) (made_is : made ≡ translations points.list lists) (summed_is : summed ≡ pairs points.list lists) where
