@@ -73,7 +73,7 @@ point_fits x = record {
     south = coordinate_low (draw x 2) (draw x 3 / 4 % 4);
     north = coordinate_high (draw x 2) (draw x 3 / 4 % 4) (draw_below x 1);
   };
-  kind = each_kind (IsKindOf sample_grid) (draw x 3) (draw x 4) (draw x 5) tt tt tt;
+  kind = each_kind (IsKindOf first_grid) (draw x 3) (draw x 4) (draw x 5) tt tt tt;
   strength = strength (draw x 3) (draw x 4) (draw x 5);
 }
 
