@@ -1,5 +1,5 @@
 -- The lines of targets, one point after another, and the report in its pieces.
-use Rattle.std.proofs.Common.{◌≡◌, ◌∙◌, sym, ap, subst, refl, arith, ℕ, ◌+◌, ◌≤◌, ◌<◌, not, true, false, Result, List, [], ◌∷◌, ◌++◌, length, take, drop, get_or, map, append_assoc, ap₂, to_z, of_z, to_z-of_z, w64, SFits}
+use Rattle.std.proofs.Common.{◌≡◌, ◌∙◌, sym, ap, subst, refl, arith, ℕ, ◌+◌, ◌≤◌, ◌<◌, not, true, false, Result, List, [], ◌∷◌, ◌++◌, codes, length, take, drop, get_or, map, append_assoc, ap₂, to_z, of_z, to_z-of_z, w64, SFits}
 use Rattle.std.proofs.Math.Seq.{get_or-append_seam}
 use Rattle.std.proofs.lemmas.List.{append-nil, take_more, take-append-drop, map-append, length-append, length-take, get_or-map, length-map}
 use Rattle.std.proofs.lemmas.List.Concat.{flat_map-append}
@@ -26,7 +26,7 @@ use Rattle.tree_field.specs.Lists.{TreeLists, AreTreeLists}
 use Rattle.tree_field.specs.Work.{translations, pairs}
 use Rattle.report_lines.specs.Counts.{target_counts}
 use Rattle.field_report.specs.FieldText.{field_line, field_text, target_text}
-use Rattle.report_lines.specs.Report.{report_head, target_line, work_line, end_line, last_lines}
+use Rattle.report_lines.specs.Report.{report_head, target_line, work_line, last_lines}
 use Rattle.field_report.proofs.Pieces.{AppendsPrefix-then, AppendsPrefix-front, Writes-then}
 
 targets-append : (xs ys : List Point) → targets (xs ++ ys) ≡ targets xs ++ targets ys
@@ -171,7 +171,7 @@ module _ (points : Points) (order cap : ℕ) (lists : TreeLists) (made summed : 
   whole =
       ap₂ (λ m n. report_head points.mode order cap ++ (target_text points.mode points.list cap order lists points.list ++ last_lines m n)) made_is summed_is
       ∙ sym (append_assoc (report_head points.mode order cap) _ _)
-      ∙ sym (append_assoc (report_head points.mode order cap ++ target_text points.mode points.list cap order lists points.list) (work_line (translations points.list lists) (pairs points.list lists)) end_line)
+      ∙ sym (append_assoc (report_head points.mode order cap ++ target_text points.mode points.list cap order lists points.list) (work_line (translations points.list lists) (pairs points.list lists)) (codes "end\n"))
 
   pub head-exit : (before after : Option (List ℕ)) → AppendsPrefix before after (report_head points.mode order cap) → AppendsPrefix before after (field_text points order cap lists)
   head-exit before after p = subst (AppendsPrefix before after) whole (AppendsPrefix-front before after (report_head points.mode order cap) (target_text points.mode points.list cap order lists points.list ++ last_lines made summed) p)

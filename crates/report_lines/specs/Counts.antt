@@ -32,19 +32,12 @@ pub record TargetCounts : Type 0 where
   pub second : Ends
 
 -- A field line prints both parts. In a velocity line `u` is the real part and `v` the negative of the imaginary part.
-abbrev pub second_ends : Mode → Ends → Ends
-second_ends Field im = count_ends im
-second_ends Velocity im = neg_ends (count_ends im)
-
 abbrev pub target_counts : Mode → BoxEnds → TargetCounts
-target_counts mode b = record { first = count_ends b.re; second = second_ends mode b.im }
-
--- the second number of a target line
-abbrev pub second_part : Mode → ComplexRatio → Ratio
-second_part Field z = im_part z
-second_part Velocity z = neg_ratio (im_part z)
+target_counts Field b = record { first = count_ends b.re; second = count_ends b.im }
+target_counts Velocity b = record { first = count_ends b.re; second = neg_ends (count_ends b.im) }
 
 -- the printed counts contain the parts of the fraction, in units of 10^-12
-pub record CountsContain (mode : Mode) (c : TargetCounts) (z : ComplexRatio) : Type 0 where
-  pub first : Contains (pos (10 ^ 12)) c.first.lo c.first.hi (re_part z)
-  pub second : Contains (pos (10 ^ 12)) c.second.lo c.second.hi (second_part mode z)
+abbrev pub CountsContain : Mode → TargetCounts → ComplexRatio → Type 0
+CountsContain Field c z = record { first : Contains (pos (10 ^ 12)) c.first.lo c.first.hi (re_part z); second : Contains (pos (10 ^ 12)) c.second.lo c.second.hi (im_part z) }
+CountsContain Velocity c z =
+    record { first : Contains (pos (10 ^ 12)) c.first.lo c.first.hi (re_part z); second : Contains (pos (10 ^ 12)) c.second.lo c.second.hi (neg_ratio (im_part z)) }

@@ -5,11 +5,12 @@ ghost use Rattle.exact_math.specs.Ratio.{Ratio, neg_ratio};
 ghost use Rattle.exact_math.specs.Rounding.{floor_div};
 ghost use Rattle.exact_math.specs.Within.{Within};
 ghost use Rattle.exact_math.specs.Units.{unit};
-ghost use Rattle.fixed_interval.specs.Interval.{IntervalWithin, ends_of};
+ghost use Rattle.complex_box.specs.Box.{BoxWithin, box_ends};
+ghost use Rattle.fixed_interval.specs.Interval.{IntervalWithin};
 ghost use Rattle.limits.specs.Limits.{most_printed};
-ghost use Rattle.report_lines.specs.Counts.{second_ends, count_below, count_above, KeepsBound};
+ghost use Rattle.report_lines.specs.Counts.{target_counts, count_below, count_above, KeepsBound};
 
-use complex_box::UNIT_BITS;
+use complex_box::{CBox, UNIT_BITS};
 use fixed_interval::Interval;
 use points::Mode;
 
@@ -95,12 +96,12 @@ impl CountEnds {
 }
 
 /// The counts of the second pair of a target line: those of the imaginary part, or of its negative in a velocity line.
-pub(crate) fn second_counts(mode: Mode, im: Interval) -> CountEnds
-    requires { IntervalWithin most_printed im }
-    ensures lo { result.lo ≡ (second_ends mode (ends_of im)).lo }
-    ensures hi { result.hi ≡ (second_ends mode (ends_of im)).hi }
+pub(crate) fn second_counts(mode: Mode, v: CBox) -> CountEnds
+    requires { BoxWithin most_printed v }
+    ensures lo { result.lo ≡ (target_counts mode (box_ends v)).second.lo }
+    ensures hi { result.hi ≡ (target_counts mode (box_ends v)).second.hi }
 {
-    let counts = CountEnds::of(im);
+    let counts = CountEnds::of(v.im);
     match mode {
         Mode::Field => counts,
         Mode::Velocity => counts.neg(),

@@ -6,7 +6,7 @@ ghost use Rattle.exact_math.specs.Units.{unit};
 ghost use Rattle.limits.specs.Limits.{most_printed};
 ghost use Rattle.report_lines.specs.Counts.{CountsContain, target_counts};
 ghost use Rattle.line_text.specs.Decimals.{decimal_text};
-ghost use Rattle.report_lines.specs.Report.{first_word, second_word, line_of, target_line};
+ghost use Rattle.report_lines.specs.Report.{labels, line_of, target_line};
 ghost use Rattle.io_ports.specs.Bytes.{Writes};
 ghost use Rattle.io_ports.specs.Faults.{HasCause};
 
@@ -40,7 +40,7 @@ pub fn write_target<S: Sink>(
     ensures cause { HasCause (S.faults sink.old) (S.faults sink.new) result }
 {
     let first = CountEnds::of(v.re);
-    let second = second_counts(mode, v.im);
+    let second = second_counts(mode, v);
     put_line(mode, x, y, first, second, sink)
 }
 
@@ -90,7 +90,7 @@ fn prepend_counts(line: &mut FrontText<LINE>, counts: CountEnds)
 
 // The words before the first pair of counts.
 fn first_label(mode: Mode) -> &'static [u8]
-    ensures word { result.now ≡ first_word mode }
+    ensures word { result.now ≡ (labels mode).0 }
     ensures room { length result.now ≤ 4 }
 {
     match mode {
@@ -101,7 +101,7 @@ fn first_label(mode: Mode) -> &'static [u8]
 
 // The words before the second pair of counts.
 fn second_label(mode: Mode) -> &'static [u8]
-    ensures word { result.now ≡ second_word mode }
+    ensures word { result.now ≡ (labels mode).1 }
     ensures room { length result.now ≤ 4 }
 {
     match mode {
