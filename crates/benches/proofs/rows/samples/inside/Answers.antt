@@ -1,6 +1,4 @@
 use Rattle.std.proofs.Common.{rules}
-use Rattle.limits.specs.Grid.{IsInGrid}
-use Rattle.limits.specs.Limits.{widest_grid}
 use Rattle.points.proofs.Ranges.{kind_of_widest}
 use Rattle.benches.proofs.rows.samples.inside.Goals as goal
 
