@@ -110,7 +110,7 @@ impl Tree {
         (self.nodes[n].to - self.nodes[n].from) as u64
     }
 
-    /// Whether a charge, a vortex or a dipole lies in the cell.
+    /// Whether a source lies in the cell.
     pub fn has_source(&self, n: usize) -> bool
         requires { n < size self.now }
         ensures { result ≡ (node_of self.now n).has_source }
