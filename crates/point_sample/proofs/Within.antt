@@ -15,7 +15,7 @@ use Rattle.points.specs.declared.Mode.TheVariants.{Field}
 use Rattle.points.specs.declared.Point.{Point}
 use Rattle.limits.specs.Grid.{half}
 use Rattle.limits.specs.Limits.{most_strength}
-use Rattle.points.specs.Limits.{InRange, HasStrength, FitsMode, WithinLimits, weight64}
+use Rattle.points.specs.Limits.{InRange, IsKindOf, HasStrength, FitsMode, WithinLimits, weight64}
 use Rattle.exact_math.specs.Sizes.{abs_gaussian}
 use Rattle.points.specs.Points.{pole, dipole}
 use Rattle.point_sample.specs.Generator.{draw}
@@ -72,6 +72,7 @@ point_fits x = record {
     south = coordinate_low (draw x 2) (draw x 3 / 4 % 4);
     north = coordinate_high (draw x 2) (draw x 3 / 4 % 4) (draw_below x 1);
   };
+  kind = each_kind (IsKindOf sample_grid) (draw x 3) (draw x 4) (draw x 5) tt tt tt;
   strength = strength (draw x 3) (draw x 4) (draw x 5);
 }
 
