@@ -8,7 +8,7 @@ ghost use Rattle.limits.specs.Limits.{IsGrid, widest_grid};
 
 use limits::half;
 
-/// A cell of the quadtree on a grid of 16 or 20 bits, ordered by level, column and row.
+/// A cell of the quadtree on a grid of 16 or 20 bits, compared by level, column and row, and at last by grid.
 ///
 /// Level 0 is the whole grid, and each level halves the side. Column `i` counts from the west and row `j` from the south.
 #[derive(Clone, Copy, PartialEq, Eq, PartialOrd, Ord, Debug)]

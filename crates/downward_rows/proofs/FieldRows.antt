@@ -20,7 +20,6 @@ use Rattle.quadtree.proofs.Limits.{in_grid}
 use Rattle.exact_math.proofs.Lists.{image_of}
 use Rattle.quadtree.specs.TreeModel.{size, square_of, node_of}
 use Rattle.row_recursions.proofs.RowSizes.{power_positive}
-use Rattle.row_recursions.specs.Geometry.{sides_between}
 use Rattle.row_recursions.specs.Rows.{converted, far_source, AreSameRows}
 use Rattle.soundness.specs.Computed.{total_row, total_box}
 use Rattle.soundness.specs.Squares.{IsFarFrom, offset, quadrant}
@@ -37,6 +36,7 @@ use Rattle.downward_rows.proofs.Lists.{entries_by_number}
 use Rattle.downward_rows.proofs.SameRows.{shifted_down_same}
 use Rattle.row_recursions.specs.Cells.{far_coefficients_in}
 use Rattle.soundness.specs.Steps.{v_rows, x_rows}
+use Rattle.cell_name.specs.Apart.{sides_between}
 
 -- ---- the points of a far cell
 -- a target far from a cell adds nothing

@@ -10,7 +10,6 @@ use Rattle.points.specs.Limits.{InRange}
 use Rattle.points.specs.Points.{place}
 use Rattle.points.specs.declared.Point.{Point}
 use Rattle.quadtree.specs.TreeModel.{TreeModel, size, square_of, node_of}
-use Rattle.row_recursions.specs.Geometry.{sides_between}
 use Rattle.soundness.specs.Steps.{total_row, v_rows, x_rows}
 use Rattle.soundness.specs.Squares.{IsFarFrom, quadrant}
 use Rattle.tree_field.specs.Field.{multipole_row, sources_in}
@@ -18,6 +17,7 @@ use Rattle.field_basis.specs.Basis.{BasisModel}
 use Rattle.field_basis.specs.Targets.{point_at}
 use Rattle.row_recursions.specs.Cells.{far_coefficients_in}
 use Rattle.row_recursions.specs.Rows.{shifted_down, converted}
+use Rattle.cell_name.specs.Apart.{sides_between}
 
 -- the centre of cell b is a distance of the kernel from that of cell c
 pub record IsVEntryAt (tree : TreeModel) (b c : ℕ) : Type 0 where

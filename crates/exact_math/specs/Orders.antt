@@ -3,7 +3,7 @@ use Rattle.std.specs.Prelude.{ℕ, ◌≤◌, ◌≡◌, ◌⊎◌}
 
 -- the orders of expansion that the program offers
 abbrev pub IsOrder : ℕ → Type 0
-IsOrder order = (order ≡ 4) ⊎ ((order ≡ 8) ⊎ ((order ≡ 16) ⊎ (order ≡ 24)))
+IsOrder order = (order ≡ 4) ⊎ ((order ≡ 8) ⊎ ((order ≡ 16) ⊎ ((order ≡ 24) ⊎ (order ≡ 32))))
 
 -- what rows, tails and radii ask of an order
 abbrev pub OrderBounds : Type 0

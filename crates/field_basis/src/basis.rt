@@ -6,7 +6,7 @@ ghost use Rattle.points.specs.Limits.{AreWithin};
 ghost use Rattle.quadtree.specs.TreeModel.{IsTreeOf, size};
 ghost use Rattle.field_basis.specs.Basis.{IsBasis};
 ghost use Rattle.field_basis.specs.Trees.{IsTreeOfPoints};
-ghost use Rattle.field_basis.specs.Weights.{AreWeights, IsWeight};
+ghost use Rattle.field_basis.specs.Weights.{AreCounted, AreWeights, IsWeight};
 
 use crate::targets::target_positions;
 use crate::weights::weigh_cells;
@@ -61,6 +61,65 @@ fn cell_weights(
     Ok(weights)
 }
 
+/// The copied points, the weight of each cell, and the positions of the targets.
+#[derive(Drop)]
+struct Counted {
+    points: Vec<Point>,
+    weights: Vec<i128>,
+    targets: Vec<u32>,
+}
+
+impl Counted {
+    /// What is counted of the points over their tree.
+    fn of(alloc: Global, points: &[Point], tree: &Tree, order: u32) -> Result<Counted, AllocError>
+        requires tree { IsTreeOfPoints points.now tree.now }
+        requires least { 1 ≤ order }
+        requires most { order ≤ 32 }
+        ensures { IfOk result (λ c. AreCounted points.now order tree.now c.points.items c.weights.items c.targets.items) }
+    {
+        let weights = cell_weights(alloc, tree, points, order)?;
+        let targets = target_positions(alloc, points)?;
+        let points = Vec::from_slice(alloc, points)?;
+        Ok(Counted {
+            points,
+            weights,
+            targets,
+        })
+    }
+}
+
+/// What a basis has beside its tree.
+#[derive(Drop)]
+struct Beside<const P: usize> {
+    counted: Counted,
+    kernel: Kernel<P>,
+    lists: EntryLists,
+}
+
+impl<const P: usize> Beside<P> {
+    /// What a basis of the points has beside their tree.
+    fn of(alloc: Global, points: &[Point], tree: &Tree) -> Result<Beside<P>, AllocError>
+        requires order { IsOrder P }
+        requires tree { IsTreeOfPoints points.now tree.now }
+        ensures counted { IfOk result (λ b. AreCounted points.now P tree.now b.counted.points.items b.counted.weights.items b.counted.targets.items) }
+        ensures lists { IfOk result (λ b. AreLists tree.now b.lists) }
+        ensures short { IfOk result (λ b. VListsAreShort b.lists) }
+    {
+        let counted = Counted::of(alloc, points, tree, P as u32)?;
+        let Ok(kernel) = Kernel::new(alloc) else {
+            return Err(AllocError);
+        };
+        let Ok(lists) = lists(alloc, tree) else {
+            return Err(AllocError);
+        };
+        Ok(Beside {
+            counted,
+            kernel,
+            lists,
+        })
+    }
+}
+
 impl<const P: usize> Basis<P> {
     /// The basis over the tree of the points, which are copied.
     ///
@@ -81,46 +140,16 @@ impl<const P: usize> Basis<P> {
         ensures cap { IfOk result (λ basis. basis.cap ≡ cap) }
         ensures tree { IfOk result (λ basis. basis.tree ≡ tree) }
     {
-        let Ok(lists) = lists(alloc, &tree) else {
-            return Err(AllocError);
-        };
-        let Ok(kernel) = Kernel::new(alloc) else {
-            return Err(AllocError);
-        };
-        Basis::with_lists(alloc, points, cap, tree, lists, kernel)
-    }
-
-    /// The basis over the tree of the points with the tree's lists and the kernel.
-    fn with_lists(
-        alloc: Global,
-        points: &[Point],
-        cap: u32,
-        tree: Tree,
-        lists: EntryLists,
-        kernel: Kernel<P>,
-    ) -> Result<Basis<P>, AllocError>
-        requires order { IsOrder P }
-        requires within { AreWithin tree.grid points.now }
-        requires capacity { IsCapacity cap }
-        requires tree { IsTreeOf tree points.now cap }
-        requires lists { AreLists tree lists }
-        requires short { VListsAreShort lists }
-        ensures stands { IfOk result (λ basis. IsBasis P basis) }
-        ensures points { IfOk result (λ basis. basis.points ≡ points.now) }
-        ensures cap { IfOk result (λ basis. basis.cap ≡ cap) }
-        ensures tree { IfOk result (λ basis. basis.tree ≡ tree) }
-    {
-        let weights = cell_weights(alloc, &tree, points, P as u32)?;
-        let targets = target_positions(alloc, points)?;
-        let points = Vec::from_slice(alloc, points)?;
+        let beside = Beside::of(alloc, points, &tree)?;
+        let counted = beside.counted;
         Ok(Basis {
-            points,
+            points: counted.points,
             cap,
             tree,
-            lists,
-            kernel,
-            weights,
-            targets,
+            lists: beside.lists,
+            kernel: beside.kernel,
+            weights: counted.weights,
+            targets: counted.targets,
         })
     }
 }

@@ -1,5 +1,5 @@
 -- The lines of targets, one point after another, and the report in its pieces.
-use Rattle.std.proofs.Common.{◌≡◌, ◌∙◌, sym, ap, subst, refl, arith, ℕ, ◌+◌, ◌≤◌, ◌<◌, not, true, false, Result, List, [], ◌∷◌, ◌++◌, length, take, drop, get_or, map, append_assoc, ap₂, to_z, of_z, to_z-of_z, w64, SFits}
+use Rattle.std.proofs.Common.{◌≡◌, ◌∙◌, sym, ap, subst, refl, arith, ℕ, ◌+◌, ◌≤◌, ◌<◌, not, true, false, Result, List, [], ◌∷◌, ◌++◌, codes, length, take, drop, get_or, map, append_assoc, ap₂, to_z, of_z, to_z-of_z, w64, SFits}
 use Rattle.std.proofs.Math.Seq.{get_or-append_seam}
 use Rattle.std.proofs.lemmas.List.{append-nil, take_more, take-append-drop, map-append, length-append, length-take, get_or-map, length-map}
 use Rattle.std.proofs.lemmas.List.Concat.{flat_map-append}
@@ -14,7 +14,8 @@ use Rattle.complex_box.specs.Box.{box_ends}
 use Rattle.complex_box.specs.Rows.{at, zero_cbox}
 use Rattle.complex_box.specs.declared.CBox.{CBox}
 use Rattle.io_ports.specs.Bytes.{AppendsPrefix, Writes}
-use Rattle.limits.specs.Limits.{first_grid}
+use Rattle.limits.proofs.Grids.{in_widest, within_widest}
+use Rattle.limits.specs.Limits.{IsGrid, most_box, most_printed}
 use Rattle.points.specs.Points.{is_source, place}
 use Rattle.points.specs.Limits.{InRange}
 use Rattle.points.specs.declared.Mode.{Mode}
@@ -25,7 +26,7 @@ use Rattle.tree_field.specs.Lists.{TreeLists, AreTreeLists}
 use Rattle.tree_field.specs.Work.{translations, pairs}
 use Rattle.report_lines.specs.Counts.{target_counts}
 use Rattle.field_report.specs.FieldText.{field_line, field_text, target_text}
-use Rattle.report_lines.specs.Report.{report_head, target_line, work_line, end_line, last_lines}
+use Rattle.report_lines.specs.Report.{report_head, target_line, work_line, last_lines}
 use Rattle.field_report.proofs.Pieces.{AppendsPrefix-then, AppendsPrefix-front, Writes-then}
 
 targets-append : (xs ys : List Point) → targets (xs ++ ys) ≡ targets xs ++ targets ys
@@ -128,19 +129,20 @@ module _ (mode : Mode) (points : List Point) (cap P : ℕ) (lists : TreeLists) w
   abbrev written : Point → CBox → List ℕ
   written p v = target_line mode (record { x = to_z w64 (of_z w64 p.x); y = to_z w64 (of_z w64 p.y); counts = target_counts mode (box_ends v) })
 
-  written-line : (p : Point) (v : CBox) → InRange first_grid p → box_ends v ≡ target_box points cap P lists (place p) → written p v ≡ target_line mode (field_line mode points cap P lists p)
-  written-line p v range e =
-      let f : SFits w64 p.x = omega (arith, ints, range.place) in
-      let g : SFits w64 p.y = omega (arith, ints, range.place) in
+  written-line : (grid : ℕ) (p : Point) (v : CBox) → IsGrid grid → InRange grid p → box_ends v ≡ target_box points cap P lists (place p) → written p v ≡ target_line mode (field_line mode points cap P lists p)
+  written-line grid p v is range e =
+      let inside = in_widest grid p.x p.y is range.place in
+      let f : SFits w64 p.x = omega (arith, ints, inside) in
+      let g : SFits w64 p.y = omega (arith, ints, inside) in
       rw (to_z-of_z f, to_z-of_z g) (ap (λ b. target_line mode (record { x = p.x; y = p.y; counts = target_counts mode b })) e)
 
   -- one target more is written, or a part of its line
   module _ (values : List CBox) (i k : ℕ) (d : Point) (v : CBox) (lt : i < length points) (h : not (is_source (get_or points i d).kind) ≡ true) (count : k ≡ length (targets (take i points)))
-      (values_are : map box_ends values ≡ target_boxes points cap P lists) (range : InRange first_grid (get_or points i d)) (value_is : v ≡ at values k) (before mid after : Option (List ℕ))
+      (values_are : map box_ends values ≡ target_boxes points cap P lists) (grid : ℕ) (is : IsGrid grid) (range : InRange grid (get_or points i d)) (value_is : v ≡ at values k) (before mid after : Option (List ℕ))
       (held : Appends before mid (target_text mode points cap P lists (take i points)))
     where
       line : written (get_or points i d) v ≡ target_line mode (field_line mode points cap P lists (get_or points i d))
-      line = written-line (get_or points i d) v range (ap box_ends value_is ∙ value-at values i k d lt h count values_are)
+      line = written-line grid (get_or points i d) v is range (ap box_ends value_is ∙ value-at values i k d lt h count values_are)
 
       pub written-step : Appends mid after (written (get_or points i d) v) → Appends before after (target_text mode points cap P lists (take (i + 1) points))
       written-step q = text-step points i d lt h before mid after held (subst (Appends mid after) line q)
@@ -148,16 +150,20 @@ module _ (mode : Mode) (points : List Point) (cap P : ℕ) (lists : TreeLists) w
       pub written-exit : AppendsPrefix mid after (written (get_or points i d) v) → AppendsPrefix before after (target_text mode points cap P lists points)
       written-exit q = text-exit points i d lt h before mid after held (subst (AppendsPrefix mid after) line q)
 
+-- the boxes of each grid are small enough to be printed
+pub box_printed : (grid : ℕ) → IsGrid grid → most_box grid ≤ most_printed
+box_printed grid is = let w = within_widest grid is in omega (arith, w.box)
+
 -- the lists of one grid are those of another that is the same
 pub on_grid : (grid other : ℕ) (points : List Point) (cap : ℕ) (lists : TreeLists) → grid ≡ other → AreTreeLists grid points cap lists → AreTreeLists other points cap lists
 on_grid grid other points cap lists e are = subst (λ n. AreTreeLists n points cap lists) e are
 
 -- what is said of the lines of a list with a capacity, said of those that are equal to them
-pub of-same : (mode : Mode) (list points : List Point) (limit cap P : ℕ) (lists : TreeLists) (F : List ℕ → Type 0) → list ≡ points → limit ≡ cap → (AreTreeLists first_grid list limit lists → F (target_text mode list limit P lists list))
-    → AreTreeLists first_grid points cap lists → F (target_text mode points cap P lists points)
-of-same mode list points limit cap P lists F e k h =
-    subst (λ n. AreTreeLists first_grid points n lists → F (target_text mode points n P lists points)) k
-    (subst (λ ps. AreTreeLists first_grid ps limit lists → F (target_text mode ps limit P lists ps)) e h)
+pub of-same : (mode : Mode) (grid : ℕ) (list points : List Point) (limit cap P : ℕ) (lists : TreeLists) (F : List ℕ → Type 0) → list ≡ points → limit ≡ cap → (AreTreeLists grid list limit lists → F (target_text mode list limit P lists list))
+    → AreTreeLists grid points cap lists → F (target_text mode points cap P lists points)
+of-same mode grid list points limit cap P lists F e k h =
+    subst (λ n. AreTreeLists grid points n lists → F (target_text mode points n P lists points)) k
+    (subst (λ ps. AreTreeLists grid ps limit lists → F (target_text mode ps limit P lists ps)) e h)
 
 -- ---- the whole report, in three pieces
 module _ (points : Points) (order cap : ℕ) (lists : TreeLists) (made summed : ℕ) (made_is : made ≡ translations points.list lists) (summed_is : summed ≡ pairs points.list lists) where
@@ -165,7 +171,7 @@ module _ (points : Points) (order cap : ℕ) (lists : TreeLists) (made summed : 
   whole =
       ap₂ (λ m n. report_head points.mode order cap ++ (target_text points.mode points.list cap order lists points.list ++ last_lines m n)) made_is summed_is
       ∙ sym (append_assoc (report_head points.mode order cap) _ _)
-      ∙ sym (append_assoc (report_head points.mode order cap ++ target_text points.mode points.list cap order lists points.list) (work_line (translations points.list lists) (pairs points.list lists)) end_line)
+      ∙ sym (append_assoc (report_head points.mode order cap ++ target_text points.mode points.list cap order lists points.list) (work_line (translations points.list lists) (pairs points.list lists)) (codes "end\n"))
 
   pub head-exit : (before after : Option (List ℕ)) → AppendsPrefix before after (report_head points.mode order cap) → AppendsPrefix before after (field_text points order cap lists)
   head-exit before after p = subst (AppendsPrefix before after) whole (AppendsPrefix-front before after (report_head points.mode order cap) (target_text points.mode points.list cap order lists points.list ++ last_lines made summed) p)

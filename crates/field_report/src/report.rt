@@ -3,7 +3,7 @@ ghost use Rattle.std.specs.Prelude.{◌≡◌, All};
 ghost use Rattle.field_report.specs.FieldText.{field_text, target_text};
 ghost use Rattle.io_ports.specs.Bytes.{Writes};
 ghost use Rattle.io_ports.specs.Faults.{HasCause};
-ghost use Rattle.limits.specs.Limits.{first_grid, grid_of};
+ghost use Rattle.limits.specs.Limits.{grid_of};
 ghost use Rattle.points.specs.Limits.{InRange, WithinLimits};
 ghost use Rattle.solve_phase.specs.Field.{IsSolved};
 ghost use Rattle.tree_field.specs.Lists.{OfTreeLists};
@@ -13,17 +13,16 @@ use points::{Mode, Point, Points};
 use report_lines::{write_end, write_head, write_target};
 use solve_phase::Field;
 
-// Appends the lines of all targets, in the order of the list.
+// Appends the lines of all targets, in the order of the list, whose points are in range of the field's grid.
 fn write_targets<const P: usize, S: Sink>(
     mode: Mode,
     points: &[Point],
     field: &Field<P>,
     sink: &mut S,
 ) -> Result<(), WriteFault>
-    requires range { All (InRange first_grid) points.now }
+    requires range { All (InRange field.now.basis.tree.grid) points.now }
     requires field { IsSolved points.now field.now.basis.cap P field.now }
-    requires grid { field.now.basis.tree.grid ≡ first_grid }
-    ensures bytes { OfTreeLists first_grid points.now field.now.basis.cap (λ lists.
+    ensures bytes { OfTreeLists field.now.basis.tree.grid points.now field.now.basis.cap (λ lists.
         Writes result (S.held sink.old) (S.held sink.new) (target_text mode points.now field.now.basis.cap P lists points.now)) }
     ensures cause { HasCause (S.faults sink.old) (S.faults sink.new) result }
 {

@@ -11,3 +11,5 @@ mod compare;
 mod fields;
 #[cfg(test)]
 mod rows;
+#[cfg(test)]
+mod wide;

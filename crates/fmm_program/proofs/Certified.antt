@@ -34,26 +34,27 @@ lines_contain : (points : Points) (cap P : ℕ) (lists : TreeLists) (some : List
     → AllZip (LineContains points) some (map (field_line points.mode points.list cap P lists) some)
 lines_contain points cap P lists [] h = tt
 lines_contain points cap P lists (t ∷ some) h = (
-  record { x = refl; y = refl; sum = CountsContain-box points.mode (target_box points.list cap P lists (place t)) (direct_sum (place t) points.list) h.0 },
+  (refl, refl, CountsContain-box points.mode (target_box points.list cap P lists (place t)) (direct_sum (place t) points.list) h.0),
   lines_contain points cap P lists some h.1,
 )
 
 pub certified : (order cap : ℕ) (input out : List ℕ) → IsOrder order → IsReported order cap input out → IsCertified order cap input out
 certified order cap input out is_order s =
-    let grid = grid_of s.points.version in
-    let some = grid_positive grid (version_has_grid s.points.version) in
-    let inside : AreInGrid grid s.points.list = in_grid grid s.points.list s.read.spelled.limits.within.range in
-    let boxes = field_contains grid s.points.list cap order s.lists some (order_bounds order is_order).0 inside s.lists_are in
+    let points = s.depth.points in
+    let grid = grid_of points.version in
+    let some = grid_positive grid (version_has_grid points.version) in
+    let inside : AreInGrid grid points.list = in_grid grid points.list s.depth.read.spelled.limits.within.range in
+    let boxes = field_contains grid points.list cap order s.lists some (order_bounds order is_order).0 inside s.lists_are in
     record {
-      points = s.points;
-      read = s.read;
+      points = points;
+      read = s.depth.read;
       lists = s.lists;
       lists_are = s.lists_are;
-      lines = map (field_line s.points.mode s.points.list cap order s.lists) (targets s.points.list);
+      lines = map (field_line points.mode points.list cap order s.lists) (targets points.list);
       report = s.report;
-      contain = lines_contain s.points cap order s.lists (targets s.points.list) (recursion_from_All _ (targets s.points.list) boxes);
-      one_entry = one_list_entry grid s.points.list cap s.lists some inside s.lists_are;
-      few = translations_are_few s.points.list s.lists;
+      contain = lines_contain points cap order s.lists (targets points.list) (recursion_from_All _ (targets points.list) boxes);
+      one_entry = one_list_entry grid points.list cap s.lists some inside s.lists_are;
+      few = translations_are_few points.list s.lists;
     }
 
 -- all that the source told came

@@ -1,8 +1,8 @@
 -- A text with no crowded place and few cells is not refused, and no run of `solve` has the answers of other commands.
-use Rattle.std.proofs.Common.{◌≡◌, subst, sym, refl, arith, ℕ, ◌⊎◌, inl, inr, List, []}
+use Rattle.std.proofs.Common.{◌≡◌, subst, sym, refl, arith, ℕ, ◌<◌, ◌⊎◌, inl, inr, List, []}
 use Rattle.particle_text.proofs.OneFault.{never_both}
 use Rattle.particle_text.proofs.OneText.{one_list}
-use Rattle.limits.specs.Limits.{grid_of}
+use Rattle.limits.specs.Limits.{grid_of, most_order}
 use Rattle.points.specs.declared.Points.{Points}
 use Rattle.quadtree.specs.Faults.{HasTree}
 use Rattle.fmm_program.specs.Answers.{HasDepth, RefusesDepth, SolveAnswers}
@@ -12,8 +12,8 @@ use Rattle.fmm_program.specs.declared.status.Status.TheVariants.{Done, Refused, 
 
 -- points that have a tree are not refused for depth
 pub deep_enough : (points : Points) (cap : ℕ) (out : List ℕ) → HasTree (grid_of points.version) points.list cap → RefusesDepth points cap out → ⊥
-deep_enough points cap out has (inl crowded) = has.none_crowded crowded.cell crowded.first.crowded
-deep_enough points cap out has (inr cells) = has.no_more cells.too_many.too_many
+deep_enough points cap out has (inl crowded) = has.none_crowded crowded.0 crowded.2.crowded
+deep_enough points cap out has (inr cells) = has.no_more cells.0.too_many
 
 -- the answers of `solve` have no certificate
 pub solve_plain : (order cap : ℕ) (input : List ℕ) (status : Status) (output : Output) → SolveAnswers order cap input status output → output.cert ≡ []
@@ -26,13 +26,16 @@ solve_plain order cap input WriteFault output a = absurd a
 solve_plain order cap input Rejected output a = absurd a
 
 module _ (order cap : ℕ) (input : List ℕ) (out cert : Flow) where
-  module _ (depth : HasDepth cap input) where
+  module _ (depth : HasDepth order cap input) where
     refused : Ends (SolveAnswers order cap input) Refused out cert → ⊥
-    refused (output, (inl long, e), p, q) = absurd (let l = long.long in let w = depth.read.within in omega arith)
-    refused (output, (inr (inl faulty), e), p, q) = never_both input depth.points faulty.number faulty.kind depth.read.spelled faulty.fault
-    refused (output, (inr (inr deep), e), p, q) =
-        let same = one_list input deep.points depth.points deep.read.spelled depth.read.spelled in
-        deep_enough deep.points cap output.out (subst (λ (ps : Points). HasTree (grid_of ps.version) ps.list cap) (sym same) depth.has_tree) deep.refuses
+    refused (output, (inl long, e), p, q) = absurd (let l = long.0 in let w = depth.read.within in omega arith)
+    refused (output, (inr (inl faulty), e), p, q) = never_both input depth.points faulty.1.0 faulty.1.1 depth.read.spelled faulty.1.2
+    refused (output, (inr (inr (inl other)), e), p, q) =
+        let same = one_list input other.0 depth.points other.1.spelled depth.read.spelled in
+        absurd (let above = subst (λ (ps : Points). most_order (grid_of ps.version) < order) same other.2 in let most = depth.has_order in omega (arith, above, most))
+    refused (output, (inr (inr (inr deep)), e), p, q) =
+        let same = one_list input deep.0 depth.points deep.1.spelled depth.read.spelled in
+        deep_enough deep.0 cap output.out (subst (λ (ps : Points). HasTree (grid_of ps.version) ps.list cap) (sym same) depth.has_tree) deep.3
 
     pub completes : (status : Status) → Ends (SolveAnswers order cap input) status out cert → (status ≡ ReadFault → ⊥) → (status ≡ WriteFault → ⊥) → (status ≡ Done) ⊎ (status ≡ Memory)
     completes Done ends r w = inl refl

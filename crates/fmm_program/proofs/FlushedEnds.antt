@@ -6,7 +6,7 @@ use Rattle.std.specs.Io.KnownBytes.{Appends, Keeps}
 use Rattle.std.specs.declared.option.Option.{Option}
 use Rattle.io_ports.specs.Bytes.{AppendsPrefix}
 use Rattle.io_ports.specs.Faults.{Rose}
-use Rattle.fmm_program.specs.Endings.{Ends, Flow, OneLine, Output, TellsFaults, flow, plain, untold}
+use Rattle.fmm_program.specs.Endings.{Ends, Flow, OneLine, Output, TellsFaults, flow, untold}
 use Rattle.fmm_program.specs.declared.status.Status.{Status}
 use Rattle.fmm_program.specs.declared.status.Status.TheVariants.{Done, Refused, Usage, Memory, ReadFault, WriteFault, Rejected}
 
@@ -20,9 +20,16 @@ Ends-map A B to out cert Memory e = e
 Ends-map A B to out cert ReadFault e = e
 Ends-map A B to out cert WriteFault (status, output, a, p, q) = (status, output, to status output a, p, q)
 
+-- nothing but this goes out
+abbrev pub plain : List ℕ → Output
+plain bytes = record { out = bytes; cert = [] }
+
 -- the same of the one answer of a line
 pub Ends-line : (B : Status → Output → Type 0) (ending : Status) (line : List ℕ) → B ending (plain line) → (out cert : Flow) (status : Status) → Ends (OneLine ending line) status out cert → Ends B status out cert
-Ends-line B ending line b = Ends-map (OneLine ending line) B (λ status output h. subst (λ s. B s output) (sym h.0) (subst (B ending) (sym h.1) b))
+Ends-line B ending line b = Ends-map (OneLine ending line) B (λ status output h. subst (λ s. B s output) (sym h.0) (subst (B ending) (sym (same output h.1 h.2)) b))
+  where
+    same : (output : Output) → output.out ≡ line → output.cert ≡ [] → output ≡ plain line
+    same output out cert = λ i. record { out = out i; cert = cert i }
 
 -- what is whole is a part of itself
 pub AppendsPrefix-whole : (before after : Option (List ℕ)) (bytes : List ℕ) → Appends before after bytes → AppendsPrefix before after bytes

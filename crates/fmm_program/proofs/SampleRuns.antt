@@ -5,23 +5,22 @@ use Rattle.std.specs.Io.KnownBytes.{Appends, Keeps}
 use Rattle.std.specs.declared.option.Option.{Option}
 use Rattle.io_ports.specs.Bytes.{AppendsPrefix}
 use Rattle.io_ports.specs.Faults.{Rose}
-use Rattle.limits.specs.Limits.{grid_of}
+use Rattle.limits.specs.Limits.{first_grid, grid_of}
 use Rattle.points.specs.Limits.{WithinLimits}
 use Rattle.points.specs.declared.Point.{Point}
 use Rattle.points.specs.declared.Points.{Points}
-use Rattle.point_sample.specs.Sample.{sample, sample_grid, sample_list, sample_point}
+use Rattle.point_sample.specs.Sample.{sample}
 use Rattle.quadtree.proofs.Limits.{in_grid}
 use Rattle.quadtree.specs.Faults.{HasTree}
-use Rattle.sample_summary.specs.Summary.{summary_of}
-use Rattle.sample_summary.specs.Text.{summary_text}
+use Rattle.sample_summary.specs.Summary.{summary_text}
 use Rattle.tree_field.proofs.EachList.{each_list_has_tree}
 use Rattle.tree_field.specs.Lists.{TreeLists, AreTreeLists}
 use Rattle.fmm_program.proofs.Complete.{deep_enough}
-use Rattle.fmm_program.proofs.FlushedEnds.{Ends-map, flushed_ends}
+use Rattle.fmm_program.proofs.FlushedEnds.{Ends-map, flushed_ends, plain}
 use Rattle.fmm_program.specs.Answers.{DepthAnswers}
-use Rattle.fmm_program.specs.Endings.{Ends, Flow, HasFault, Output, flow, plain, untold}
+use Rattle.fmm_program.specs.Endings.{Ends, Flow, HasFault, Output, flow, untold}
 use Rattle.fmm_program.specs.Runs.{SampleRun}
-use Rattle.fmm_program.specs.SampleAnswers.{HasSampleDepth, IsSummarized, SampleAnswers}
+use Rattle.fmm_program.specs.SampleAnswers.{SampleAnswers}
 use Rattle.fmm_program.specs.declared.status.Status.{Status}
 use Rattle.fmm_program.specs.declared.status.Status.TheVariants.{Done, Refused, Usage, Memory, ReadFault, WriteFault, Rejected}
 
@@ -44,7 +43,7 @@ module _ (seed n order cap : ℕ) where
     pub sample_rejects_none : (status : Status) → Ends (SampleAnswers seed n order cap) status out cert → status ≡ Rejected → ⊥
     sample_rejects_none status ends e = (subst (λ s. Ends (SampleAnswers seed n order cap) s out cert) e ends).1
 
-    completes : HasSampleDepth seed n cap → (status : Status) → Ends (SampleAnswers seed n order cap) status out cert → (status ≡ ReadFault → ⊥) → (status ≡ WriteFault → ⊥) → (status ≡ Done) ⊎ (status ≡ Memory)
+    completes : HasTree first_grid (sample seed n).list cap → (status : Status) → Ends (SampleAnswers seed n order cap) status out cert → (status ≡ ReadFault → ⊥) → (status ≡ WriteFault → ⊥) → (status ≡ Done) ⊎ (status ≡ Memory)
     completes has Done ends r w = inl refl
     completes has Memory ends r w = inr refl
     completes has Refused (output, a, p, q) r w = absurd (deep_enough (sample seed n) cap output.out has a.0)
@@ -82,34 +81,28 @@ module _ (seed n order cap : ℕ) where
       deep WriteFault output a = absurd a
       deep Rejected output a = absurd a
 
-  -- the summary of some points over these lists
-  abbrev summary_over : List Point → TreeLists → List ℕ
-  summary_over points lists = summary_text seed (length points) order cap (summary_of points cap order lists)
+  module _ (limits : WithinLimits (sample seed n)) (has : HasTree first_grid (sample seed n).list cap) where
+    some : (lists : TreeLists) × AreTreeLists first_grid ((sample seed n).list) cap lists
+    some = each_list_has_tree first_grid ((sample seed n).list) cap (omega arith) (in_grid first_grid ((sample seed n).list) limits.within.range)
 
-  module _ (limits : WithinLimits (sample seed n)) (has : HasSampleDepth seed n cap) where
-    some : (lists : TreeLists) × AreTreeLists sample_grid (sample_list seed n) cap lists
-    some = each_list_has_tree sample_grid (sample_list seed n) cap (omega arith) (in_grid sample_grid (sample_list seed n) limits.within.range)
+    summary : List ℕ
+    summary = summary_text seed (sample seed n).list order cap some.0
 
-    summarized : IsSummarized seed n order cap (summary_over (sample_list seed n) some.0)
-    summarized = record {
-      depth = has;
-      lists = some.0;
-      lists_are = some.1;
-      summary = ap (λ k. summary_text seed k order cap (summary_of (sample_list seed n) cap order some.0)) (length-map-range_with_len (sample_point seed) 0 n);
-    }
+    summarized : SampleAnswers seed n order cap Done (plain summary)
+    summarized = (has, refl, (some.0, some.1, refl))
 
   -- what goes out with the summary, all of it or a part of it
   module _ (before after : Option (List ℕ)) where
     pub summary_ends : (points : Points) → points ≡ sample seed n → WithinLimits points → HasTree (grid_of points.version) points.list cap
-        → ((lists : TreeLists) → AreTreeLists sample_grid points.list cap lists → Appends before after (summary_over points.list lists)) → Ends (SampleAnswers seed n order cap) Done (flow before after 0 0) untold
+        → ((lists : TreeLists) → AreTreeLists first_grid points.list cap lists → Appends before after (summary_text seed points.list order cap lists)) → Ends (SampleAnswers seed n order cap) Done (flow before after 0 0) untold
     summary_ends points e =
-        subst (λ (ps : Points). WithinLimits ps → HasTree (grid_of ps.version) ps.list cap → ((lists : TreeLists) → AreTreeLists sample_grid ps.list cap lists → Appends before after (summary_over ps.list lists)) → Ends (SampleAnswers seed n order cap) Done (flow before after 0 0) untold)
+        subst (λ (ps : Points). WithinLimits ps → HasTree (grid_of ps.version) ps.list cap → ((lists : TreeLists) → AreTreeLists first_grid ps.list cap lists → Appends before after (summary_text seed ps.list order cap lists)) → Ends (SampleAnswers seed n order cap) Done (flow before after 0 0) untold)
         (sym e)
-        (λ limits has h. (plain (summary_over (sample_list seed n) (some limits has).0), (summarized limits has, refl), h (some limits has).0 (some limits has).1, tt))
+        (λ limits has h. (plain (summary limits has), summarized limits has, h (some limits has).0 (some limits has).1, tt))
 
     pub part_ends : (points : Points) → points ≡ sample seed n → WithinLimits points → HasTree (grid_of points.version) points.list cap
-        → ((lists : TreeLists) → AreTreeLists sample_grid points.list cap lists → AppendsPrefix before after (summary_over points.list lists)) → Ends (SampleAnswers seed n order cap) WriteFault (flow before after 0 0) untold
+        → ((lists : TreeLists) → AreTreeLists first_grid points.list cap lists → AppendsPrefix before after (summary_text seed points.list order cap lists)) → Ends (SampleAnswers seed n order cap) WriteFault (flow before after 0 0) untold
     part_ends points e =
-        subst (λ (ps : Points). WithinLimits ps → HasTree (grid_of ps.version) ps.list cap → ((lists : TreeLists) → AreTreeLists sample_grid ps.list cap lists → AppendsPrefix before after (summary_over ps.list lists)) → Ends (SampleAnswers seed n order cap) WriteFault (flow before after 0 0) untold)
+        subst (λ (ps : Points). WithinLimits ps → HasTree (grid_of ps.version) ps.list cap → ((lists : TreeLists) → AreTreeLists first_grid ps.list cap lists → AppendsPrefix before after (summary_text seed ps.list order cap lists)) → Ends (SampleAnswers seed n order cap) WriteFault (flow before after 0 0) untold)
         (sym e)
-        (λ limits has h. (Done, plain (summary_over (sample_list seed n) (some limits has).0), (summarized limits has, refl), h (some limits has).0 (some limits has).1, (0, tt)))
+        (λ limits has h. (Done, plain (summary limits has), summarized limits has, h (some limits has).0 (some limits has).1, (0, tt)))

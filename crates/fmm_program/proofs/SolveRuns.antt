@@ -1,12 +1,12 @@
 -- How runs of `solve` end: from what the calls answered to the facts of a run.
-use Rattle.std.proofs.Common.{◌≡◌, ◌∙◌, ◌⊎◌, subst, sym, refl, ℕ, ◌≤◌, ◌<◌, List, append-nil, length, length-append, ap, arith, inl, inr, Some, None, IfSome}
+use Rattle.std.proofs.Common.{◌≡◌, ◌∙◌, ◌⊎◌, subst, sym, refl, ℕ, ◌≤◌, ◌<◌, List, append-nil, codes, length, length-append, ap, arith, inl, inr, Some, None, IfSome}
 use Rattle.std.specs.Io.KnownBytes.{Appends, Consumes, Keeps}
 use Rattle.std.specs.declared.option.Option.{Option}
 use Rattle.field_report.specs.FieldText.{field_text}
 use Rattle.io_ports.specs.Bytes.{AppendsPrefix, GivesAll}
 use Rattle.io_ports.specs.Faults.{Rose}
 use Rattle.limits.proofs.Grids.{grid_positive, version_has_grid}
-use Rattle.limits.specs.Limits.{grid_of}
+use Rattle.limits.specs.Limits.{grid_of, most_order}
 use Rattle.particle_text.specs.Faults.{FirstFault}
 use Rattle.particle_text.specs.declared.TextKind.{TextKind}
 use Rattle.points.specs.declared.Points.{Points}
@@ -15,9 +15,9 @@ use Rattle.quadtree.specs.Faults.{HasTree}
 use Rattle.tree_field.proofs.EachList.{each_list_has_tree}
 use Rattle.tree_field.specs.Lists.{TreeLists, AreTreeLists}
 use Rattle.fmm_program.proofs.Complete.{completes, solve_plain}
-use Rattle.fmm_program.proofs.FlushedEnds.{Ends-line, Ends-map, flushed_ends}
-use Rattle.fmm_program.specs.Answers.{DepthAnswers, IsRead, SolveAnswers, fault_line, long_line, most_input}
-use Rattle.fmm_program.specs.Endings.{Ends, Flow, HasFault, OneLine, Output, flow, plain, untold}
+use Rattle.fmm_program.proofs.FlushedEnds.{Ends-line, Ends-map, flushed_ends, plain}
+use Rattle.fmm_program.specs.Answers.{DepthAnswers, IsRead, SolveAnswers, fault_line, most_input}
+use Rattle.fmm_program.specs.Endings.{Ends, Flow, HasFault, OneLine, Output, flow, untold}
 use Rattle.fmm_program.specs.Runs.{SolveRun}
 use Rattle.fmm_program.specs.declared.status.Status.{Status}
 use Rattle.fmm_program.specs.declared.status.Status.TheVariants.{Done, Refused, Usage, Memory, ReadFault, WriteFault, Rejected}
@@ -26,18 +26,22 @@ module _ (order cap : ℕ) (input : List ℕ) (out : Flow) (status : Status) whe
   -- the line of the first fault of a text
   pub fault_ends : (number : ℕ) (kind : TextKind) (line : List ℕ) → length input ≤ most_input → FirstFault input number kind → line ≡ fault_line number kind
       → Ends (OneLine Refused line) status out untold → Ends (SolveAnswers order cap input) status out untold
-  fault_ends number kind line within fault e = Ends-line (SolveAnswers order cap input) Refused line (inr (inl (record { number = number; kind = kind; within = within; fault = fault; line = e })), refl) out untold status
+  fault_ends number kind line within fault e = Ends-line (SolveAnswers order cap input) Refused line (inr (inl (within, (number, kind, fault, e))), refl) out untold status
 
   -- more came than an input may have
-  pub long_ends : most_input < length input → Ends (OneLine Refused long_line) status out untold → Ends (SolveAnswers order cap input) status out untold
-  long_ends longer = Ends-line (SolveAnswers order cap input) Refused long_line (inl (record { long = longer; line = refl }), refl) out untold status
+  pub long_ends : most_input < length input → Ends (OneLine Refused (codes "refused long\n")) status out untold → Ends (SolveAnswers order cap input) status out untold
+  long_ends longer = Ends-line (SolveAnswers order cap input) Refused (codes "refused long\n") (inl (longer, refl), refl) out untold status
+
+  -- the version of the points has no such order
+  pub order_ends : (points : Points) → IsRead input points → most_order (grid_of points.version) < order → Ends (OneLine Refused (codes "refused order\n")) status out untold → Ends (SolveAnswers order cap input) status out untold
+  order_ends points read above = Ends-line (SolveAnswers order cap input) Refused (codes "refused order\n") (inr (inr (inl (points, read, above, refl))), refl) out untold status
 
   -- points that have no tree
-  pub depth_ends : (points : Points) → IsRead input points → Ends (DepthAnswers points cap) status out untold → Ends (SolveAnswers order cap input) status out untold
-  depth_ends points read = Ends-map (DepthAnswers points cap) (SolveAnswers order cap input) deep out untold status
+  pub depth_ends : (points : Points) → IsRead input points → order ≤ most_order (grid_of points.version) → Ends (DepthAnswers points cap) status out untold → Ends (SolveAnswers order cap input) status out untold
+  depth_ends points read most = Ends-map (DepthAnswers points cap) (SolveAnswers order cap input) deep out untold status
     where
       deep : (status : Status) (output : Output) → DepthAnswers points cap status output → SolveAnswers order cap input status output
-      deep Refused output a = (inr (inr (record { points = points; read = read; refuses = a.0 })), a.1)
+      deep Refused output a = (inr (inr (inr (points, read, most, a.0))), a.1)
       deep Done output a = absurd a
       deep Usage output a = absurd a
       deep Memory output a = absurd a
@@ -46,12 +50,12 @@ module _ (order cap : ℕ) (input : List ℕ) (out : Flow) (status : Status) whe
       deep Rejected output a = absurd a
 
 -- what goes out with the report
-module _ (order cap : ℕ) (input : List ℕ) (points : Points) (read : IsRead input points) (has : HasTree (grid_of points.version) points.list cap) (before after : Option (List ℕ)) where
+module _ (order cap : ℕ) (input : List ℕ) (points : Points) (read : IsRead input points) (most : order ≤ most_order (grid_of points.version)) (has : HasTree (grid_of points.version) points.list cap) (before after : Option (List ℕ)) where
   some : (lists : TreeLists) × AreTreeLists (grid_of points.version) points.list cap lists
   some = each_list_has_tree (grid_of points.version) points.list cap (grid_positive (grid_of points.version) (version_has_grid points.version)) (in_grid (grid_of points.version) points.list read.spelled.limits.within.range)
 
   reported : SolveAnswers order cap input Done (plain (field_text points order cap some.0))
-  reported = (record { points = points; read = read; has_tree = has; lists = some.0; lists_are = some.1; report = refl }, refl)
+  reported = (record { depth = record { points = points; read = read; has_order = most; has_tree = has }; lists = some.0; lists_are = some.1; report = refl }, refl)
 
   pub report_ends : ((lists : TreeLists) → AreTreeLists (grid_of points.version) points.list cap lists → Appends before after (field_text points order cap lists)) → Ends (SolveAnswers order cap input) Done (flow before after 0 0) untold
   report_ends h = (plain (field_text points order cap some.0), reported, h some.0 some.1, tt)
@@ -101,7 +105,7 @@ module _ (order cap : ℕ) (left rest : Option (List ℕ)) (r s : ℕ) (status :
       solve_run out untold (told_all left rest bytes (EndsFor out untold) whole ends) (bytes, all_came left rest bytes whole, ends) (λ h. absurd (read h)) write
 
   -- it was too long
-  pub long_run : (out : Flow) (bytes : List ℕ) → Consumes left rest bytes → most_input < length bytes → Ends (OneLine Refused long_line) status out untold → (status ≡ Refused) ⊎ (status ≡ WriteFault)
+  pub long_run : (out : Flow) (bytes : List ℕ) → Consumes left rest bytes → most_input < length bytes → Ends (OneLine Refused (codes "refused long\n")) status out untold → (status ≡ Refused) ⊎ (status ≡ WriteFault)
       → (status ≡ WriteFault → HasFault out) → SolveRun order cap status (flow left rest r s) out untold
   long_run out bytes p l ends only write =
       solve_run out untold (told_long left rest bytes (EndsFor out untold) p l (λ input longer. long_ends order cap input out status longer ends))

@@ -1,6 +1,10 @@
--- A list of words from its words.
-use Rattle.std.proofs.Common.{◌≡◌, ℕ, List, [], ◌∷◌, codes, get_or, length, slice_get, Some, arith, sym, ap, ◌∙◌}
-use Rattle.number_text.specs.Numbers.{value_after}
+-- A list of words from its words, and numbers by their decimals.
+use Rattle.std.proofs.Common.{◌≡◌, ℕ, ◌<◌, ◌^◌, List, [], ◌∷◌, codes, get_or, length, slice_get, Some, arith, sym, ap, subst, ◌∙◌}
+use Rattle.std.specs.Prelude.{decimal}
+use Rattle.exact_math.proofs.Orders.{order_bounds}
+use Rattle.exact_math.specs.Orders.{IsCapacity, IsOrder}
+use Rattle.number_text.proofs.Spelling.{one_uint, uint_of_decimal}
+use Rattle.number_text.specs.Numbers.{IsUint, value_after}
 use Rattle.fmm_program.specs.Forms.{IsNoSolve, IsSolve}
 use Rattle.fmm_program.specs.Samples.{IsSample}
 
@@ -23,36 +27,51 @@ five_words (v ∷ w ∷ x ∷ y ∷ []) a b c d e n p q r s t = absurd (omega ar
 five_words (v ∷ w ∷ x ∷ y ∷ z ∷ []) a b c d e n p q r s t = cc
 five_words (v ∷ w ∷ x ∷ y ∷ z ∷ u ∷ rest) a b c d e n p q r s t = absurd (omega arith)
 
--- the words of one form have one order and one capacity
+-- ---- decimals
+-- a word that spells a number is its decimal
+pub is_decimal : (word : List ℕ) (m n : ℕ) → IsUint word m → m ≡ n → n < 2 ^ 64 → word ≡ decimal n
+is_decimal word m n spells same small = one_uint word (decimal n) n (subst (IsUint word) same spells) (uint_of_decimal n small)
+
+-- a decimal spells its number alone
+pub spelled_by : (word : List ℕ) (m n : ℕ) → IsUint word m → word ≡ decimal n → n < 2 ^ 64 → m ≡ n
+spelled_by word m n spells e small = sym spells.value ∙ ap (value_after 0) e ∙ (uint_of_decimal n small).value
+
+pub one_number : (m n : ℕ) → m < 2 ^ 64 → n < 2 ^ 64 → decimal m ≡ decimal n → m ≡ n
+one_number m n m_small n_small e = spelled_by (decimal m) m n (uint_of_decimal m m_small) e n_small
+
+small_order : (order : ℕ) → IsOrder order → order < 2 ^ 64
+small_order order is = omega (arith, (order_bounds order is).1)
+
+small_capacity : (cap : ℕ) → IsCapacity cap → cap < 2 ^ 64
+small_capacity cap is = omega (arith, is.most)
+
+-- ---- the words of one form have one order and one capacity
 module _ (words : List (List ℕ)) (order cap other limit : ℕ) (file rest : List ℕ) (p : IsSolve words order cap file) (q : IsSolve words other limit rest) where
+  solve_word : (k : ℕ) → get_or (codes "solve" ∷ decimal order ∷ decimal cap ∷ file ∷ []) k [] ≡ get_or (codes "solve" ∷ decimal other ∷ decimal limit ∷ rest ∷ []) k []
+  solve_word k = ap (λ w. get_or w k []) (sym p.words_are ∙ q.words_are)
+
   pub one_order : order ≡ other
-  one_order =
-      let e = sym p.words_are ∙ q.words_are in
-      let same : p.order_word ≡ q.order_word = cc in
-      sym p.spells_order.value ∙ ap (value_after 0) same ∙ q.spells_order.value
+  one_order = one_number order other (small_order order p.is_order) (small_order other q.is_order) (solve_word 1)
 
   pub one_capacity : cap ≡ limit
-  one_capacity =
-      let e = sym p.words_are ∙ q.words_are in
-      let same : p.cap_word ≡ q.cap_word = cc in
-      sym p.spells_cap.value ∙ ap (value_after 0) same ∙ q.spells_cap.value
+  one_capacity = one_number cap limit (small_capacity cap p.is_capacity) (small_capacity limit q.is_capacity) (solve_word 2)
 
 -- and so of the other
 module _ (words : List (List ℕ)) (seed n order cap seed' n' order' cap' : ℕ) (p : IsSample words seed n order cap) (q : IsSample words seed' n' order' cap') where
-  same : (f : List (List ℕ) → List ℕ) → f (codes "sample" ∷ p.seed_word ∷ p.count_word ∷ p.order_word ∷ p.cap_word ∷ []) ≡ f (codes "sample" ∷ q.seed_word ∷ q.count_word ∷ q.order_word ∷ q.cap_word ∷ [])
-  same f = ap f (sym p.words_are ∙ q.words_are)
+  sample_word : (k : ℕ) → get_or (codes "sample" ∷ decimal seed ∷ decimal n ∷ decimal order ∷ decimal cap ∷ []) k [] ≡ get_or (codes "sample" ∷ decimal seed' ∷ decimal n' ∷ decimal order' ∷ decimal cap' ∷ []) k []
+  sample_word k = ap (λ w. get_or w k []) (sym p.words_are ∙ q.words_are)
 
   pub one_seed : seed ≡ seed'
-  one_seed = sym p.spells_seed.value ∙ ap (value_after 0) (same (λ w. get_or w 1 [])) ∙ q.spells_seed.value
+  one_seed = one_number seed seed' (omega (arith, p.seed_fits)) (omega (arith, q.seed_fits)) (sample_word 1)
 
   pub one_count : n ≡ n'
-  one_count = sym p.spells_count.value ∙ ap (value_after 0) (same (λ w. get_or w 2 [])) ∙ q.spells_count.value
+  one_count = one_number n n' (omega (arith, p.count_fits.1)) (omega (arith, q.count_fits.1)) (sample_word 2)
 
   pub one_sample_order : order ≡ order'
-  one_sample_order = sym p.spells_order.value ∙ ap (value_after 0) (same (λ w. get_or w 3 [])) ∙ q.spells_order.value
+  one_sample_order = one_number order order' (small_order order p.is_order.is_order) (small_order order' q.is_order.is_order) (sample_word 3)
 
   pub one_sample_capacity : cap ≡ cap'
-  one_sample_capacity = sym p.spells_cap.value ∙ ap (value_after 0) (same (λ w. get_or w 4 [])) ∙ q.spells_cap.value
+  one_sample_capacity = one_number cap cap' (small_capacity cap p.is_capacity) (small_capacity cap' q.is_capacity) (sample_word 4)
 
 -- words that ask for a sample ask for no solve
 pub sample_is_no_solve : (words : List (List ℕ)) (seed n order cap : ℕ) → IsSample words seed n order cap → IsNoSolve words

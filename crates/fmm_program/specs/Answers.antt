@@ -5,9 +5,8 @@ use Rattle.cell_lists.specs.Entries.{Accounts, IsTargetAndSource}
 use Rattle.letters.specs.declared.Letter.{Letter}
 use Rattle.cell_name.specs.Square.{Square}
 use Rattle.letters.specs.declared.Letter.TheVariants.{V}
-use Rattle.limits.specs.Limits.{grid_of}
+use Rattle.limits.specs.Limits.{grid_of, most_order}
 use Rattle.near_field.specs.DirectSum.{direct_sum}
-use Rattle.number_text.specs.Parts.{line_feed}
 use Rattle.particle_text.specs.Faults.{FirstFault}
 use Rattle.points.specs.Points.{place}
 use Rattle.particle_text.specs.Text.{Spells}
@@ -22,9 +21,9 @@ use Rattle.tree_field.specs.Work.{translations, pairs}
 use Rattle.report_lines.specs.Counts.{CountsContain}
 use Rattle.field_report.specs.FieldText.{field_text}
 use Rattle.report_lines.specs.Report.{TargetLine, report_text}
-use Rattle.fmm_program.specs.Endings.{OneLine, Output}
+use Rattle.fmm_program.specs.Endings.{Output}
 use Rattle.fmm_program.specs.declared.status.Status.{Status}
-use Rattle.fmm_program.specs.declared.status.Status.TheVariants.{Done, Refused, Usage}
+use Rattle.fmm_program.specs.declared.status.Status.TheVariants.{Done, Refused}
 
 -- the greatest number of bytes of an input
 abbrev pub most_input : ℕ
@@ -32,10 +31,7 @@ most_input = 16777216
 
 -- ---- the lines in place of a report
 abbrev pub usage_line : List ℕ
-usage_line = codes "usage: fmm solve ORDER CAP FILE [WORKERS] | check FILE | session ORDER CAP | sample SEED N ORDER CAP [WORKERS]" ++ line_feed ∷ []
-
-abbrev pub long_line : List ℕ
-long_line = codes "refused long" ++ line_feed ∷ []
+usage_line = codes "usage: fmm solve ORDER CAP FILE [WORKERS] | check FILE | session ORDER CAP | sample SEED N ORDER CAP [WORKERS]\n"
 
 abbrev pub kind_word : TextKind → List ℕ
 kind_word Syntax = codes "syntax"
@@ -45,15 +41,11 @@ kind_word Many = codes "many"
 kind_word Strength = codes "strength"
 
 abbrev pub fault_line : ℕ → TextKind → List ℕ
-fault_line line kind = codes "refused line " ++ decimal line ++ codes " " ++ kind_word kind ++ line_feed ∷ []
+fault_line line kind = codes "refused line " ++ decimal line ++ codes " " ++ kind_word kind ++ codes "\n"
 
 -- level, column and row of the place, and how many points stand there
 abbrev pub crowded_line : Square → ℕ → List ℕ
-crowded_line c count =
-    codes "refused depth crowded cell " ++ decimal c.level ++ codes " " ++ decimal c.i ++ codes " " ++ decimal c.j ++ codes " points " ++ decimal count ++ line_feed ∷ []
-
-abbrev pub cells_line : List ℕ
-cells_line = codes "refused depth cells" ++ line_feed ∷ []
+crowded_line c n = codes "refused depth crowded cell " ++ decimal c.level ++ codes " " ++ decimal c.i ++ codes " " ++ decimal c.j ++ codes " points " ++ decimal n ++ codes "\n"
 
 -- ---- what each answer means for the bytes that came, and which bytes go out with it
 
@@ -62,61 +54,40 @@ pub record IsRead (input : List ℕ) (points : Points) : Type 0 where
   pub within : length input ≤ most_input
   pub spelled : Spells input points
 
--- the input is too long
-pub record IsLong (input out : List ℕ) : Type 0 where
-  pub long : most_input < length input
-  pub line : out ≡ long_line
-
--- the input is no text, and the line names its first fault
-pub record IsFaulty (input out : List ℕ) : Type 0 where
-  pub number : ℕ
-  pub kind : TextKind
-  pub within : length input ≤ most_input
-  pub fault : FirstFault input number kind
-  pub line : out ≡ fault_line number kind
-
--- too many points stand at one place, and the line names the first such place by column and row, and how many they are
-pub record IsCrowdedList (points : Points) (out : List ℕ) : Type 0 where
-  pub cell : Square
-  pub count : ℕ
-  pub first : IsFirstCrowded (grid_of points.version) points.list cell count
-  pub line : out ≡ crowded_line cell count
-
--- no place is crowded, and the tree of the points has too many cells
-pub record HasCellsFault (points : Points) (cap : ℕ) (out : List ℕ) : Type 0 where
-  pub too_many : HasTooManyCells (grid_of points.version) points.list cap
-  pub line : out ≡ cells_line
-
--- the points have no tree, and the line says why
+-- Why points have no tree, and the line that says so: too many stand at one place, and the line names the first such place by column and row, and how many they are;
+-- or at none, and the tree has too many cells.
 abbrev pub RefusesDepth : Points → ℕ → List ℕ → Type 0
-RefusesDepth points cap out = IsCrowdedList points out ⊎ HasCellsFault points cap out
+RefusesDepth points cap line =
+    ((cell : Square) × (n : ℕ) × IsFirstCrowded (grid_of points.version) points.list cell n × (line ≡ crowded_line cell n))
+    ⊎ (HasTooManyCells (grid_of points.version) points.list cap × (line ≡ codes "refused depth cells\n"))
 
--- the points of the input have no tree, and the line says why
-pub record IsTooDeep (cap : ℕ) (input out : List ℕ) : Type 0 where
+-- Why an input is refused, and the line that says so: it is too long; or it is no text, and the line names its first fault;
+-- or it spells points whose version has no such order; or points whose version has it, but which have no tree.
+abbrev pub Refuses : ℕ → ℕ → List ℕ → List ℕ → Type 0
+Refuses order cap input line =
+    ((most_input < length input) × (line ≡ codes "refused long\n"))
+    ⊎ (((length input ≤ most_input) × ((number : ℕ) × (kind : TextKind) × FirstFault input number kind × (line ≡ fault_line number kind)))
+    ⊎ (((points : Points) × IsRead input points × (most_order (grid_of points.version) < order) × (line ≡ codes "refused order\n"))
+    ⊎ ((points : Points) × IsRead input points × (order ≤ most_order (grid_of points.version)) × RefusesDepth points cap line)))
+
+-- the input is a text of a version that has the order, with no crowded place, whose tree has no more cells than a tree may have
+pub record HasDepth (order cap : ℕ) (input : List ℕ) : Type 0 where
   pub points : Points
   pub read : IsRead input points
-  pub refuses : RefusesDepth points cap out
+  pub has_order : order ≤ most_order (grid_of points.version)
+  pub has_tree : HasTree (grid_of points.version) points.list cap
 
--- the text has a tree, and the bytes are the report of the field over its lists
+-- it is such a text, and the bytes are the report of the field over the lists of its tree
 pub record IsReported (order cap : ℕ) (input out : List ℕ) : Type 0 where
-  pub points : Points
-  pub read : IsRead input points
-  pub has_tree : HasTree (grid_of points.version) points.list cap
+  pub depth : HasDepth order cap input
   pub lists : TreeLists
-  pub lists_are : AreTreeLists (grid_of points.version) points.list cap lists
-  pub report : out ≡ field_text points order cap lists
-
--- the input is a text with no crowded place, whose tree has no more cells than a tree may have
-pub record HasDepth (cap : ℕ) (input : List ℕ) : Type 0 where
-  pub points : Points
-  pub read : IsRead input points
-  pub has_tree : HasTree (grid_of points.version) points.list cap
+  pub lists_are : AreTreeLists (grid_of depth.points.version) depth.points.list cap lists
+  pub report : out ≡ field_text depth.points order cap lists
 
 -- the answer to this input, and what goes out with it
 abbrev pub SolveAnswers : ℕ → ℕ → List ℕ → Status → Output → Type 0
 SolveAnswers order cap input Done output = IsReported order cap input output.out × (output.cert ≡ [])
-SolveAnswers order cap input Refused output =
-    (IsLong input output.out ⊎ (IsFaulty input output.out ⊎ IsTooDeep cap input output.out)) × (output.cert ≡ [])
+SolveAnswers order cap input Refused output = Refuses order cap input output.out × (output.cert ≡ [])
 SolveAnswers order cap input _ output = ⊥
 
 -- the answer to points that have no tree
@@ -124,17 +95,11 @@ abbrev pub DepthAnswers : Points → ℕ → Status → Output → Type 0
 DepthAnswers points cap Refused output = RefusesDepth points cap output.out × (output.cert ≡ [])
 DepthAnswers points cap _ output = ⊥
 
--- the answer to words that are of no form
-abbrev pub UsageAnswers : Status → Output → Type 0
-UsageAnswers = OneLine Usage usage_line
-
 -- ---- the certified solve, in its own words
 
 -- a printed line for the target t: at its place, with counts that contain the exact direct sum
-pub record LineContains (points : Points) (t : Point) (line : TargetLine) : Type 0 where
-  pub x : line.x ≡ t.x
-  pub y : line.y ≡ t.y
-  pub sum : CountsContain points.mode line.counts (direct_sum (place t) points.list)
+abbrev pub LineContains : Points → Point → TargetLine → Type 0
+LineContains points t line = (line.x ≡ t.x) × (line.y ≡ t.y) × CountsContain points.mode line.counts (direct_sum (place t) points.list)
 
 -- exactly one entry of the lists accounts for a target and a source
 pub record HasOneListEntry (lists : TreeLists) (target source : Point) : Type 0 where

@@ -46,13 +46,9 @@ pub record Output : Type 0 where
   pub out : List ℕ
   pub cert : List ℕ
 
--- nothing but this goes out
-abbrev pub plain : List ℕ → Output
-plain bytes = record { out = bytes; cert = [] }
-
 -- the one answer: this status, and nothing but this line
 abbrev pub OneLine : Status → List ℕ → Status → Output → Type 0
-OneLine ending line status output = (status ≡ ending) × (output ≡ plain line)
+OneLine ending line status output = (status ≡ ending) × (output.out ≡ line) × (output.cert ≡ [])
 
 -- How a run ended that has `answers` for each status: both sinks took all of an output, a part of it after a write fault,
 -- and nothing after a read fault or want of memory.

@@ -1,20 +1,15 @@
 -- The forms of the command line.
-use Rattle.std.specs.Prelude.{ℕ, ◌≡◌, ◌≢◌, ◌⊎◌, List, [], ◌∷◌, codes}
+use Rattle.std.specs.Prelude.{ℕ, ◌≡◌, ◌≢◌, ◌⊎◌, List, [], ◌∷◌, codes, decimal}
 use Rattle.exact_math.specs.Orders.{IsOrder, IsCapacity}
-use Rattle.number_text.specs.Numbers.{IsUint}
-use Rattle.fmm_program.specs.Samples.{IsSample, IsNoSample}
+use Rattle.fmm_program.specs.Samples.{IsSample}
 use Rattle.fmm_program.specs.declared.commands.Command.{Command}
 use Rattle.fmm_program.specs.declared.commands.Command.TheVariants.{Solve, Sample}
 use Rattle.fmm_program.specs.declared.commands.Opening.{Opening}
 use Rattle.fmm_program.specs.declared.commands.Opening.TheVariants.{Nothing, SolveInput, SolveFile}
 
--- the words are `solve ORDER CAP FILE`
+-- the words are `solve ORDER CAP FILE`, with the decimals of the numbers
 pub record IsSolve (words : List (List ℕ)) (order cap : ℕ) (file : List ℕ) : Type 0 where
-  pub order_word : List ℕ
-  pub cap_word : List ℕ
-  pub words_are : words ≡ codes "solve" ∷ order_word ∷ cap_word ∷ file ∷ []
-  pub spells_order : IsUint order_word order
-  pub spells_cap : IsUint cap_word cap
+  pub words_are : words ≡ codes "solve" ∷ decimal order ∷ decimal cap ∷ file ∷ []
   pub is_order : IsOrder order
   pub is_capacity : IsCapacity cap
 
@@ -25,7 +20,7 @@ IsNoSolve words = (order cap : ℕ) (file : List ℕ) → IsSolve words order ca
 -- the words are of no form
 pub record IsUsage (words : List (List ℕ)) : Type 0 where
   pub no_solve : IsNoSolve words
-  pub no_sample : IsNoSample words
+  pub no_sample : (seed n order cap : ℕ) → IsSample words seed n order cap → ⊥
 
 -- the words ask for this command
 abbrev pub Asks : List (List ℕ) → Command → Type 0

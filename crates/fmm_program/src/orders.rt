@@ -7,7 +7,8 @@ macro_rules! at_order {
             4 => $call::<4, $sink>($($argument),+),
             8 => $call::<8, $sink>($($argument),+),
             16 => $call::<16, $sink>($($argument),+),
-            _ => $call::<24, $sink>($($argument),+),
+            24 => $call::<24, $sink>($($argument),+),
+            _ => $call::<32, $sink>($($argument),+),
         }
     };
 }

@@ -4,7 +4,7 @@ ghost use Rattle.cell_name.specs.Cell.{square};
 ghost use Rattle.limits.specs.Limits.{grid_of};
 ghost use Rattle.points.specs.declared.Points.{Points};
 ghost use Rattle.quadtree.specs.Faults.{IsFaultOf};
-ghost use Rattle.fmm_program.specs.Answers.{DepthAnswers, UsageAnswers, crowded_line, fault_line, kind_word};
+ghost use Rattle.fmm_program.specs.Answers.{DepthAnswers, crowded_line, fault_line, kind_word, usage_line};
 ghost use Rattle.fmm_program.specs.Endings.{Ends, OneLine, TellsFaults, flow, untold};
 
 use crate::status::Status;
@@ -45,7 +45,7 @@ pub(crate) fn refuse_text<O: Sink>(line: u64, kind: TextKind, out: &mut O) -> St
 
 /// Writes the usage line.
 pub(crate) fn refuse_words<O: Sink>(out: &mut O) -> Status
-    ensures ends { Ends UsageAnswers result (flow (O.held out.old) (O.held out.new) (O.faults out.old) (O.faults out.new)) untold }
+    ensures ends { Ends (OneLine Status.Usage usage_line) result (flow (O.held out.old) (O.held out.new) (O.faults out.old) (O.faults out.new)) untold }
     ensures only { (result ≡ Status.Usage) ⊎ (result ≡ Status.WriteFault) }
     ensures write { TellsFaults result (flow (O.held out.old) (O.held out.new) (O.faults out.old) (O.faults out.new)) }
 {

@@ -1,21 +1,22 @@
 //! The command `sample`.
-ghost use Rattle.std.specs.Prelude.{◌≡◌, ℕ, ◌≤◌, IfSome, IfNone};
-ghost use Rattle.exact_math.specs.Orders.{IsCapacity, IsOrder};
-ghost use Rattle.limits.specs.Limits.{first_grid, grid_of};
-ghost use Rattle.points.specs.Limits.{WithinLimits};
-ghost use Rattle.point_sample.specs.Sample.{most_sampled, sample};
+ghost use Rattle.std.specs.Prelude.{◌≡◌, ◌≢◌, ℕ, ◌≤◌, decimal, IfSome, IfNone};
+ghost use Rattle.exact_math.specs.Orders.{IsCapacity};
+ghost use Rattle.limits.specs.Limits.{first_grid, grid_of, most_points};
+ghost use Rattle.points.specs.Limits.{IsOrderOf, WithinLimits};
+ghost use Rattle.point_sample.specs.Sample.{sample};
 ghost use Rattle.quadtree.specs.Faults.{HasTree};
 ghost use Rattle.solve_phase.specs.Field.{IsSolved};
 ghost use Rattle.fmm_program.specs.Endings.{Ends, TellsFaults, flow, untold};
 ghost use Rattle.fmm_program.specs.Runs.{SampleRun};
 ghost use Rattle.fmm_program.specs.SampleAnswers.{SampleAnswers};
-ghost use Rattle.fmm_program.specs.Samples.{IsSample, IsNoSample};
+ghost use Rattle.fmm_program.specs.Samples.{IsSample};
 
 use crate::orders::at_order;
 use crate::refusals::refuse_depth;
 use crate::status::Status;
 use crate::words::{Words, capacity_of, number_in, order_of};
 use io_ports::Sink;
+use limits::{FIRST_GRID, most_order};
 use point_sample::{most_sampled, sample_points};
 use points::Points;
 use sample_summary::write_summary;
@@ -31,17 +32,29 @@ pub(crate) struct SampleCommand {
     pub(crate) cap: u32,
 }
 
+/// The order of a sample whose decimal a word is.
+fn sample_order_of(word: &str) -> Option<u32>
+    ensures some { IfSome result (λ n. (word.now ≡ decimal n) × IsOrderOf first_grid n) }
+    ensures none { IfNone result ((n : ℕ) → IsOrderOf first_grid n → word.now ≢ decimal n) }
+{
+    let order = order_of(word)?;
+    if most_order(FIRST_GRID) < order {
+        return None;
+    }
+    Some(order)
+}
+
 /// The sample that the words ask for; `None` where they ask for none.
 pub(crate) fn asked_sample(words: &Words) -> Option<SampleCommand>
     ensures some { IfSome result (λ c. IsSample words.now c.seed c.count c.order c.cap) }
-    ensures none { IfNone result (IsNoSample words.now) }
+    ensures none { IfNone result ((seed n order cap : ℕ) → IsSample words.now seed n order cap → ⊥) }
 {
     if words.count() != 5 || words.word(0) != "sample" {
         return None;
     }
     let seed = number_in(words.word(1), 0, u32::MAX)?;
     let count = number_in(words.word(2), 1, most_sampled())?;
-    let order = order_of(words.word(3))?;
+    let order = sample_order_of(words.word(3))?;
     let cap = capacity_of(words.word(4))?;
     Some(SampleCommand {
         seed,
@@ -60,7 +73,6 @@ fn summarize_field<const P: usize, O: Sink>(
     out: &mut O,
 ) -> Status
     requires list { WithinLimits points.now }
-    requires order { IsOrder P }
     requires field { IsSolved points.now.list cap P field.now }
     requires grid { field.now.basis.tree.grid ≡ first_grid }
     ensures ends { (n : ℕ) → points.now ≡ sample seed n → HasTree (grid_of points.now.version) points.now.list cap
@@ -83,7 +95,7 @@ fn summarize<const P: usize, O: Sink>(
     out: &mut O,
 ) -> Status
     requires list { WithinLimits points.now }
-    requires order { IsOrder P }
+    requires order { IsOrderOf (grid_of points.now.version) P }
     requires cap { IsCapacity cap }
     ensures ends { (n : ℕ) → points.now ≡ sample seed n
         → Ends (SampleAnswers seed n P cap) result (flow (O.held out.old) (O.held out.new) (O.faults out.old) (O.faults out.new)) untold }
@@ -101,8 +113,8 @@ fn summarize<const P: usize, O: Sink>(
 /// The sink gets all that goes out with the answer; after a write fault it took a prefix of that, and after want of
 /// memory nothing.
 pub(crate) fn sample<O: Sink>(alloc: Global, command: SampleCommand, out: &mut O) -> Status
-    requires count { command.count ≤ most_sampled }
-    requires order { IsOrder command.order }
+    requires count { command.count ≤ most_points first_grid }
+    requires order { IsOrderOf first_grid command.order }
     requires cap { IsCapacity command.cap }
     ensures run { SampleRun command.seed command.count command.order command.cap result
         (flow (O.held out.old) (O.held out.new) (O.faults out.old) (O.faults out.new)) untold }

@@ -5,7 +5,7 @@ ghost use Rattle.exact_math.specs.Orders.{IsCapacity, IsOrder};
 ghost use Rattle.io_ports.specs.Bytes.{read_size};
 ghost use Rattle.io_ports.specs.Faults.{Rose};
 ghost use Rattle.limits.specs.Limits.{grid_of};
-ghost use Rattle.points.specs.Limits.{WithinLimits};
+ghost use Rattle.points.specs.Limits.{IsOrderOf, WithinLimits};
 ghost use Rattle.quadtree.specs.Faults.{HasTree};
 ghost use Rattle.solve_phase.specs.Field.{IsSolved};
 ghost use Rattle.fmm_program.specs.Answers.{IsRead, SolveAnswers, most_input};
@@ -17,6 +17,7 @@ use crate::refusals::{refuse, refuse_depth, refuse_text};
 use crate::status::Status;
 use field_report::write_report;
 use io_ports::{InFault, Sink, Source, read_all};
+use limits::{grid_of, most_order};
 use particle_text::{ParseFault, parse};
 use points::Points;
 use solve_phase::Field;
@@ -33,7 +34,7 @@ fn answer_field<const P: usize, O: Sink>(
     out: &mut O,
 ) -> Status
     requires list { WithinLimits points.now }
-    requires order { IsOrder P }
+    requires order { IsOrderOf (grid_of points.now.version) P }
     requires field { IsSolved points.now.list cap P field.now }
     requires grid { field.now.basis.tree.grid ≡ grid_of points.now.version }
     ensures ends { (input : List ℕ) → IsRead input points.now → HasTree (grid_of points.now.version) points.now.list cap
@@ -55,7 +56,7 @@ fn answer_points<const P: usize, O: Sink>(
     out: &mut O,
 ) -> Status
     requires list { WithinLimits points.now }
-    requires order { IsOrder P }
+    requires order { IsOrderOf (grid_of points.now.version) P }
     requires cap { IsCapacity cap }
     ensures ends { (input : List ℕ) → IsRead input points.now
         → Ends (SolveAnswers P cap input) result (flow (O.held out.old) (O.held out.new) (O.faults out.old) (O.faults out.new)) untold }
@@ -66,6 +67,22 @@ fn answer_points<const P: usize, O: Sink>(
         Ok(field) => answer_field(points, cap, &field, out),
         Err(fault) => refuse_depth(fault, out),
     }
+}
+
+/// Answers the points of a text: their version may not have the order.
+fn answer_list<O: Sink>(alloc: Global, order: u32, cap: u32, points: &Points, out: &mut O) -> Status
+    requires list { WithinLimits points.now }
+    requires order { IsOrder order }
+    requires cap { IsCapacity cap }
+    ensures ends { (input : List ℕ) → IsRead input points.now
+        → Ends (SolveAnswers order cap input) result (flow (O.held out.old) (O.held out.new) (O.faults out.old) (O.faults out.new)) untold }
+    ensures write { TellsFaults result (flow (O.held out.old) (O.held out.new) (O.faults out.old) (O.faults out.new)) }
+    ensures read { result ≡ Status.ReadFault → ⊥ }
+{
+    if most_order(grid_of(points.version)) < order {
+        return refuse(b"refused order\n", out);
+    }
+    at_order!(order, answer_points, O, alloc, points, cap, out)
 }
 
 /// Answers an input that was read whole.
@@ -82,7 +99,7 @@ fn answer_text<O: Sink>(alloc: Global, order: u32, cap: u32, bytes: &[u8], out: 
         Err(ParseFault::Memory) => return Status::Memory,
         Err(ParseFault::Text { line, what }) => return refuse_text(line, what, out),
     };
-    at_order!(order, answer_points, O, alloc, &points, cap, out)
+    answer_list(alloc, order, cap, &points, out)
 }
 
 /// Reads the points to their end, and writes the report of their field or the line that refuses them.

@@ -1,7 +1,6 @@
 //! The words of the command line, and the solve that they ask for.
-ghost use Rattle.std.specs.Prelude.{◌≡◌, ℕ, ◌+◌, ◌<◌, ◌≤◌, List, [], ◌∷◌, ◌++◌, length, slice_get, IfSome, IfNone, OnOk, OnErr, Some, None};
+ghost use Rattle.std.specs.Prelude.{◌≡◌, ◌≢◌, ℕ, ◌+◌, ◌<◌, ◌≤◌, List, [], ◌∷◌, ◌++◌, decimal, length, slice_get, IfSome, IfNone, OnOk, OnErr, Some, None};
 ghost use Rattle.exact_math.specs.Orders.{IsOrder, IsCapacity};
-ghost use Rattle.number_text.specs.Numbers.{IsUint};
 ghost use Rattle.fmm_program.specs.Forms.{IsSolve, IsNoSolve};
 
 use io_ports::Memory;
@@ -72,10 +71,10 @@ pub(crate) struct SolveCommand<'a> {
     pub(crate) file: &'a str,
 }
 
-/// The number that a word spells, where it is at least `least` and at most `most`.
+/// The number whose decimal a word is, where it is at least `least` and at most `most`.
 pub(crate) fn number_in(word: &str, least: u32, most: u32) -> Option<u32>
-    ensures some { IfSome result (λ n. IsUint word.now n × (least ≤ n) × (n ≤ most)) }
-    ensures none { IfNone result ((n : ℕ) → IsUint word.now n → least ≤ n → n ≤ most → ⊥) }
+    ensures some { IfSome result (λ n. (word.now ≡ decimal n) × (least ≤ n) × (n ≤ most)) }
+    ensures none { IfNone result ((n : ℕ) → least ≤ n → n ≤ most → word.now ≢ decimal n) }
 {
     let number = read_uint(word.as_bytes())?;
     if number < u64::from(least) || u64::from(most) < number {
@@ -84,22 +83,22 @@ pub(crate) fn number_in(word: &str, least: u32, most: u32) -> Option<u32>
     Some(number as u32)
 }
 
-/// The order that a word spells.
+/// The order whose decimal a word is.
 pub(crate) fn order_of(word: &str) -> Option<u32>
-    ensures some { IfSome result (λ n. IsUint word.now n × IsOrder n) }
-    ensures none { IfNone result ((n : ℕ) → IsUint word.now n → IsOrder n → ⊥) }
+    ensures some { IfSome result (λ n. (word.now ≡ decimal n) × IsOrder n) }
+    ensures none { IfNone result ((n : ℕ) → IsOrder n → word.now ≢ decimal n) }
 {
-    let number = number_in(word, 4, 24)?;
+    let number = number_in(word, 4, 32)?;
     match number {
-        4 | 8 | 16 | 24 => Some(number),
+        4 | 8 | 16 | 24 | 32 => Some(number),
         _ => None,
     }
 }
 
-/// The capacity that a word spells.
+/// The capacity whose decimal a word is.
 pub(crate) fn capacity_of(word: &str) -> Option<u32>
-    ensures some { IfSome result (λ n. IsUint word.now n × IsCapacity n) }
-    ensures none { IfNone result ((n : ℕ) → IsUint word.now n → IsCapacity n → ⊥) }
+    ensures some { IfSome result (λ n. (word.now ≡ decimal n) × IsCapacity n) }
+    ensures none { IfNone result ((n : ℕ) → IsCapacity n → word.now ≢ decimal n) }
 {
     number_in(word, 8, 1024)
 }

@@ -3,7 +3,7 @@ use Rattle.std.proofs.Common.{rules, ℕ, ◌≡◌, ◌<◌, ◌⊎◌, inl, in
 use Rattle.std.proofs.lemmas.Int.{ints}
 use Rattle.limits.specs.Grid.{IsInGrid}
 use Rattle.limits.specs.Laws.{AreWithinWidest, VersionHasGrid, WidestHasMost, GridsAreNested}
-use Rattle.limits.specs.Limits.{IsGrid, first_grid, widest_grid}
+use Rattle.limits.specs.Limits.{IsGrid, IsVersion, first_grid, widest_grid}
 
 pub version_has_grid : VersionHasGrid
 version_has_grid version = by_test (version == 2)
@@ -11,6 +11,9 @@ version_has_grid version = by_test (version == 2)
     by_test : (b : Bool) → IsGrid (cond b widest_grid first_grid)
     by_test true = refl
     by_test false = refl
+
+pub version_cases : (version : ℕ) → IsVersion version → (version ≡ 1) ⊎ (version ≡ 2)
+version_cases version is = grind (arith, rules)
 
 pub grid_cases : (grid : ℕ) → IsGrid grid → (grid ≡ first_grid) ⊎ (grid ≡ widest_grid)
 grid_cases grid is = grind (arith, rules)

@@ -1,5 +1,5 @@
 -- The limits of each version of the text. Version 1 has a grid of 16 bits and version 2 one of 20, and the grid tells all others.
-use Rattle.std.specs.Prelude.{ℕ, ◌≡◌, ◌-◌, ◌^◌, ◌==◌, ◌||◌, IsTrue, cond}
+use Rattle.std.specs.Prelude.{ℕ, ◌-◌, ◌^◌, ◌==◌, ◌||◌, IsTrue, cond}
 
 abbrev pub first_grid : ℕ
 first_grid = 16
@@ -11,9 +11,9 @@ widest_grid = 20
 abbrev pub IsGrid : ℕ → Type 0
 IsGrid grid = IsTrue ((grid == first_grid) || (grid == widest_grid))
 
--- the versions that are read: version 2 is to come
+-- the versions of the text
 abbrev pub IsVersion : ℕ → Type 0
-IsVersion version = version ≡ 1
+IsVersion version = IsTrue ((version == 1) || (version == 2))
 
 -- the bits of the grid of a version
 abbrev pub grid_of : ℕ → ℕ
@@ -39,6 +39,10 @@ most_weight grid = by_grid grid (2 ^ 32) (2 ^ 36)
 abbrev pub most_cells : ℕ → ℕ
 most_cells grid = by_grid grid 65536 131072
 
+-- the greatest order of a solve
+abbrev pub most_order : ℕ → ℕ
+most_order grid = by_grid grid 24 32
+
 -- the greatest number of points at one place
 abbrev pub most_at_a_place : ℕ
 most_at_a_place = 4096
@@ -52,3 +56,7 @@ most_local grid = by_grid grid (2 ^ 82 - 1) (2 ^ 86 - 1)
 
 abbrev pub most_box : ℕ → ℕ
 most_box grid = by_grid grid (2 ^ 84 - 1) (2 ^ 94 - 1)
+
+-- the greatest size of an end that is printed, in any version
+abbrev pub most_printed : ℕ
+most_printed = 2 ^ 96

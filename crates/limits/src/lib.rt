@@ -5,7 +5,7 @@ ghost use Rattle.std.specs.Prelude.{◌≡◌, ◌↔◌, IsTrue, pos, neg_ℤ, 
 ghost use Rattle.std.specs.Int.{w64};
 ghost use Rattle.limits.specs.Grid.{half, IsInGrid};
 ghost use Rattle.limits.specs.Laws.{VersionHasGrid, WidestHasMost, GridsAreNested};
-ghost use Rattle.limits.specs.Limits.{IsGrid, IsVersion, grid_of, by_grid, most_points, most_weight, most_cells};
+ghost use Rattle.limits.specs.Limits.{IsGrid, IsVersion, grid_of, by_grid, most_points, most_weight, most_cells, most_order};
 
 /// The bits of the grid of version 1.
 pub const FIRST_GRID: u8 = 16;
@@ -19,11 +19,11 @@ pub const MOST_STRENGTH: u64 = 1_048_576;
 /// The greatest number of points at one place.
 pub const MOST_AT_A_PLACE: usize = 4096;
 
-/// Whether texts of the version are read: those of version 1 alone, until version 2 is.
+/// Whether it is a version of the text: 1 or 2.
 pub fn is_version(version: u8) -> bool
     ensures { IsTrue result ↔ IsVersion version }
 {
-    version == 1
+    version == 1 || version == 2
 }
 
 /// The bits of the grid of a version.
@@ -63,6 +63,13 @@ pub fn most_cells(grid: u8) -> u64
     ensures { result ≡ most_cells grid }
 {
     by_grid(grid, 65_536, 131_072)
+}
+
+/// The greatest order of a solve: 24 in version 1, 32 in version 2.
+pub fn most_order(grid: u8) -> u32
+    ensures { result ≡ most_order grid }
+{
+    if grid == FIRST_GRID { 24 } else { 32 }
 }
 
 /// How far the origin is from the west and the south border of the grid.

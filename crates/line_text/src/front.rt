@@ -2,6 +2,7 @@
 ghost use Rattle.std.specs.Prelude.{◌≡◌, ℕ, ◌+◌, ◌^◌, ◌≤◌, ◌<◌, List, [], ◌∷◌, ◌++◌, length, drop, decimal};
 ghost use Rattle.std.specs.Fmt.{signed_decimal};
 ghost use Rattle.exact_math.specs.Within.{Within};
+ghost use Rattle.limits.specs.Limits.{most_printed};
 ghost use Rattle.line_text.specs.Decimals.{digits_in, decimal_text};
 
 use std::marker::Model;
@@ -10,7 +11,7 @@ use std::marker::Model;
 const PLACES: u32 = 12;
 
 /// How many counts of 10^-12 make 1.
-pub const ONE: i128 = 1_000_000_000_000;
+const ONE: i128 = 1_000_000_000_000;
 
 /// A text that grows at its front, in a buffer of `N` bytes. A clause sees the text.
 #[derive(Drop)]
@@ -119,9 +120,9 @@ impl<const N: usize> FrontText<N> {
         }
     }
 
-    /// Puts the decimal of a count of 10^-12 before the text.
+    /// Puts the decimal of a count of 10^-12, which is at most 2^96 in size, before the text.
     pub fn prepend_count(&mut self, count: i128)
-        requires size { Within (2 ^ 84) count }
+        requires size { Within most_printed count }
         requires room { 34 + length self.old ≤ N }
         ensures text { self.new ≡ decimal_text count ++ self.old }
         ensures room { length self.new ≤ 34 + length self.old }

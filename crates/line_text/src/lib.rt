@@ -3,4 +3,4 @@
 
 mod front;
 
-pub use front::{FrontText, ONE};
+pub use front::FrontText;

@@ -1,7 +1,7 @@
 -- Products of narrow intervals.
-use Rattle.std.proofs.Common.{◌≡◌, sym, subst, ◌^◌, arith, lit≤, ℤ, pos, ◌*ℤ◌, ◌≤ℤ◌, ◌<ℤ◌, SFits, to_z, of_z, to_z-of_z}
+use Rattle.std.proofs.Common.{◌≡◌, ◌∙◌, sym, subst, ap₂, ◌^◌, arith, lit≤, ℤ, pos, ◌*ℤ◌, ◌≤ℤ◌, ◌<ℤ◌, SFits, to_z, of_z, to_z-of_z}
 use Rattle.std.proofs.lemmas.Int.{ints, clamps}
-use Rattle.std.specs.Int.{w128, int_min, int_max}
+use Rattle.std.specs.Int.{w64, w128, int_min, int_max}
 use Rattle.exact_math.specs.Within.{Within}
 use Rattle.exact_math.proofs.WholeSizes.{within-mul, within-weaker}
 use Rattle.fixed_interval.proofs.Order.{mul_right_up, mul_right_down}
@@ -30,3 +30,40 @@ product_size a b r s v w e f =
 
 pub wider : (z : ℤ) → Within (2 ^ 124) z → Within (2 ^ 126) z
 wider z w = within-weaker (lit≤ tt) w
+
+-- a narrow end and a product of two, without the casts
+pub narrow_fits : (x : ℤ) → Within (2 ^ 62) x → SFits w64 x
+narrow_fits x w = omega (arith, ints)
+
+pub narrow_cast : (x : ℤ) → Within (2 ^ 62) x → Within (2 ^ 62) (to_z w64 (of_z w64 x))
+narrow_cast x w = rw (to_z-of_z (narrow_fits x w)) w
+
+pub product_fits : (x : ℤ) → Within (2 ^ 124) x → SFits w128 x
+product_fits x w = omega (arith, ints)
+
+pub product_cast : (x : ℤ) → Within (2 ^ 124) x → Within (2 ^ 124) (to_z w128 (of_z w128 x))
+product_cast x w = rw (to_z-of_z (product_fits x w)) w
+
+pub product_of : (r a b : ℤ) → Within (2 ^ 62) a → Within (2 ^ 62) b → r ≡ to_z w64 (of_z w64 a) *ℤ to_z w64 (of_z w64 b) → r ≡ a *ℤ b
+product_of r a b v w e = e ∙ ap₂ (λ x y. x *ℤ y) (to_z-of_z (narrow_fits a v)) (to_z-of_z (narrow_fits b w))
+
+-- the lesser and the greater of two products
+pub record Chosen (r v : ℤ) : Type 0 where
+  pub is : r ≡ v
+  pub size : Within (2 ^ 124) r
+
+least_size : (p q : ℤ) → Within (2 ^ 124) p → Within (2 ^ 124) q → Within (2 ^ 124) (int_min p q)
+least_size p q v w = record { above = omega (arith, ints, clamps, v.above, w.above); below = omega (arith, ints, clamps, v.below, w.below) }
+
+greatest_size : (p q : ℤ) → Within (2 ^ 124) p → Within (2 ^ 124) q → Within (2 ^ 124) (int_max p q)
+greatest_size p q v w = record { above = omega (arith, ints, clamps, v.above, w.above); below = omega (arith, ints, clamps, v.below, w.below) }
+
+pub least_of : (r p q : ℤ) → Within (2 ^ 124) p → Within (2 ^ 124) q → r ≡ int_min (to_z w128 (of_z w128 p)) (to_z w128 (of_z w128 q)) → Chosen r (int_min p q)
+least_of r p q v w e =
+    let is : r ≡ int_min p q = e ∙ ap₂ int_min (to_z-of_z (product_fits p v)) (to_z-of_z (product_fits q w)) in
+    record { is = is; size = subst (Within (2 ^ 124)) (sym is) (least_size p q v w) }
+
+pub greatest_of : (r p q : ℤ) → Within (2 ^ 124) p → Within (2 ^ 124) q → r ≡ int_max (to_z w128 (of_z w128 p)) (to_z w128 (of_z w128 q)) → Chosen r (int_max p q)
+greatest_of r p q v w e =
+    let is : r ≡ int_max p q = e ∙ ap₂ int_max (to_z-of_z (product_fits p v)) (to_z-of_z (product_fits q w)) in
+    record { is = is; size = subst (Within (2 ^ 124)) (sym is) (greatest_size p q v w) }

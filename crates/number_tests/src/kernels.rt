@@ -96,3 +96,14 @@ fn entries_three_sides_apart(rt: HostRuntime) -> Result<(), Fail> {
     );
     Ok(())
 }
+
+/// `-C(62, 31)/2^63`, in units of 2^-40.
+#[test]
+fn last_entry_of_order_32(rt: HostRuntime) -> Result<(), Fail> {
+    let kernel = Kernel::<32>::new(rt.alloc()).ok().ok_or("no memory")?;
+    assert_eq!(rt;
+        ends(kernel.entry(Gauss { re: 2, im: 0 }, 31, 31)),
+        ((-55_483_383_329, -55_483_383_328), (0, 0))
+    );
+    Ok(())
+}

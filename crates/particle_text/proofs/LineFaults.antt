@@ -15,32 +15,32 @@ pub record SameLine (p q : Point) (rest other : List ℕ) : Type 0 where
   pub points : p ≡ q
   pub rests : rest ≡ other
 
-pub one_line : (bytes : List ℕ) (p q : Point) (rest other : List ℕ) → BeginsWith bytes p rest → BeginsWith bytes q other → SameLine p q rest other
-one_line bytes p q rest other a b =
+pub one_line : (version : ℕ) (bytes : List ℕ) (p q : Point) (rest other : List ℕ) → BeginsWith version bytes p rest → BeginsWith version bytes q other → SameLine p q rest other
+one_line version bytes p q rest other a b =
     let same = same_cut 10 bytes _ rest _ other a.cut b.cut in
-    record { points = one_form _ p q (subst (λ line. LineSpells line p) same.fronts a.spelled) b.spelled; rests = same.backs }
+    record { points = one_form version _ p q (subst (λ line. LineSpells version line p) same.fronts a.spelled) b.spelled; rests = same.backs }
 
-pub begins_with : (bytes line rest : List ℕ) (p : Point) → IsCut 10 bytes line rest → LineSpells line p → BeginsWith bytes p rest
-begins_with bytes line rest p cut spells = record { line = line; cut = cut; spelled = spells }
+pub begins_with : (version : ℕ) (bytes line rest : List ℕ) (p : Point) → IsCut 10 bytes line rest → LineSpells version line p → BeginsWith version bytes p rest
+begins_with version bytes line rest p cut spells = record { line = line; cut = cut; spelled = spells }
 
 -- bytes with no line feed begin with no line
-pub no_line : (bytes : List ℕ) (p : Point) (rest : List ℕ) → IsFreeOf 10 bytes → BeginsWith bytes p rest → ⊥
-no_line bytes p rest free begins = no_cut 10 begins.line rest (subst (IsFreeOf 10) begins.cut.whole free)
+pub no_line : (version : ℕ) (bytes : List ℕ) (p : Point) (rest : List ℕ) → IsFreeOf 10 bytes → BeginsWith version bytes p rest → ⊥
+no_line version bytes p rest free begins = no_cut 10 begins.line rest (subst (IsFreeOf 10) begins.cut.whole free)
 
-pub syntax_first : (version : ℕ) (mode : Mode) (live weight : ℕ) (bytes : List ℕ) → ((p : Point) (rest : List ℕ) → BeginsWith bytes p rest → ⊥) → IsFirstKind (LineFault version mode live weight bytes) Syntax
+pub syntax_first : (version : ℕ) (mode : Mode) (live weight : ℕ) (bytes : List ℕ) → ((p : Point) (rest : List ℕ) → BeginsWith version bytes p rest → ⊥) → IsFirstKind (LineFault version mode live weight bytes) Syntax
 syntax_first version mode live weight bytes none = record { here = none; earlier = λ other lower fault. omega (arith, lower) }
 
 -- what is wrong with a line by itself
 pub form_fault_first : (version : ℕ) (mode : Mode) (live weight : ℕ) (bytes line rest : List ℕ) → IsCut 10 bytes line rest → (kind : TextKind) → FormFault version line kind → IsFirstKind (LineFault version mode live weight bytes) kind
 form_fault_first version mode live weight bytes line rest cut Syntax fault = syntax_first version mode live weight bytes (λ p other begins.
     let same = same_cut 10 bytes _ other line rest begins.cut cut in
-    fault p (subst (λ t. LineSpells t p) same.fronts begins.spelled))
+    fault p (subst (λ t. LineSpells version t p) same.fronts begins.spelled))
 form_fault_first version mode live weight bytes line rest cut Range fault =
-    let begins = begins_with bytes line rest fault.0 cut fault.1 in
+    let begins = begins_with version bytes line rest fault.0 cut fault.1 in
     record { here = (fault.0, rest, begins, fault.2); earlier = before }
   where
     before : (other : TextKind) → rank other < 1 → LineFault version mode live weight bytes other → ⊥
-    before Syntax lower none = none fault.0 rest (begins_with bytes line rest fault.0 cut fault.1)
+    before Syntax lower none = none fault.0 rest (begins_with version bytes line rest fault.0 cut fault.1)
     before Range lower _ = omega (arith, lower)
     before Mixed lower _ = omega (arith, lower)
     before Many lower _ = omega (arith, lower)
@@ -50,21 +50,21 @@ form_fault_first version mode live weight bytes line rest cut Many fault = absur
 form_fault_first version mode live weight bytes line rest cut Strength fault = absurd fault
 
 -- what is wrong with the point of a line, as a fault of the line, and back
-to_line : (version : ℕ) (mode : Mode) (live weight : ℕ) (bytes : List ℕ) (p : Point) (rest : List ℕ) → BeginsWith bytes p rest → (kind : TextKind) → PointFault version mode live weight p kind → LineFault version mode live weight bytes kind
+to_line : (version : ℕ) (mode : Mode) (live weight : ℕ) (bytes : List ℕ) (p : Point) (rest : List ℕ) → BeginsWith version bytes p rest → (kind : TextKind) → PointFault version mode live weight p kind → LineFault version mode live weight bytes kind
 to_line version mode live weight bytes p rest begins Syntax fault = absurd (fault tt)
 to_line version mode live weight bytes p rest begins Range fault = (p, rest, begins, fault)
 to_line version mode live weight bytes p rest begins Mixed fault = (p, rest, begins, fault)
 to_line version mode live weight bytes p rest begins Many fault = (p, rest, begins, fault)
 to_line version mode live weight bytes p rest begins Strength fault = (p, rest, begins, fault)
 
-pub of_line : (version : ℕ) (mode : Mode) (live weight : ℕ) (bytes : List ℕ) (p : Point) (rest : List ℕ) → BeginsWith bytes p rest → (kind : TextKind) → LineFault version mode live weight bytes kind → PointFault version mode live weight p kind
+pub of_line : (version : ℕ) (mode : Mode) (live weight : ℕ) (bytes : List ℕ) (p : Point) (rest : List ℕ) → BeginsWith version bytes p rest → (kind : TextKind) → LineFault version mode live weight bytes kind → PointFault version mode live weight p kind
 of_line version mode live weight bytes p rest begins Syntax fault = absurd (fault p rest begins)
-of_line version mode live weight bytes p rest begins Range fault = subst (λ q. PointFault version mode live weight q Range) (one_line bytes fault.0 p fault.1 rest fault.2 begins).points fault.3
-of_line version mode live weight bytes p rest begins Mixed fault = subst (λ q. PointFault version mode live weight q Mixed) (one_line bytes fault.0 p fault.1 rest fault.2 begins).points fault.3
+of_line version mode live weight bytes p rest begins Range fault = subst (λ q. PointFault version mode live weight q Range) (one_line version bytes fault.0 p fault.1 rest fault.2 begins).points fault.3
+of_line version mode live weight bytes p rest begins Mixed fault = subst (λ q. PointFault version mode live weight q Mixed) (one_line version bytes fault.0 p fault.1 rest fault.2 begins).points fault.3
 of_line version mode live weight bytes p rest begins Many fault = fault.3
-of_line version mode live weight bytes p rest begins Strength fault = subst (λ q. PointFault version mode live weight q Strength) (one_line bytes fault.0 p fault.1 rest fault.2 begins).points fault.3
+of_line version mode live weight bytes p rest begins Strength fault = subst (λ q. PointFault version mode live weight q Strength) (one_line version bytes fault.0 p fault.1 rest fault.2 begins).points fault.3
 
-pub point_fault_first : (version : ℕ) (mode : Mode) (live weight : ℕ) (bytes : List ℕ) (p : Point) (rest : List ℕ) → BeginsWith bytes p rest → (kind : TextKind) → IsFirstKind (PointFault version mode live weight p) kind
+pub point_fault_first : (version : ℕ) (mode : Mode) (live weight : ℕ) (bytes : List ℕ) (p : Point) (rest : List ℕ) → BeginsWith version bytes p rest → (kind : TextKind) → IsFirstKind (PointFault version mode live weight p) kind
     → IsFirstKind (LineFault version mode live weight bytes) kind
 point_fault_first version mode live weight bytes p rest begins kind first = record {
   here = to_line version mode live weight bytes p rest begins kind first.here;
@@ -72,5 +72,5 @@ point_fault_first version mode live weight bytes p rest begins kind first = reco
 }
 
 -- nothing is wrong with a point in range that can join
-pub no_line_fault : (version : ℕ) (mode : Mode) (live weight : ℕ) (bytes : List ℕ) (p : Point) (rest : List ℕ) → BeginsWith bytes p rest → CanJoin version mode live weight p → (kind : TextKind) → LineFault version mode live weight bytes kind → ⊥
+pub no_line_fault : (version : ℕ) (mode : Mode) (live weight : ℕ) (bytes : List ℕ) (p : Point) (rest : List ℕ) → BeginsWith version bytes p rest → CanJoin version mode live weight p → (kind : TextKind) → LineFault version mode live weight bytes kind → ⊥
 no_line_fault version mode live weight bytes p rest begins joins kind fault = of_line version mode live weight bytes p rest begins kind fault (joins kind)

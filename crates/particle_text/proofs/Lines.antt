@@ -16,8 +16,8 @@ use Rattle.points.specs.Limits.{InRange, FitsMode, WithinLimits, weight64, total
 use Rattle.particle_text.specs.Text.{BeginsWith, AreLines, Spells, head_line}
 
 -- what follows the line may be anything
-pub longer : (bytes : List ℕ) (p : Point) (rest tail : List ℕ) → BeginsWith bytes p rest → BeginsWith (bytes ++ tail) p (rest ++ tail)
-longer bytes p rest tail begins = record {
+pub longer : (version : ℕ) (bytes : List ℕ) (p : Point) (rest tail : List ℕ) → BeginsWith version bytes p rest → BeginsWith version (bytes ++ tail) p (rest ++ tail)
+longer version bytes p rest tail begins = record {
   line = begins.line;
   cut = record {
     whole = ap (λ text. text ++ tail) begins.cut.whole ∙ append_assoc begins.line (10 ∷ rest) tail;
@@ -27,13 +27,13 @@ longer bytes p rest tail begins = record {
 }
 
 -- the line by itself
-pub alone : (bytes : List ℕ) (p : Point) (rest : List ℕ) (begins : BeginsWith bytes p rest) → BeginsWith (begins.line ++ 10 ∷ []) p []
-alone bytes p rest begins = record { line = begins.line; cut = record { whole = refl; first = begins.cut.first }; spelled = begins.spelled }
+pub alone : (version : ℕ) (bytes : List ℕ) (p : Point) (rest : List ℕ) (begins : BeginsWith version bytes p rest) → BeginsWith version (begins.line ++ 10 ∷ []) p []
+alone version bytes p rest begins = record { line = begins.line; cut = record { whole = refl; first = begins.cut.first }; spelled = begins.spelled }
 
-pub one_more_line : (bytes : List ℕ) (points : List Point) (line : List ℕ) (p : Point) → AreLines bytes points → BeginsWith line p [] → AreLines (bytes ++ line) (points ++ p ∷ [])
-one_more_line bytes [] line p none begins = ([], subst (λ front. BeginsWith (front ++ line) p []) (sym none) begins, refl)
-one_more_line bytes (q ∷ points) line p lines begins =
-    (lines.0 ++ line, longer bytes q lines.0 line lines.1, one_more_line lines.0 points line p lines.2 begins)
+pub one_more_line : (version : ℕ) (bytes : List ℕ) (points : List Point) (line : List ℕ) (p : Point) → AreLines version bytes points → BeginsWith version line p [] → AreLines version (bytes ++ line) (points ++ p ∷ [])
+one_more_line version bytes [] line p none begins = ([], subst (λ front. BeginsWith version (front ++ line) p []) (sym none) begins, refl)
+one_more_line version bytes (q ∷ points) line p lines begins =
+    (lines.0 ++ line, longer version bytes q lines.0 line lines.1, one_more_line version lines.0 points line p lines.2 begins)
 
 -- the limits of a version
 pub version_limits : (version : ℕ) → AreWithinWidest (grid_of version)
@@ -80,7 +80,7 @@ start bytes rest version mode is whole = record {
   weight_is = refl;
 }
 
-pub step : (bytes rest : List ℕ) (points : Points) (weight : ℕ) (p : Point) (more : List ℕ) → SoFar bytes rest points weight → BeginsWith rest p more → CanJoin points.version points.mode (length points.list) weight p
+pub step : (bytes rest : List ℕ) (points : Points) (weight : ℕ) (p : Point) (more : List ℕ) → SoFar bytes rest points weight → BeginsWith points.version rest p more → CanJoin points.version points.mode (length points.list) weight p
     → SoFar bytes more (joined points p) (weight + weight64 p)
 step bytes rest points weight p more far begins joins =
     let line = begins.line ++ 10 ∷ [] in
@@ -92,7 +92,7 @@ step bytes rest points weight p more far begins joins =
         limits = one_more_point points p far.spelled.limits same;
         lines = far.spelled.lines ++ line;
         head = ap (λ text. text ++ line) far.spelled.head ∙ append_assoc (head_line points.version points.mode) (10 ∷ far.spelled.lines) line;
-        body = one_more_line far.spelled.lines points.list line p far.spelled.body (alone rest p more begins);
+        body = one_more_line points.version far.spelled.lines points.list line p far.spelled.body (alone points.version rest p more begins);
       };
       weight_is = ap (λ w. w + weight64 p) far.weight_is ∙ sym (sum_by_push weight64 points.list p);
     }
@@ -130,7 +130,7 @@ pub record SomeSoFar (bytes rest : List ℕ) (version : ℕ) (mode : Mode) (live
 pub some_start : (bytes rest : List ℕ) (version : ℕ) (mode : Mode) → IsVersion version → bytes ≡ head_line version mode ++ 10 ∷ rest → SomeSoFar bytes rest version mode 0 0
 some_start bytes rest version mode is whole = record { points = []; far = start bytes rest version mode is whole; live_is = refl; few = omega arith; light = omega arith }
 
-pub some_step : (bytes rest : List ℕ) (version : ℕ) (mode : Mode) (live weight : ℕ) (p : Point) (more : List ℕ) → SomeSoFar bytes rest version mode live weight → BeginsWith rest p more → CanJoin version mode live weight p
+pub some_step : (bytes rest : List ℕ) (version : ℕ) (mode : Mode) (live weight : ℕ) (p : Point) (more : List ℕ) → SomeSoFar bytes rest version mode live weight → BeginsWith version rest p more → CanJoin version mode live weight p
     → SomeSoFar bytes more version mode (live + 1) (weight + weight64 p)
 some_step bytes rest version mode live weight p more some begins joins = record {
   points = some.points ++ p ∷ [];

@@ -17,7 +17,7 @@ has_head bytes good rest before parts spells none =
     none before.version before.mode (spells.lines ++ rest) spells.limits.version (behind bytes good rest spells.lines before parts spells.head)
 
 -- the other reading of a text with a fault does not go on behind the fault
-stops : (rest other : List ℕ) (before after : Points) (kind : TextKind) → SameHead before.version after.version before.mode after.mode → GoesOn rest other before.list after.list → WithinLimits after → FaultOf before rest kind
+stops : (rest other : List ℕ) (before after : Points) (kind : TextKind) → SameHead before.version after.version before.mode after.mode → GoesOn after.version rest other before.list after.list → WithinLimits after → FaultOf before rest kind
     → (after.list ≡ before.list) × (rest ≡ other)
 stops rest other before after kind heads on limits fault = go on.tail refl
   where
@@ -27,7 +27,7 @@ stops rest other before after kind heads on limits fault = go on.tail refl
 
     go : (tail : List Point) → on.tail ≡ tail → (after.list ≡ before.list) × (rest ≡ other)
     go [] shape =
-        let lines : on.lines ≡ [] = subst (AreLines on.lines) shape on.spelled in
+        let lines : on.lines ≡ [] = subst (AreLines after.version on.lines) shape on.spelled in
         (on.points ∙ ap (λ ps. before.list ++ ps) shape ∙ append-nil before.list, on.bytes ∙ ap (λ front. front ++ other) lines)
     go (p ∷ tail) shape = absurd (no_fault_inside rest other before.list after on p tail shape limits kind moved)
 

@@ -19,15 +19,15 @@ use Rattle.particle_text.proofs.LineFaults.{one_line, no_line_fault}
 use Rattle.particle_text.proofs.Lines.{longer}
 
 -- of two readings of one text, the second goes on where the first ends
-pub record GoesOn (rest other : List ℕ) (before after : List Point) : Type 0 where
+pub record GoesOn (version : ℕ) (rest other : List ℕ) (before after : List Point) : Type 0 where
   pub tail : List Point
   pub lines : List ℕ
   pub points : after ≡ before ++ tail
   pub bytes : rest ≡ lines ++ other
-  pub spelled : AreLines lines tail
+  pub spelled : AreLines version lines tail
 
-one_more : (rest other : List ℕ) (p q : Point) (before after : List Point) → p ≡ q → GoesOn rest other before after → GoesOn rest other (p ∷ before) (q ∷ after)
-one_more rest other p q before after same on = record {
+one_more : (version : ℕ) (rest other : List ℕ) (p q : Point) (before after : List Point) → p ≡ q → GoesOn version rest other before after → GoesOn version rest other (p ∷ before) (q ∷ after)
+one_more version rest other p q before after same on = record {
   tail = on.tail;
   lines = on.lines;
   points = ap (λ ps. q ∷ ps) on.points ∙ ap (λ r. r ∷ (before ++ on.tail)) (sym same);
@@ -35,16 +35,16 @@ one_more rest other p q before after same on = record {
   spelled = on.spelled;
 }
 
-compare : (lines more rest other : List ℕ) (before after : List Point) → AreLines lines before → AreLines more after → lines ++ rest ≡ more ++ other → GoesOn rest other before after ⊎ GoesOn other rest after before
-compare lines more rest other [] after a b e = inl (record { tail = after; lines = more; points = refl; bytes = ap (λ front. front ++ rest) (sym a) ∙ e; spelled = b })
-compare lines more rest other (p ∷ before) [] a b e = inr (record { tail = p ∷ before; lines = lines; points = refl; bytes = ap (λ front. front ++ other) (sym b) ∙ sym e; spelled = a })
-compare lines more rest other (p ∷ before) (q ∷ after) a b e =
-    let first = longer lines p a.0 rest a.1 in
-    let second = subst (λ text. BeginsWith text q (b.0 ++ other)) (sym e) (longer more q b.0 other b.1) in
-    let same = one_line (lines ++ rest) p q (a.0 ++ rest) (b.0 ++ other) first second in
-    elim (compare a.0 b.0 rest other before after a.2 b.2 same.rests) [
-      | inl on ↦ inl (one_more rest other p q before after same.points on)
-      | inr on ↦ inr (one_more other rest q p after before (sym same.points) on)
+compare : (version : ℕ) (lines more rest other : List ℕ) (before after : List Point) → AreLines version lines before → AreLines version more after → lines ++ rest ≡ more ++ other → GoesOn version rest other before after ⊎ GoesOn version other rest after before
+compare version lines more rest other [] after a b e = inl (record { tail = after; lines = more; points = refl; bytes = ap (λ front. front ++ rest) (sym a) ∙ e; spelled = b })
+compare version lines more rest other (p ∷ before) [] a b e = inr (record { tail = p ∷ before; lines = lines; points = refl; bytes = ap (λ front. front ++ other) (sym b) ∙ sym e; spelled = a })
+compare version lines more rest other (p ∷ before) (q ∷ after) a b e =
+    let first = longer version lines p a.0 rest a.1 in
+    let second = subst (λ text. BeginsWith version text q (b.0 ++ other)) (sym e) (longer version more q b.0 other b.1) in
+    let same = one_line version (lines ++ rest) p q (a.0 ++ rest) (b.0 ++ other) first second in
+    elim (compare version a.0 b.0 rest other before after a.2 b.2 same.rests) [
+      | inl on ↦ inl (one_more version rest other p q before after same.points on)
+      | inr on ↦ inr (one_more version other rest q p after before (sym same.points) on)
     ]
 
 -- the version and the mode of a text, and where its lines begin
@@ -64,14 +64,20 @@ behind bytes good rest lines points parts head = parts ∙ ap (λ front. front +
 -- two good fronts of one text
 pub record Fronts (rest other : List ℕ) (before after : Points) : Type 0 where
   pub heads : SameHead before.version after.version before.mode after.mode
-  pub either : GoesOn rest other before.list after.list ⊎ GoesOn other rest after.list before.list
+  pub either : GoesOn after.version rest other before.list after.list ⊎ GoesOn before.version other rest after.list before.list
 
 pub fronts : (bytes good rest fine other : List ℕ) (before after : Points) → bytes ≡ good ++ rest → Spells good before → bytes ≡ fine ++ other → Spells fine after → Fronts rest other before after
 fronts bytes good rest fine other before after parts spells cuts reads =
     let first = behind bytes good rest spells.lines before parts spells.head in
     let second = behind bytes fine other reads.lines after cuts reads.head in
     let start = same_start bytes _ _ before.version after.version before.mode after.mode spells.limits.version reads.limits.version first second in
-    record { heads = start.heads; either = compare spells.lines reads.lines rest other before.list after.list spells.body reads.body start.rests }
+    let same = sym start.heads.versions in
+    let body = subst (λ version. AreLines version reads.lines after.list) same reads.body in
+    let either : GoesOn after.version rest other before.list after.list ⊎ GoesOn before.version other rest after.list before.list = elim (compare before.version spells.lines reads.lines rest other before.list after.list spells.body body start.rests) [
+      | inl on ↦ inl (subst (λ version. GoesOn version rest other before.list after.list) start.heads.versions on)
+      | inr on ↦ inr on
+    ] in
+    record { heads = start.heads; either = either }
 
 -- lists that agree in all parts
 pub same_points : (a b : Points) → SameHead a.version b.version a.mode b.mode → a.list ≡ b.list → a ≡ b
@@ -95,18 +101,18 @@ abbrev pub FaultOf : Points → List ℕ → TextKind → Type 0
 FaultOf before rest kind = LineFault before.version before.mode (length before.list) (total_weight before.list) rest kind
 
 -- a line that another reading goes on with is not at fault
-pub no_fault_inside : (rest other : List ℕ) (before : List Point) (after : Points) (on : GoesOn rest other before after.list) (p : Point) (tail : List Point) → on.tail ≡ p ∷ tail → WithinLimits after
+pub no_fault_inside : (rest other : List ℕ) (before : List Point) (after : Points) (on : GoesOn after.version rest other before after.list) (p : Point) (tail : List Point) → on.tail ≡ p ∷ tail → WithinLimits after
     → (kind : TextKind) → FaultOf (record after { list = before }) rest kind → ⊥
 no_fault_inside rest other before after on p tail shape limits kind fault =
     let points = on.points ∙ ap (λ ps. before ++ ps) shape in
     let within = subst (λ ps. WithinLimits (record after { list = ps })) points limits in
-    let lines = subst (AreLines on.lines) shape on.spelled in
-    let begins = subst (λ text. BeginsWith text p (lines.0 ++ other)) (sym on.bytes) (longer on.lines p lines.0 other lines.1) in
+    let lines = subst (AreLines after.version on.lines) shape on.spelled in
+    let begins = subst (λ text. BeginsWith after.version text p (lines.0 ++ other)) (sym on.bytes) (longer after.version on.lines p lines.0 other lines.1) in
     no_line_fault after.version after.mode (length before) (total_weight before) rest p (lines.0 ++ other) begins (member_joins after.version after.mode before p tail within) kind fault
 
 -- no line begins with nothing
-nothing_begins : (p : Point) (rest : List ℕ) → BeginsWith [] p rest → ⊥
-nothing_begins p rest begins = let n : 0 ≡ length (begins.line ++ 10 ∷ rest) = ap length begins.cut.whole in omega (arith, n, length-append begins.line (10 ∷ rest))
+nothing_begins : (version : ℕ) (p : Point) (rest : List ℕ) → BeginsWith version [] p rest → ⊥
+nothing_begins version p rest begins = let n : 0 ≡ length (begins.line ++ 10 ∷ rest) = ap length begins.cut.whole in omega (arith, n, length-append begins.line (10 ∷ rest))
 
 front_nil : (xs ys : List ℕ) → [] ≡ xs ++ ys → xs ≡ []
 front_nil [] ys e = refl
@@ -117,17 +123,17 @@ back_nil [] ys e = sym e
 back_nil (x ∷ xs) ys e = absurd (cc)
 
 -- where nothing is left, a reading that goes on goes on with nothing
-ends : (other : List ℕ) (before after : List Point) → GoesOn [] other before after → after ≡ before
-ends other before after on = go on.tail refl
+ends : (version : ℕ) (other : List ℕ) (before after : List Point) → GoesOn version [] other before after → after ≡ before
+ends version other before after on = go on.tail refl
   where
     go : (tail : List Point) → on.tail ≡ tail → after ≡ before
     go [] shape = on.points ∙ ap (λ ps. before ++ ps) shape ∙ append-nil before
     go (p ∷ tail) shape =
-        let lines = subst (AreLines on.lines) shape on.spelled in
-        absurd (nothing_begins p lines.0 (subst (λ text. BeginsWith text p lines.0) (front_nil on.lines other on.bytes) lines.1))
+        let lines = subst (AreLines version on.lines) shape on.spelled in
+        absurd (nothing_begins version p lines.0 (subst (λ text. BeginsWith version text p lines.0) (front_nil on.lines other on.bytes) lines.1))
 
 pub one_list : (bytes : List ℕ) (before after : Points) → Spells bytes before → Spells bytes after → before ≡ after
 one_list bytes before after spells reads =
     let two = fronts bytes bytes [] bytes [] before after (sym (append-nil bytes)) spells (sym (append-nil bytes)) reads in
-    let lists : before.list ≡ after.list = elim two.either [ inl on ↦ sym (ends [] before.list after.list on) | inr on ↦ ends [] after.list before.list on ] in
+    let lists : before.list ≡ after.list = elim two.either [ inl on ↦ sym (ends after.version [] before.list after.list on) | inr on ↦ ends before.version [] after.list before.list on ] in
     same_points before after two.heads lists

@@ -15,7 +15,7 @@ use Rattle.number_text.specs.Parts.{IsFreeOf}
 use Rattle.number_text.proofs.Rows.{int_free, one_spelled_row}
 use Rattle.number_text.proofs.Spelling.{int_of_decimal}
 use Rattle.points.specs.declared.Kind.{Kind}
-use Rattle.points.specs.declared.Kind.TheVariants.{Charge, Dipole, Vortex, Target}
+use Rattle.points.specs.declared.Kind.TheVariants.{Charge, Dipole, Vortex, Target, Pole}
 use Rattle.points.specs.declared.Point.{Point}
 use Rattle.points.specs.declared.Points.{Points}
 use Rattle.points.specs.Limits.{HasStrength, InRange, WithinLimits}
@@ -44,6 +44,7 @@ strength_small (Charge q) fits = (component_small q fits.0, tt)
 strength_small (Dipole re im) fits = (component_small re fits.0, (component_small im fits.1, tt))
 strength_small (Vortex g) fits = (turned_small g fits.1, tt)
 strength_small Target fits = tt
+strength_small (Pole re im) fits = (component_small re fits.0, (component_small im fits.1, tt))
 
 numbers_small : (p : Point) → InRange widest_grid p → AllByRecursion IsSmall (numbers_of p)
 numbers_small p range =
@@ -86,16 +87,18 @@ name_free_of_space (Charge q) = free_by_test 32 (name_of (Charge q)) refl
 name_free_of_space (Dipole re im) = free_by_test 32 (name_of (Dipole re im)) refl
 name_free_of_space (Vortex g) = free_by_test 32 (name_of (Vortex g)) refl
 name_free_of_space Target = free_by_test 32 (name_of Target) refl
+name_free_of_space (Pole re im) = free_by_test 32 (name_of (Pole re im)) refl
 
 name_free_of_feed : (kind : Kind) → IsFreeOf 10 (name_of kind)
 name_free_of_feed (Charge q) = free_by_test 10 (name_of (Charge q)) refl
 name_free_of_feed (Dipole re im) = free_by_test 10 (name_of (Dipole re im)) refl
 name_free_of_feed (Vortex g) = free_by_test 10 (name_of (Vortex g)) refl
 name_free_of_feed Target = free_by_test 10 (name_of Target) refl
+name_free_of_feed (Pole re im) = free_by_test 10 (name_of (Pole re im)) refl
 
-line_begins : (p : Point) (rest : List ℕ) → InRange widest_grid p → BeginsWith (line_text p ++ rest) p rest
-line_begins p rest range =
-    let small = numbers_small p range in
+line_begins : (version : ℕ) (p : Point) (rest : List ℕ) → InRange (grid_of version) p → BeginsWith version (line_text p ++ rest) p rest
+line_begins version p rest range =
+    let small = numbers_small p (range_in_widest (grid_of version) p (version_has_grid version) range) in
     record {
       line = name_of p.kind ++ body (numbers_of p);
       cut = record {
@@ -103,18 +106,19 @@ line_begins p rest range =
         first = free_of_both 10 (name_of p.kind) (body (numbers_of p)) (name_free_of_feed p.kind) (body_free (numbers_of p) small);
       };
       spelled = record {
+        kind = range.kind;
         numbers = signed_decimal p.x ++ body (p.y ∷ strength_of p.kind);
         cut = record { whole = refl; first = name_free_of_space p.kind };
         spelled = row_spelled p.x (p.y ∷ strength_of p.kind) small.0 small.1;
       };
     }
 
-lines_spelled : (version : ℕ) (points : List Point) → All (InRange (grid_of version)) points → AreLines (flat_map line_text points) points
+lines_spelled : (version : ℕ) (points : List Point) → All (InRange (grid_of version)) points → AreLines version (flat_map line_text points) points
 lines_spelled version [] range = refl
 lines_spelled version (p ∷ points) range =
-    let first = range_in_widest (grid_of version) p (version_has_grid version) (All-head (InRange (grid_of version)) p points range) in
+    let first = All-head (InRange (grid_of version)) p points range in
     let others = All-tail (InRange (grid_of version)) p points range in
-    (flat_map line_text points, line_begins p (flat_map line_text points) first, lines_spelled version points others)
+    (flat_map line_text points, line_begins version p (flat_map line_text points) first, lines_spelled version points others)
 
 -- the text of a list within the limits spells it
 pub text_spelled : (points : Points) → WithinLimits points → Spells (text_of points) points
@@ -126,17 +130,17 @@ text_spelled points limits = record {
 }
 
 -- a list has one text
-one_line_text : (line other : List ℕ) (p : Point) → LineSpells line p → LineSpells other p → line ≡ other
-one_line_text line other p a b =
+one_line_text : (version : ℕ) (line other : List ℕ) (p : Point) → LineSpells version line p → LineSpells version other p → line ≡ other
+one_line_text version line other p a b =
     a.cut.whole ∙ ap (λ numbers. name_of p.kind ++ 32 ∷ numbers) (one_spelled_row a.numbers b.numbers (numbers_of p) a.spelled b.spelled) ∙ sym b.cut.whole
 
-one_body : (lines other : List ℕ) (points : List Point) → AreLines lines points → AreLines other points → lines ≡ other
-one_body lines other [] a b = a ∙ sym b
-one_body lines other (p ∷ points) a b =
-    let first = one_line_text a.1.line b.1.line p a.1.spelled b.1.spelled in
-    let rest = one_body a.0 b.0 points a.2 b.2 in
+one_body : (version : ℕ) (lines other : List ℕ) (points : List Point) → AreLines version lines points → AreLines version other points → lines ≡ other
+one_body version lines other [] a b = a ∙ sym b
+one_body version lines other (p ∷ points) a b =
+    let first = one_line_text version a.1.line b.1.line p a.1.spelled b.1.spelled in
+    let rest = one_body version a.0 b.0 points a.2 b.2 in
     a.1.cut.whole ∙ ap (λ line. line ++ 10 ∷ a.0) first ∙ ap (λ back. b.1.line ++ 10 ∷ back) rest ∙ sym b.1.cut.whole
 
 pub one_text : (bytes other : List ℕ) (points : Points) → Spells bytes points → Spells other points → bytes ≡ other
 one_text bytes other points a b =
-    a.head ∙ ap (λ lines. head_line points.version points.mode ++ 10 ∷ lines) (one_body a.lines b.lines points.list a.body b.body) ∙ sym b.head
+    a.head ∙ ap (λ lines. head_line points.version points.mode ++ 10 ∷ lines) (one_body points.version a.lines b.lines points.list a.body b.body) ∙ sym b.head

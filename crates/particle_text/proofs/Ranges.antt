@@ -7,7 +7,7 @@ use Rattle.limits.specs.Limits.{IsGrid, most_strength, widest_grid}
 use Rattle.number_text.specs.Numbers.{cut_int}
 use Rattle.number_text.proofs.Rows.{cut_small, small_cut}
 use Rattle.points.specs.declared.Kind.{Kind}
-use Rattle.points.specs.declared.Kind.TheVariants.{Charge, Dipole, Vortex, Target}
+use Rattle.points.specs.declared.Kind.TheVariants.{Charge, Dipole, Vortex, Target, Pole}
 use Rattle.points.specs.declared.Point.{Point}
 use Rattle.points.specs.Limits.{InRange, HasStrength}
 use Rattle.points.proofs.Ranges.{range_in_widest}
@@ -34,12 +34,14 @@ kind_kept (Charge q) fits = ap Charge (component q fits.0)
 kind_kept (Dipole re im) fits = λ i. Dipole (component re fits.0 i) (component im fits.1 i)
 kind_kept (Vortex g) fits = ap Vortex (component g (turned g fits.1))
 kind_kept Target fits = refl
+kind_kept (Pole re im) fits = λ i. Pole (component re fits.0 i) (component im fits.1 i)
 
 kind_back : (kind : Kind) → HasStrength (cut_kind kind) → cut_kind kind ≡ kind
 kind_back (Charge q) fits = ap Charge (component_back q fits.0)
 kind_back (Dipole re im) fits = λ i. Dipole (component_back re fits.0 i) (component_back im fits.1 i)
 kind_back (Vortex g) fits = ap Vortex (component_back g (turned (cut_int g) fits.1))
 kind_back Target fits = refl
+kind_back (Pole re im) fits = λ i. Pole (component_back re fits.0 i) (component_back im fits.1 i)
 
 -- a point in range is read as it is
 pub point_kept : (grid : ℕ) (q : Point) → IsGrid grid → InRange grid q → cut_point q ≡ q

@@ -41,18 +41,18 @@ CanJoin version mode live weight p = (kind : TextKind) → Passes version mode l
 abbrev pub PointFault : ℕ → Mode → ℕ → ℕ → Point → TextKind → Type 0
 PointFault version mode live weight p kind = Passes version mode live weight p kind → ⊥
 
--- What can be wrong with one line of a point in a text of this version, without its line feed: it is of no form, or out of range.
+-- What can be wrong with one line of a point in a text of this version, without its line feed: it is of no form of the version, or out of range.
 abbrev pub FormFault : ℕ → List ℕ → TextKind → Type 0
-FormFault version line Syntax = (p : Point) → LineSpells line p → ⊥
-FormFault version line Range = (p : Point) × LineSpells line p × (InRange (grid_of version) p → ⊥)
+FormFault version line Syntax = (p : Point) → LineSpells version line p → ⊥
+FormFault version line Range = (p : Point) × LineSpells version line p × (InRange (grid_of version) p → ⊥)
 FormFault version line _ = ⊥
 
 -- What can be wrong with the line that the bytes begin with, behind the lines of `live` points of this version, mode and total weight; each kind by itself.
 abbrev pub LineFault : ℕ → Mode → ℕ → ℕ → List ℕ → TextKind → Type 0
-LineFault version mode live weight bytes Syntax = (p : Point) (rest : List ℕ) → BeginsWith bytes p rest → ⊥
-LineFault version mode live weight bytes kind = (p : Point) × (rest : List ℕ) × BeginsWith bytes p rest × PointFault version mode live weight p kind
+LineFault version mode live weight bytes Syntax = (p : Point) (rest : List ℕ) → BeginsWith version bytes p rest → ⊥
+LineFault version mode live weight bytes kind = (p : Point) × (rest : List ℕ) × BeginsWith version bytes p rest × PointFault version mode live weight p kind
 
--- the bytes begin with no head line of a version that is read
+-- the bytes begin with no head line of a version
 abbrev pub HasNoHead : List ℕ → Type 0
 HasNoHead bytes = (version : ℕ) (mode : Mode) (rest : List ℕ) → IsVersion version → bytes ≢ head_line version mode ++ line_feed ∷ rest
 

@@ -8,10 +8,12 @@ use crate::TextKind;
 use limits::{grid_of, most_points, most_weight};
 use points::{Kind, Mode, Point};
 
-/// Why a point can't join a list of this version and mode, with this number of points and this total weight: the
-/// first of `Mixed`, `Many` and `Strength` that holds. `None` where it can.
+/// Why a point can't join a list of this version and mode, with `live` points of this total weight: the first of
+/// `Mixed`, `Many` and `Strength` that holds. `None` where it can.
 ///
-/// The version is one that is read, the point is in its range, and the total weight is within its limit.
+/// A weight is the sum of `abs(a) + 64 abs(b)` over points, with `abs(x + iy) = abs(x) + abs(y)`, pole `a` and dipole
+/// `b`. `version` is 1 or 2, the point is in its range, and the total weight is within its limit: 2^32 in version 1,
+/// 2^36 in version 2.
 pub fn admit(version: u8, mode: Mode, live: u64, weight: u64, p: &Point) -> Option<TextKind>
     requires version { IsVersion version }
     requires range { InRange (grid_of version) p.now }

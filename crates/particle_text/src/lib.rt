@@ -19,7 +19,7 @@ use thiserror::Error;
 /// What is wrong with a line of a text. Of several, the first in this order counts.
 #[derive(Clone, Copy, PartialEq, Eq, Debug)]
 pub enum TextKind {
-    /// It is of no form, or its line feed is missing.
+    /// It is of no form of the version, or its line feed is missing.
     Syntax,
     /// A coordinate or a strength component is outside the limit of the version.
     Range,

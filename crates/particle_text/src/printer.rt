@@ -17,12 +17,13 @@ fn write_point(text: &mut String, p: &Point) -> Result<(), AllocError>
         Kind::Dipole(re, im) => writeln!(text, "dipole {x} {y} {re} {im}"),
         Kind::Vortex(g) => writeln!(text, "vortex {x} {y} {g}"),
         Kind::Target => writeln!(text, "target {x} {y}"),
+        Kind::Pole(re, im) => writeln!(text, "pole {x} {y} {re} {im}"),
     }
 }
 
 /// The text that `parse` reads as these points.
 ///
-/// The list is within the limits. `Memory` is want of memory.
+/// The list is within the limits of its version. `Memory` is want of memory.
 pub fn print(alloc: Global, points: &Points) -> Result<Vec<u8>, Memory>
     requires { WithinLimits points.now }
     ensures text { IfOk result (λ bytes. bytes.items ≡ text_of points.now) }

@@ -23,6 +23,10 @@ fn head_of(line: &[u8]) -> Option<(u8, Mode)>
         Some((1, Mode::Field))
     } else if line == b"fmm 1 velocity".as_slice() {
         Some((1, Mode::Velocity))
+    } else if line == b"fmm 2 field".as_slice() {
+        Some((2, Mode::Field))
+    } else if line == b"fmm 2 velocity".as_slice() {
+        Some((2, Mode::Velocity))
     } else {
         None
     }
@@ -49,7 +53,7 @@ fn next_point(
 ) -> Result<(Point, &[u8]), TextKind>
     requires version { IsVersion version }
     requires weight { weight ≤ most_weight (grid_of version) }
-    ensures line { IfOk result (λ found. BeginsWith bytes.now found.0 found.1.now) }
+    ensures line { IfOk result (λ found. BeginsWith version bytes.now found.0 found.1.now) }
     ensures joins { IfOk result (λ found. CanJoin version mode live weight found.0) }
     ensures fault { IfErr result (IsFirstKind (LineFault version mode live weight bytes.now)) }
 {
@@ -65,9 +69,10 @@ fn next_point(
 
 /// The points that a text spells.
 ///
-/// A text has the head line `fmm 1 field` or `fmm 1 velocity`, and then a line `charge X Y Q`, `dipole X Y BX BY`,
-/// `vortex X Y G` or `target X Y` for each point. Each line ends with a line feed, and one space stands between
-/// two words. The list has to be within the limits of the version.
+/// A text has the head line `fmm V field` or `fmm V velocity` with the version V, 1 or 2, and then a line
+/// `charge X Y Q`, `dipole X Y BX BY`, `vortex X Y G` or `target X Y` for each point, in version 2 also
+/// `pole X Y RE IM`, in both modes. Each line ends with a line feed, and one space stands between two words. The list
+/// has to be within the limits of the version.
 ///
 /// `Text` names the first line at fault, counted from 1, and the first kind that holds for it. `Memory` is want of
 /// memory.

@@ -14,13 +14,14 @@ use Rattle.points.specs.declared.Kind.TheVariants.{Charge, Dipole, Target}
 use Rattle.points.specs.declared.Mode.TheVariants.{Field}
 use Rattle.points.specs.declared.Point.{Point}
 use Rattle.limits.specs.Grid.{half}
-use Rattle.limits.specs.Limits.{most_strength}
-use Rattle.points.specs.Limits.{InRange, HasStrength, FitsMode, WithinLimits, weight64}
+use Rattle.limits.specs.Limits.{first_grid, most_points, most_strength}
+use Rattle.points.specs.Limits.{InRange, IsKindOf, HasStrength, FitsMode, WithinLimits, weight64}
 use Rattle.exact_math.specs.Sizes.{abs_gaussian}
 use Rattle.points.specs.Points.{pole, dipole}
 use Rattle.point_sample.specs.Generator.{draw}
-use Rattle.point_sample.specs.Sample.{coordinate, component, kind_of, most_sampled, next_point, sample, sample_grid, sample_list, sample_point}
+use Rattle.point_sample.specs.Sample.{coordinate, component, kind_of, next_point, sample}
 use Rattle.point_sample.proofs.Draws.{draw_below}
+use Rattle.point_sample.proofs.Points.{sample_list, sample_point}
 
 -- what holds of a charge, of a dipole and of a target holds of each kind
 each_kind : (P : Kind → Type 0) (choice r s : ℕ) → P (Charge (component 1000 r)) → P (Dipole (component 100 r) (component 100 s)) → P Target → P (kind_of choice r s)
@@ -30,10 +31,10 @@ each_kind P choice r s charge dipole target =
       | false ↦ elim (choice % 4 == 2) as (λ b. P (if b then Dipole (component 100 r) (component 100 s) else Target)) [ true ↦ dipole | false ↦ target ]
     ]
 
-coordinate_low : (r scale : ℕ) → neg_ℤ (pos (half sample_grid)) ≤ℤ coordinate r scale
+coordinate_low : (r scale : ℕ) → neg_ℤ (pos (half first_grid)) ≤ℤ coordinate r scale
 coordinate_low r scale = omega (arith, ints)
 
-coordinate_high : (r scale : ℕ) → r < 2 ^ 16 → coordinate r scale <ℤ pos (half sample_grid)
+coordinate_high : (r scale : ℕ) → r < 2 ^ 16 → coordinate r scale <ℤ pos (half first_grid)
 coordinate_high r scale below = let part = div-le_self r (4 ^ scale) in omega (arith, ints)
 
 component_fits : (most r : ℕ) → Within most (component most r)
@@ -63,7 +64,7 @@ light choice r s =
     let im = component_fits 100 s in
     each_kind (λ kind. weight_of kind ≤ 12800) choice r s (omega (arith, ints, q.above, q.below)) (omega (arith, ints, re.above, re.below, im.above, im.below)) (omega arith)
 
-point_fits : (x : ℕ) → InRange sample_grid (next_point x)
+point_fits : (x : ℕ) → InRange first_grid (next_point x)
 unfolding next_point
 point_fits x = record {
   place = record {
@@ -72,6 +73,7 @@ point_fits x = record {
     south = coordinate_low (draw x 2) (draw x 3 / 4 % 4);
     north = coordinate_high (draw x 2) (draw x 3 / 4 % 4) (draw_below x 1);
   };
+  kind = each_kind (IsKindOf first_grid) (draw x 3) (draw x 4) (draw x 5) tt tt tt;
   strength = strength (draw x 3) (draw x 4) (draw x 5);
 }
 
@@ -87,12 +89,12 @@ point_light x = light (draw x 3) (draw x 4) (draw x 5)
 each_point : (P : Point → Type 0) → ((x : ℕ) → P (next_point x)) → (seed n : ℕ) → All P (sample_list seed n)
 each_point P each seed n = All-map P (sample_point seed) (range_with_len 0 n) (λ k d here. each _)
 
-pub sample_within : (seed n : ℕ) → n ≤ most_sampled → WithinLimits (sample seed n)
+pub sample_within : (seed n : ℕ) → n ≤ most_points first_grid → WithinLimits (sample seed n)
 sample_within seed n few =
     let many = length-map-range_with_len (sample_point seed) 0 n in
     let light = sum_by-le weight64 12800 (sample_list seed n) (each_point (λ p. weight64 p ≤ 12800) point_light seed n) in
     record {
       version = refl;
       mode_fits = each_point (λ p. FitsMode Field p.kind) mode_fits seed n;
-      within = record { range = each_point (InRange sample_grid) point_fits seed n; count = omega arith; weight = omega arith };
+      within = record { range = each_point (InRange first_grid) point_fits seed n; count = omega arith; weight = omega arith };
     }

@@ -2,8 +2,9 @@
 #![tactic(auto)]
 
 ghost use Rattle.std.specs.Prelude.{◌≡◌, ◌≤◌, IfOk};
+ghost use Rattle.limits.specs.Limits.{first_grid, most_points};
 ghost use Rattle.points.specs.Limits.{WithinLimits};
-ghost use Rattle.point_sample.specs.Sample.{most_sampled, sample};
+ghost use Rattle.point_sample.specs.Sample.{sample};
 
 mod generator;
 
@@ -18,7 +19,7 @@ const VERSION: u8 = 1;
 
 /// The greatest number of points of a sample.
 pub fn most_sampled() -> u32
-    ensures { result ≡ most_sampled }
+    ensures { result ≡ most_points first_grid }
 {
     most_points(FIRST_GRID) as u32
 }
@@ -27,7 +28,7 @@ pub fn most_sampled() -> u32
 ///
 /// `n` is at most 65,536. `Memory` is want of memory.
 pub fn sample_points(alloc: Global, seed: u32, n: u32) -> Result<Points, Memory>
-    requires { n ≤ most_sampled }
+    requires { n ≤ most_points first_grid }
     ensures sample { IfOk result (λ points. points ≡ sample seed n) }
     ensures within { IfOk result (λ points. WithinLimits points) }
 {

@@ -1,3 +1,4 @@
 -- Lemmas.
+pub mod Orders
 pub mod Ranges
 pub mod Slices

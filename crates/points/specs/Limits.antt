@@ -1,10 +1,11 @@
--- Which places, strengths and lists the text allows.
-use Rattle.std.specs.Prelude.{ℕ, ◌≤◌, List, length, All, sum_by}
+-- Which places, kinds, strengths and lists the text allows, and with which orders a list is solved.
+use Rattle.std.specs.Prelude.{ℕ, ◌≤◌, ◌==◌, IsTrue, not, List, length, All, sum_by}
+use Rattle.exact_math.specs.Orders.{IsOrder}
 use Rattle.exact_math.specs.Sizes.{weight_at}
 use Rattle.limits.specs.Grid.{IsInGrid}
-use Rattle.limits.specs.Limits.{IsVersion, grid_of, most_strength, most_points, most_weight}
+use Rattle.limits.specs.Limits.{IsVersion, first_grid, grid_of, most_strength, most_points, most_weight, most_order}
 use Rattle.points.specs.declared.Kind.{Kind}
-use Rattle.points.specs.declared.Kind.TheVariants.{Charge, Vortex}
+use Rattle.points.specs.declared.Kind.TheVariants.{Charge, Vortex, Pole}
 use Rattle.points.specs.declared.Mode.{Mode}
 use Rattle.points.specs.declared.Mode.TheVariants.{Field, Velocity}
 use Rattle.points.specs.declared.Point.{Point}
@@ -12,13 +13,19 @@ use Rattle.points.specs.declared.Points.{Points}
 use Rattle.points.specs.Points.{strength, pole, dipole}
 use Rattle.points.specs.Strength.{StrengthWithin}
 
+-- texts of the grid's version have lines of this kind: a pole stands in version 2 alone
+abbrev pub IsKindOf : ℕ → Kind → Type 0
+IsKindOf grid (Pole re im) = IsTrue (not (grid == first_grid))
+IsKindOf grid _ = Unit {0}
+
 -- each strength component is within its limit
 abbrev pub HasStrength : Kind → Type 0
 HasStrength k = StrengthWithin most_strength (strength k)
 
--- the place is in the grid and each strength component is within its limit
+-- the place is in the grid, the kind is one of its version, and each strength component is within its limit
 pub record InRange (grid : ℕ) (p : Point) : Type 0 where
   pub place : IsInGrid grid p.x p.y
+  pub kind : IsKindOf grid p.kind
   pub strength : HasStrength p.kind
 
 -- |a| + 64 |b| of the pole a and the dipole b
@@ -28,7 +35,7 @@ weight64 p = weight_at 32 (pole p.kind) (dipole p.kind)
 abbrev pub total_weight : List Point → ℕ
 total_weight points = sum_by weight64 points
 
--- no charge stands in a velocity list, and no vortex in a field list
+-- no charge stands in a velocity list, and no vortex in a field list; a pole stands in both
 abbrev pub FitsMode : Mode → Kind → Type 0
 FitsMode Velocity (Charge q) = ⊥
 FitsMode Field (Vortex g) = ⊥
@@ -45,3 +52,8 @@ pub record WithinLimits (points : Points) : Type 0 where
   pub version : IsVersion points.version
   pub mode_fits : All (λ p. FitsMode points.mode p.kind) points.list
   pub within : AreWithin (grid_of points.version) points.list
+
+-- one of the orders that the version of the grid has: the greatest is version 2's alone
+pub record IsOrderOf (grid order : ℕ) : Type 0 where
+  pub is_order : IsOrder order
+  pub most : order ≤ most_order grid

@@ -5,12 +5,12 @@ ghost use Rattle.std.specs.Prelude.{◌≡◌, ◌≤◌, List, [], ◌∷◌, �
 ghost use Rattle.exact_math.specs.Gaussian.{gaussian};
 ghost use Rattle.exact_math.specs.Sizes.{weight_at};
 ghost use Rattle.limits.specs.Limits.{IsGrid, most_strength, widest_grid};
-ghost use Rattle.points.specs.Limits.{InRange, HasStrength, weight64};
+ghost use Rattle.points.specs.Limits.{InRange, IsKindOf, HasStrength, weight64};
 ghost use Rattle.points.specs.Points.{pole, dipole, strength, is_source};
 ghost use Rattle.points.specs.Strength.{StrengthWithin};
 
 use io_ports::Memory;
-use limits::{MOST_STRENGTH, in_grid};
+use limits::{FIRST_GRID, MOST_STRENGTH, in_grid};
 use std::alloc::Global;
 use std::marker::Model;
 
@@ -25,6 +25,8 @@ pub enum Kind {
     Vortex(i64),
     /// A place where the field is asked for.
     Target,
+    /// A pole `a = re + i im`: the term `a/(t - z)`; in texts of version 2 alone.
+    Pole(i64, i64),
 }
 
 /// What a particle adds to the sum at a target `t`, from its place `z`.
@@ -39,7 +41,8 @@ pub enum Strength {
 }
 
 impl Kind {
-    /// A charge `q` is the pole `q`, a vortex of circulation `g` the pole `-i g`, a target adds nothing.
+    /// A charge `q` is the pole `q`, a vortex of circulation `g` the pole `-i g`, a pole is itself, a target adds
+    /// nothing.
     ///
     /// The kind's strength is within its limit.
     pub fn strength(self) -> Strength
@@ -52,14 +55,25 @@ impl Kind {
             Kind::Dipole(re, im) => Strength::Dipole(re, im),
             Kind::Vortex(g) => Strength::Pole(0, -g),
             Kind::Target => Strength::Nothing,
+            Kind::Pole(re, im) => Strength::Pole(re, im),
         }
     }
 
-    /// Whether it adds to the field: a charge, a dipole or a vortex, but no target.
+    /// Whether it adds to the field: a charge, a dipole, a vortex or a pole, but no target.
     pub fn is_source(self) -> bool
         ensures { result ≡ is_source self }
     {
         self != Kind::Target
+    }
+
+    /// Whether texts whose grid has so many bits have points of the kind: a pole stands in version 2 alone.
+    fn is_of(self, grid: u8) -> bool
+        ensures { IsTrue result ↔ IsKindOf grid self }
+    {
+        match self {
+            Kind::Pole(_, _) => grid != FIRST_GRID,
+            Kind::Charge(_) | Kind::Dipole(_, _) | Kind::Vortex(_) | Kind::Target => true,
+        }
     }
 }
 
@@ -73,6 +87,8 @@ fn has_strength(kind: &Kind) -> bool
             && im.unsigned_abs() <= MOST_STRENGTH,
         Kind::Vortex(g) => g.unsigned_abs() <= MOST_STRENGTH,
         Kind::Target => true,
+        Kind::Pole(re, im) => re.unsigned_abs() <= MOST_STRENGTH
+            && im.unsigned_abs() <= MOST_STRENGTH,
     }
 }
 
@@ -84,7 +100,7 @@ pub struct Point {
     pub kind: Kind,
 }
 
-/// What the text asks for: the field of charges and dipoles, or the velocity of vortices and dipoles.
+/// What the text asks for: the field of charges, dipoles and poles, or the velocity of vortices, dipoles and poles.
 #[derive(Clone, Copy, PartialEq, Eq, Debug)]
 pub enum Mode {
     Field,
@@ -92,15 +108,19 @@ pub enum Mode {
 }
 
 impl Point {
-    /// Whether the place is in the grid of so many bits and each strength component is within its limit.
+    /// Whether the place is in the grid of so many bits, the kind is one of that grid's version, and each strength
+    /// component is within its limit. So a pole is out of range in version 1.
+    ///
+    /// `grid` is 16 or 20.
     pub fn is_in_range(&self, grid: u8) -> bool
         requires { IsGrid grid }
         ensures { IsTrue result ↔ InRange grid self.now }
     {
-        in_grid(grid, self.x, self.y) && has_strength(&self.kind)
+        in_grid(grid, self.x, self.y) && self.kind.is_of(grid) && has_strength(&self.kind)
     }
 
-    /// The pole `a` as its two parts: `(q, 0)` for a charge `q`, `(0, -g)` for a vortex `g`, else zero.
+    /// The pole `a` as its two parts: `(q, 0)` for a charge `q`, `(0, -g)` for a vortex `g`, `(re, im)` for a pole
+    /// `re + i im`, else zero.
     ///
     /// The point is in range of some version.
     pub fn pole(&self) -> (i64, i64)
@@ -119,7 +139,7 @@ impl Point {
     {
         match self.kind {
             Kind::Dipole(re, im) => (re, im),
-            Kind::Charge(_) | Kind::Vortex(_) | Kind::Target => (0, 0),
+            Kind::Charge(_) | Kind::Vortex(_) | Kind::Target | Kind::Pole(_, _) => (0, 0),
         }
     }
 

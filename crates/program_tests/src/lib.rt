@@ -15,3 +15,5 @@ mod samples;
 mod texts;
 #[cfg(test)]
 mod trees;
+#[cfg(test)]
+mod versions;

@@ -4,11 +4,14 @@ ghost use Rattle.exact_math.specs.Within.{Within};
 ghost use Rattle.complex_box.specs.Box.{BoxWithin};
 
 use complex_box::CBox;
-use field_report::{Decimal, write_target};
+use field_report::{Decimal, to_count, write_target};
 use fixed_interval::Interval;
 use io_ports::{MemSink, WriteFault};
 use points::Mode;
 use std::test::Fail;
+
+/// The greatest end that is printed.
+const MOST: i128 = 1 << 96;
 
 #[test]
 fn writes_decimals(rt: HostRuntime) {
@@ -27,12 +30,45 @@ fn writes_decimals(rt: HostRuntime) {
         b"-105.916767676770".as_slice()
     );
     assert_eq!(rt;
-        Decimal::of(1 << 84).bytes(),
-        b"19342813113834.066795298816".as_slice()
+        Decimal::of(MOST).bytes(),
+        b"79228162514264337.593543950336".as_slice()
     );
     assert_eq!(rt;
-        Decimal::of(-(1 << 84)).bytes(),
-        b"-19342813113834.066795298816".as_slice()
+        Decimal::of(-MOST).bytes(),
+        b"-79228162514264337.593543950336".as_slice()
+    );
+}
+
+/// At both borders, where the product with 10^12 itself leaves 128 bits, and beside them.
+#[test]
+fn counts_of_the_borders(rt: HostRuntime) {
+    assert_eq!(rt;
+        [
+            to_count(MOST, false),
+            to_count(MOST, true),
+            to_count(MOST - 1, false),
+            to_count(MOST - 1, true)
+        ],
+        [
+            72_057_594_037_927_936_000_000_000_000,
+            72_057_594_037_927_936_000_000_000_000,
+            72_057_594_037_927_935_999_999_999_999,
+            72_057_594_037_927_936_000_000_000_000
+        ]
+    );
+    assert_eq!(rt;
+        [
+            to_count(-MOST, false),
+            to_count(-MOST, true),
+            to_count(1 - MOST, false),
+            to_count(1 - MOST, true)
+        ],
+        [
+            -72_057_594_037_927_936_000_000_000_000,
+            -72_057_594_037_927_936_000_000_000_000,
+            -72_057_594_037_927_936_000_000_000_000,
+            -72_057_594_037_927_935_999_999_999_999
+        ]
     );
 }
 
@@ -60,5 +96,22 @@ fn writes_lines(rt: HostRuntime) -> Result<(), Fail> {
         &sink.held()[line.len().min(sink.held().len())..],
         part.as_bytes()
     );
+    Ok(())
+}
+
+#[test]
+fn writes_a_line_of_the_borders(rt: HostRuntime) -> Result<(), Fail> {
+    let alloc = rt.alloc();
+    let mut sink = MemSink::with_room(alloc, 256, 256, Vec::new(alloc))?;
+    let widest = CBox {
+        re: Interval::new(-MOST, MOST),
+        im: Interval::new(-MOST, 1 - MOST),
+    };
+    assert_eq!(rt;
+        write_target(Mode::Velocity, -524_288, 524_287, widest, &mut sink),
+        Ok(())
+    );
+    let line = "target -524288 524287 u -72057594037927936.000000000000 72057594037927936.000000000000 v 72057594037927935.999999999999 72057594037927936.000000000000\n";
+    assert_eq!(rt; sink.held(), line.as_bytes());
     Ok(())
 }

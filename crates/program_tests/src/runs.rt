@@ -103,7 +103,7 @@ const REFUSALS: [(&[u8], &[u8]); 7] = [
     (b"fmm 1 field\nvortex 0 0 1\n", b"refused line 2 mixed\n"),
     (b"fmm 1 field\ncharge 00 0 1\n", b"refused line 2 syntax\n"),
     (b"fmm 1 field\rcharge 0 0 1\n", b"refused line 1 syntax\n"),
-    (b"fmm 2 field\ncharge 0 0 1\n", b"refused line 1 syntax\n"),
+    (b"fmm 3 field\ncharge 0 0 1\n", b"refused line 1 syntax\n"),
     (b"", b"refused line 1 syntax\n"),
 ];
 
@@ -237,7 +237,7 @@ const USAGE: &[u8] =
     b"usage: fmm solve ORDER CAP FILE [WORKERS] | check FILE | session ORDER CAP | sample SEED N ORDER CAP [WORKERS]\n";
 
 /// Words that are no command.
-const WRONG: [&[&str]; 10] = [
+const WRONG: [&[&str]; 12] = [
     &["solve", "5", "8", "-"],
     &["solve", "8", "7", "-"],
     &["solve", "8", "8", "-", "65"],
@@ -247,6 +247,9 @@ const WRONG: [&[&str]; 10] = [
     &["sample", "0", "0", "8", "32"],
     &["sample", "4294967296", "2", "8", "32"],
     &["sample", "0", "2", "8", "32", "1"],
+    // Samples are of version 1.
+    &["sample", "0", "2", "32", "32"],
+    &["sample", "0", "65537", "8", "32"],
     &[],
 ];
 
@@ -293,7 +296,7 @@ fn a_solve_opens_its_input(rt: HostRuntime) -> Result<(), Fail> {
 
 #[test]
 fn a_solve_opens_its_file(rt: HostRuntime) -> Result<(), Fail> {
-    let words = words_of(rt.alloc(), &["solve", "24", "1024", "points.txt"])?;
+    let words = words_of(rt.alloc(), &["solve", "32", "1024", "points.txt"])?;
     assert!(rt; matches!(plan(&words), Opening::SolveFile { file: "points.txt" }));
     Ok(())
 }

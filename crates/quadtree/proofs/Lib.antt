@@ -12,6 +12,7 @@ pub mod LevelRanges
 pub mod Levels
 pub mod Limits
 pub mod Members
+pub mod NodeSeen
 pub mod Occupants
 pub mod Parents
 pub mod Positions

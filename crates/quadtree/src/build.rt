@@ -103,9 +103,9 @@ fn assembled(
 impl Tree {
     /// The tree of a list of points with a leaf capacity.
     ///
-    /// The list is within the limits of its version, and the capacity is 8 to 1024. Where more than 4,096 points stand
-    /// at one place, `Crowded` has the first such place by column and row. Otherwise, where the tree has more cells than
-    /// `limits::most_cells` of its grid, 65,536 in version 1, it is `Cells`.
+    /// The list is within the limits of its version, which tells the grid, and the capacity is 8 to 1024. Where more than
+    /// 4,096 points stand at one place, `Crowded` has the first such place by column and row, as a cell of the grid's last
+    /// level. Otherwise, where the tree has more cells than `limits::most_cells` of its grid, it is `Cells`.
     pub fn build(alloc: Global, points: &Points, cap: u32) -> Result<Tree, TreeFault>
         requires list { WithinLimits points.now }
         requires cap { IsCapacity cap }

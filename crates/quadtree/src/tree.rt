@@ -1,7 +1,8 @@
 //! The tree and what it tells.
 
-ghost use Rattle.std.specs.Prelude.{◌≡◌, ◌≤◌, ◌<◌, length, slice_index, MatchOption, Contains};
+ghost use Rattle.std.specs.Prelude.{◌≡◌, ◌-◌, ◌≤◌, ◌<◌, length, slice_index, MatchOption, Contains};
 ghost use Rattle.cell_name.specs.Cell.{square};
+ghost use Rattle.quadtree.specs.Fields.{numbers_of};
 ghost use Rattle.quadtree.specs.TreeModel.{IsTree, IsLevel, size, squares, square_of, node_of, leaf_of};
 
 use crate::children::Children;
@@ -68,12 +69,27 @@ impl Tree {
         self.cells.binary_search(&c).ok()
     }
 
+    /// What is kept of the cell.
+    fn node(&self, n: usize) -> &Node
+        requires { n < size self.now }
+        ensures parent { result.now.parent ≡ (node_of self.now n).parent }
+        ensures ordered { result.now.from ≤ result.now.to }
+        ensures count { result.now.to - result.now.from ≡ (node_of self.now n).count }
+        ensures leaf { result.now.is_leaf ≡ (node_of self.now n).is_leaf }
+        ensures source { result.now.has_source ≡ (node_of self.now n).has_source }
+        ensures target { result.now.has_target ≡ (node_of self.now n).has_target }
+        ensures few { result.now.children.count ≤ 4 }
+        ensures children { numbers_of result.now.children ≡ (node_of self.now n).children }
+    {
+        &self.nodes[n]
+    }
+
     /// The number of the parent; 0 for cell 0.
     pub fn parent(&self, n: usize) -> usize
         requires { n < size self.now }
         ensures { result ≡ (node_of self.now n).parent }
     {
-        self.nodes[n].parent
+        self.node(n).parent
     }
 
     /// The numbers of the cells whose parent the cell is, ascending: those of its quarters that have a point.
@@ -81,7 +97,7 @@ impl Tree {
         requires { n < size self.now }
         ensures { result.now ≡ (node_of self.now n).children }
     {
-        self.nodes[n].children.numbers()
+        self.node(n).children.numbers()
     }
 
     /// The numbers of the cells of a level.
@@ -99,7 +115,7 @@ impl Tree {
         requires { n < size self.now }
         ensures { result ≡ (node_of self.now n).is_leaf }
     {
-        self.nodes[n].is_leaf
+        self.node(n).is_leaf
     }
 
     /// How many points, sources and targets together, the cell has.
@@ -107,15 +123,16 @@ impl Tree {
         requires { n < size self.now }
         ensures { result ≡ (node_of self.now n).count }
     {
-        (self.nodes[n].to - self.nodes[n].from) as u64
+        let node = self.node(n);
+        (node.to - node.from) as u64
     }
 
-    /// Whether a charge, a vortex or a dipole lies in the cell.
+    /// Whether a source lies in the cell.
     pub fn has_source(&self, n: usize) -> bool
         requires { n < size self.now }
         ensures { result ≡ (node_of self.now n).has_source }
     {
-        self.nodes[n].has_source
+        self.node(n).has_source
     }
 
     /// Whether a target lies in the cell.
@@ -123,7 +140,7 @@ impl Tree {
         requires { n < size self.now }
         ensures { result ≡ (node_of self.now n).has_target }
     {
-        self.nodes[n].has_target
+        self.node(n).has_target
     }
 
     /// The positions in the list of the points in the cell, ascending.

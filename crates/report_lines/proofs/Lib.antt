@@ -1,2 +1,4 @@
 -- Lemmas.
 pub mod Bounds
+mod Lines
+mod Reduced

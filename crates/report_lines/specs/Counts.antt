@@ -1,17 +1,12 @@
 -- The printed counts of a box: whole numbers of 10^-12.
-use Rattle.std.specs.Prelude.{ℕ, ◌+◌, ℤ, pos, ◌*ℤ◌, ◌≤ℤ◌, ◌<ℤ◌, ◌^◌, Bool, true, false}
+use Rattle.std.specs.Prelude.{ℤ, pos, ◌*ℤ◌, ◌≤ℤ◌, ◌<ℤ◌, ◌^◌, Bool, true, false}
 use Rattle.exact_math.specs.Contains.{Contains}
 use Rattle.exact_math.specs.Ends.{Ends, BoxEnds, neg_ends}
 use Rattle.exact_math.specs.Ratio.{Ratio, ComplexRatio, re_part, im_part, neg_ratio}
 use Rattle.exact_math.specs.Rounding.{floor_div, ceil_div}
 use Rattle.exact_math.specs.Units.{unit}
-use Rattle.limits.specs.Limits.{first_grid, most_box}
 use Rattle.points.specs.declared.Mode.{Mode}
 use Rattle.points.specs.declared.Mode.TheVariants.{Field, Velocity}
-
--- the greatest size of an end that is printed, and of its count: the boxes of version 1 stay below it
-abbrev pub most_printed : ℕ
-most_printed = most_box first_grid + 1
 
 -- an end in units of 2^-40 as a count of 10^-12, rounded down, and rounded up
 abbrev pub count_below : ℤ → ℤ
@@ -37,19 +32,12 @@ pub record TargetCounts : Type 0 where
   pub second : Ends
 
 -- A field line prints both parts. In a velocity line `u` is the real part and `v` the negative of the imaginary part.
-abbrev pub second_ends : Mode → Ends → Ends
-second_ends Field im = count_ends im
-second_ends Velocity im = neg_ends (count_ends im)
-
 abbrev pub target_counts : Mode → BoxEnds → TargetCounts
-target_counts mode b = record { first = count_ends b.re; second = second_ends mode b.im }
-
--- the second number of a target line
-abbrev pub second_part : Mode → ComplexRatio → Ratio
-second_part Field z = im_part z
-second_part Velocity z = neg_ratio (im_part z)
+target_counts Field b = record { first = count_ends b.re; second = count_ends b.im }
+target_counts Velocity b = record { first = count_ends b.re; second = neg_ends (count_ends b.im) }
 
 -- the printed counts contain the parts of the fraction, in units of 10^-12
-pub record CountsContain (mode : Mode) (c : TargetCounts) (z : ComplexRatio) : Type 0 where
-  pub first : Contains (pos (10 ^ 12)) c.first.lo c.first.hi (re_part z)
-  pub second : Contains (pos (10 ^ 12)) c.second.lo c.second.hi (second_part mode z)
+abbrev pub CountsContain : Mode → TargetCounts → ComplexRatio → Type 0
+CountsContain Field c z = record { first : Contains (pos (10 ^ 12)) c.first.lo c.first.hi (re_part z); second : Contains (pos (10 ^ 12)) c.second.lo c.second.hi (im_part z) }
+CountsContain Velocity c z =
+    record { first : Contains (pos (10 ^ 12)) c.first.lo c.first.hi (re_part z); second : Contains (pos (10 ^ 12)) c.second.lo c.second.hi (neg_ratio (im_part z)) }

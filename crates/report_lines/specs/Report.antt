@@ -12,13 +12,9 @@ mode_word Field = codes "field"
 mode_word Velocity = codes "velocity"
 
 -- the words before the two pairs of counts
-abbrev pub first_word : Mode → List ℕ
-first_word Field = codes " re "
-first_word Velocity = codes " u "
-
-abbrev pub second_word : Mode → List ℕ
-second_word Field = codes " im "
-second_word Velocity = codes " v "
+abbrev pub labels : Mode → List ℕ × List ℕ
+labels Field = (codes " re ", codes " im ")
+labels Velocity = (codes " u ", codes " v ")
 
 -- a target at (x, y) and its counts
 pub record TargetLine : Type 0 where
@@ -30,9 +26,8 @@ pub record TargetLine : Type 0 where
 abbrev pub target_line : Mode → TargetLine → List ℕ
 target_line mode t =
     codes "target " ++ signed_decimal t.x ++ codes " " ++ signed_decimal t.y
-    ++ first_word mode ++ decimal_text t.counts.first.lo ++ codes " " ++ decimal_text t.counts.first.hi
-    ++ second_word mode ++ decimal_text t.counts.second.lo ++ codes " " ++ decimal_text t.counts.second.hi
-    ++ line_feed ∷ []
+    ++ (labels mode).0 ++ decimal_text t.counts.first.lo ++ codes " " ++ decimal_text t.counts.first.hi
+    ++ (labels mode).1 ++ decimal_text t.counts.second.lo ++ codes " " ++ decimal_text t.counts.second.hi ++ line_feed ∷ []
 
 -- the line of these numbers
 abbrev pub line_of : Mode → ℤ → ℤ → ℤ → ℤ → ℤ → ℤ → List ℕ
@@ -50,14 +45,11 @@ report_head mode order cap = codes "fmm report 1 " ++ mode_word mode ++ codes " 
 abbrev pub work_line : ℕ → ℕ → List ℕ
 work_line translations pairs = codes "work translations " ++ decimal translations ++ codes " pairs " ++ decimal pairs ++ line_feed ∷ []
 
-abbrev pub end_line : List ℕ
-end_line = codes "end" ++ line_feed ∷ []
-
 -- the last two lines
 abbrev pub last_lines : ℕ → ℕ → List ℕ
-last_lines translations pairs = work_line translations pairs ++ end_line
+last_lines translations pairs = work_line translations pairs ++ codes "end\n"
 
 -- the report: its head, a line for each target in the order of the list, the counts of work, and `end`
 abbrev pub report_text : Mode → ℕ → ℕ → List TargetLine → ℕ → ℕ → List ℕ
 report_text mode order cap lines translations pairs =
-    report_head mode order cap ++ flat_map (target_line mode) lines ++ work_line translations pairs ++ end_line
+    report_head mode order cap ++ flat_map (target_line mode) lines ++ work_line translations pairs ++ codes "end\n"

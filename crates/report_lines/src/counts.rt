@@ -5,21 +5,27 @@ ghost use Rattle.exact_math.specs.Ratio.{Ratio, neg_ratio};
 ghost use Rattle.exact_math.specs.Rounding.{floor_div};
 ghost use Rattle.exact_math.specs.Within.{Within};
 ghost use Rattle.exact_math.specs.Units.{unit};
-ghost use Rattle.fixed_interval.specs.Interval.{IntervalWithin, ends_of};
-ghost use Rattle.report_lines.specs.Counts.{second_ends, count_below, count_above, most_printed, KeepsBound};
+ghost use Rattle.complex_box.specs.Box.{BoxWithin, box_ends};
+ghost use Rattle.fixed_interval.specs.Interval.{IntervalWithin};
+ghost use Rattle.limits.specs.Limits.{most_printed};
+ghost use Rattle.report_lines.specs.Counts.{target_counts, count_below, count_above, KeepsBound};
 
-use complex_box::UNIT_BITS;
+use complex_box::{CBox, UNIT_BITS};
 use fixed_interval::Interval;
-use line_text::ONE;
 use points::Mode;
+
+// 2^12 divides both 10^12 and 2^40, so `10^12 n / 2^40` is `5^12 n / 2^28`, and the product stays below 2^125.
+const FACTOR: i128 = 244_140_625;
+
+const SHIFT: u32 = UNIT_BITS - 12;
 
 /// `10^12 n / 2^40` rounded down, or rounded up where `up` is set: the count of an end `n` of a box.
 ///
-/// `n` is at most 2^84 in size, and so is its count.
+/// `n` is at most 2^96 in size, and so is its count.
 pub fn to_count(n: i128, up: bool) -> i128
-    requires { Within (most_printed) n }
+    requires { Within most_printed n }
     ensures value { result ≡ (if up then count_above n else count_below n) }
-    ensures size { Within (most_printed) result }
+    ensures size { Within most_printed result }
     ensures bound { KeepsBound up n result }
 {
     if up {
@@ -29,28 +35,28 @@ pub fn to_count(n: i128, up: bool) -> i128
 }
 
 fn count_down(n: i128) -> i128
-    requires { Within (most_printed) n }
+    requires { Within most_printed n }
     ensures value { result ≡ count_below n }
-    ensures size { Within (most_printed) result }
+    ensures size { Within most_printed result }
 {
-    in_units(n * ONE)
+    shifted(n * FACTOR)
 }
 
 fn count_up(n: i128) -> i128
-    requires { Within (most_printed) n }
+    requires { Within most_printed n }
     ensures value { result ≡ count_above n }
-    ensures size { Within (most_printed) result }
+    ensures size { Within most_printed result }
 {
-    -in_units(-(n * ONE))
+    -shifted(-(n * FACTOR))
 }
 
-// `z / 2^40` rounded down.
-fn in_units(z: i128) -> i128
-    requires { Within (10 ^ 12 * most_printed) z }
-    ensures value { result ≡ floor_div z unit }
-    ensures size { Within (most_printed) result }
+// `z / 2^28` rounded down.
+fn shifted(z: i128) -> i128
+    requires { Within (5 ^ 12 * most_printed) z }
+    ensures value { result ≡ floor_div z (pos (2 ^ 28)) }
+    ensures size { Within most_printed result }
 {
-    z >> UNIT_BITS
+    z >> SHIFT
 }
 
 /// The printed counts of the ends of an interval.
@@ -58,14 +64,14 @@ fn in_units(z: i128) -> i128
 pub(crate) struct CountEnds {
     pub(crate) lo: i128,
     pub(crate) hi: i128,
-    ghost low_size: { Within (most_printed) lo },
-    ghost high_size: { Within (most_printed) hi },
+    ghost low_size: { Within most_printed lo },
+    ghost high_size: { Within most_printed hi },
 }
 
 impl CountEnds {
     /// The count of the lower end rounded down, and that of the upper end rounded up.
     pub(crate) fn of(i: Interval) -> CountEnds
-        requires { IntervalWithin (most_printed) i }
+        requires { IntervalWithin most_printed i }
         ensures lo { result.lo ≡ count_below i.lo }
         ensures hi { result.hi ≡ count_above i.hi }
         ensures contains { (x : Ratio) → Contains unit i.lo i.hi x → Contains (pos (10 ^ 12)) result.lo result.hi x }
@@ -90,12 +96,12 @@ impl CountEnds {
 }
 
 /// The counts of the second pair of a target line: those of the imaginary part, or of its negative in a velocity line.
-pub(crate) fn second_counts(mode: Mode, im: Interval) -> CountEnds
-    requires { IntervalWithin (most_printed) im }
-    ensures lo { result.lo ≡ (second_ends mode (ends_of im)).lo }
-    ensures hi { result.hi ≡ (second_ends mode (ends_of im)).hi }
+pub(crate) fn second_counts(mode: Mode, v: CBox) -> CountEnds
+    requires { BoxWithin most_printed v }
+    ensures lo { result.lo ≡ (target_counts mode (box_ends v)).second.lo }
+    ensures hi { result.hi ≡ (target_counts mode (box_ends v)).second.hi }
 {
-    let counts = CountEnds::of(im);
+    let counts = CountEnds::of(v.im);
     match mode {
         Mode::Field => counts,
         Mode::Velocity => counts.neg(),

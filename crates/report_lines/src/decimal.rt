@@ -1,7 +1,7 @@
 //! Counts as decimals.
 ghost use Rattle.std.specs.Prelude.{◌≡◌, ℕ, List};
 ghost use Rattle.exact_math.specs.Within.{Within};
-ghost use Rattle.report_lines.specs.Counts.{most_printed};
+ghost use Rattle.limits.specs.Limits.{most_printed};
 ghost use Rattle.line_text.specs.Decimals.{decimal_text};
 
 use line_text::FrontText;
@@ -21,9 +21,9 @@ impl Model for Decimal {
 }
 
 impl Decimal {
-    /// The text of a count, which is at most 2^84 in size.
+    /// The text of a count, which is at most 2^96 in size.
     pub fn of(count: i128) -> Decimal
-        requires { Within (most_printed) count }
+        requires { Within most_printed count }
         ensures { result ≡ decimal_text count }
     {
         let mut text = FrontText::new();

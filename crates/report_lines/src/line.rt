@@ -3,9 +3,10 @@ ghost use Rattle.std.specs.Prelude.{◌≡◌, ◌+◌, ◌≤◌, ◌++◌, cod
 ghost use Rattle.complex_box.specs.Box.{BoxWithin, box_ends, BoxContains};
 ghost use Rattle.exact_math.specs.Ratio.{ComplexRatio};
 ghost use Rattle.exact_math.specs.Units.{unit};
-ghost use Rattle.report_lines.specs.Counts.{CountsContain, most_printed, target_counts};
+ghost use Rattle.limits.specs.Limits.{most_printed};
+ghost use Rattle.report_lines.specs.Counts.{CountsContain, target_counts};
 ghost use Rattle.line_text.specs.Decimals.{decimal_text};
-ghost use Rattle.report_lines.specs.Report.{first_word, second_word, line_of, target_line};
+ghost use Rattle.report_lines.specs.Report.{labels, line_of, target_line};
 ghost use Rattle.io_ports.specs.Bytes.{Writes};
 ghost use Rattle.io_ports.specs.Faults.{HasCause};
 
@@ -21,7 +22,7 @@ const LINE: usize = 256;
 /// Appends the line of the target at `(x, y)` with the box `v` of its field, in units of 2^-40: `target X Y re L H im L H`, or in a
 /// velocity report `target X Y u L H v L H` with the counts `-H` and `-L` of the imaginary part for `v`.
 ///
-/// The ends of `v` are at most 2^84 in size. Whatever complex fraction `v` contains, the printed counts contain.
+/// The ends of `v` are at most 2^96 in size. Whatever complex fraction `v` contains, the printed counts contain.
 ///
 /// # Errors
 ///
@@ -33,13 +34,13 @@ pub fn write_target<S: Sink>(
     v: CBox,
     sink: &mut S,
 ) -> Result<(), WriteFault>
-    requires { BoxWithin (most_printed) v }
+    requires { BoxWithin most_printed v }
     ensures bytes { Writes result (S.held sink.old) (S.held sink.new) (target_line mode (record { x = x; y = y; counts = target_counts mode (box_ends v) })) }
     ensures contains { (z : ComplexRatio) → BoxContains unit v z → CountsContain mode (target_counts mode (box_ends v)) z }
     ensures cause { HasCause (S.faults sink.old) (S.faults sink.new) result }
 {
     let first = CountEnds::of(v.re);
-    let second = second_counts(mode, v.im);
+    let second = second_counts(mode, v);
     put_line(mode, x, y, first, second, sink)
 }
 
@@ -89,7 +90,7 @@ fn prepend_counts(line: &mut FrontText<LINE>, counts: CountEnds)
 
 // The words before the first pair of counts.
 fn first_label(mode: Mode) -> &'static [u8]
-    ensures word { result.now ≡ first_word mode }
+    ensures word { result.now ≡ (labels mode).0 }
     ensures room { length result.now ≤ 4 }
 {
     match mode {
@@ -100,7 +101,7 @@ fn first_label(mode: Mode) -> &'static [u8]
 
 // The words before the second pair of counts.
 fn second_label(mode: Mode) -> &'static [u8]
-    ensures word { result.now ≡ second_word mode }
+    ensures word { result.now ≡ (labels mode).1 }
     ensures room { length result.now ≤ 4 }
 {
     match mode {

@@ -4,7 +4,7 @@ ghost use Rattle.exact_math.specs.Orders.{IsCapacity, IsOrder};
 ghost use Rattle.complex_box.specs.Rows.{IsZero};
 ghost use Rattle.field_basis.specs.Basis.{IsBasis};
 ghost use Rattle.limits.specs.Limits.{grid_of};
-ghost use Rattle.points.specs.Limits.{AreWithin, WithinLimits};
+ghost use Rattle.points.specs.Limits.{AreWithin, IsOrderOf, WithinLimits};
 ghost use Rattle.quadtree.specs.Faults.{HasTree, IsFaultOf};
 ghost use Rattle.quadtree.specs.TreeModel.{IsTreeOf};
 ghost use Rattle.row_board.specs.Board.{AreEmptyPlaces, IsBoard};
@@ -47,7 +47,7 @@ fn no_marks(alloc: Global, count: usize) -> Result<Vec<bool>, AllocError>
 impl<const P: usize> Board<P> {
     /// The board of a list of points with a leaf capacity, with no place filled.
     ///
-    /// Conditions: the list is within the limits of its version, `P` is one of the orders, and the capacity is 8 to 1024.
+    /// Conditions: the list is within the limits of its version, `P` is one of the orders of that version, and the capacity is 8 to 1024.
     ///
     /// # Errors
     ///
@@ -55,7 +55,7 @@ impl<const P: usize> Board<P> {
     /// where the tree has more cells than `limits::most_cells` of its grid, it is `Cells`. `Memory` is want of memory.
     pub fn new(alloc: Global, points: &Points, cap: u32) -> Result<Board<P>, TreeFault>
         requires list { WithinLimits points.now }
-        requires order { IsOrder P }
+        requires order { IsOrderOf (grid_of points.now.version) P }
         requires cap { IsCapacity cap }
         ensures board { IfOk result (λ board. IsBoard P board) }
         ensures points { IfOk result (λ board. board.basis.points ≡ points.now.list) }

@@ -21,7 +21,7 @@ use Rattle.quadtree.specs.Tree.{AreInGrid, IsTreeCell, is_source_in}
 use Rattle.quadtree.proofs.Distinct.{Contains-filter}
 use Rattle.quadtree.proofs.Parents.{IsTreeCell-parent}
 use Rattle.row_recursions.specs.Fields.{HoldsField}
-use Rattle.row_recursions.specs.Geometry.{doubled_centre, sides_between}
+use Rattle.row_recursions.specs.Geometry.{doubled_centre}
 use Rattle.row_recursions.specs.Moments.{HoldsMoments}
 use Rattle.row_recursions.specs.Rows.{converted, shifted_down}
 use Rattle.row_recursions.specs.Sources.{source_of}
@@ -45,6 +45,7 @@ use Rattle.row_contents.proofs.HeldFields.{HoldsField-same, HoldsField-list}
 use Rattle.row_contents.proofs.MultipoleContents.{multipole_rows_held}
 use Rattle.row_recursions.specs.Cells.{far_coefficients_in}
 use Rattle.soundness.specs.Steps.{v_rows, x_rows}
+use Rattle.cell_name.specs.Apart.{sides_between}
 
 -- a row that holds a field in a cell
 abbrev Held : ℕ → Square → (Gaussian → ComplexRatio) → (ℕ → BoxEnds) → Type 0

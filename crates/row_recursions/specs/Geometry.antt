@@ -2,7 +2,7 @@
 use Rattle.std.specs.Prelude.{ℕ, ◌*◌, ◌≤◌, ◌<◌, ◌≡◌, ℤ, pos, ◌-ℤ◌}
 use Rattle.exact_math.specs.Gaussian.{Gaussian, gaussian, add_gaussian, sub_gaussian, scale_gaussian}
 use Rattle.exact_math.specs.Within.{GaussianWithin, GaussianBeyond}
-pub use Rattle.cell_name.specs.Apart.{sides_between}
+use Rattle.cell_name.specs.Apart.{sides_between}
 use Rattle.cell_name.specs.Square.{Square, side, doubled_centre_x, doubled_centre_y, offset_x, offset_y, Holds, Touches, parent, child}
 use Rattle.kernel_table.specs.Kernel.{IsKernelDistance}
 

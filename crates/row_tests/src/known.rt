@@ -3,7 +3,8 @@ ghost use Rattle.std.specs.Prelude.{pos, ◌+◌, ◌*◌, ◌^◌, ◌≤◌};
 ghost use Rattle.exact_math.specs.Sizes.{abs_gaussian};
 ghost use Rattle.cell_name.specs.Cell.{square};
 ghost use Rattle.cell_name.specs.Square.{Holds};
-ghost use Rattle.points.specs.Limits.{HasStrength};
+ghost use Rattle.limits.specs.Limits.{widest_grid};
+ghost use Rattle.points.specs.Limits.{HasStrength, IsKindOf};
 ghost use Rattle.points.specs.Points.{pole, dipole};
 ghost use Rattle.row_recursions.specs.Rows.{row_of};
 ghost use Rattle.row_recursions.specs.Sizes.{RowWithin};
@@ -29,6 +30,22 @@ pub const LARGE: Cell = Cell {
     i: 8192,
     j: 8192,
     grid: 16,
+};
+
+/// The cell of side 1 whose corner is the origin, on the grid of version 2.
+pub const WIDE_SMALL: Cell = Cell {
+    level: 20,
+    i: 524_288,
+    j: 524_288,
+    grid: 20,
+};
+
+/// The cell of side 4 that holds it.
+pub const WIDE_LARGE: Cell = Cell {
+    level: 18,
+    i: 131_072,
+    j: 131_072,
+    grid: 20,
 };
 
 /// The quadrant of each cell from the small one up to the large one.
@@ -72,13 +89,14 @@ pub const FAR_CHARGE: [Ends; 4] = [
     ),
 ];
 
-/// What a point at (8, 0) adds to the local row of the large cell.
+/// What a point at (8, 0) adds to the local row of the large cell on the grid of version 2.
 pub fn far_point(kind: Kind) -> [CBox; 4]
+    requires kind { IsKindOf widest_grid kind }
     requires strength { HasStrength kind }
     requires weight { abs_gaussian (pole kind) + 64 * abs_gaussian (dipole kind) ≤ 2 ^ 17 }
     ensures { RowWithin 4 (2 ^ 90) (row_of result) }
 {
     let mut row = [CBox::zero(); 4];
-    add_far_source::<4>(&mut row, LARGE, &Point { x: 8, y: 0, kind });
+    add_far_source::<4>(&mut row, WIDE_LARGE, &Point { x: 8, y: 0, kind });
     row
 }

@@ -1,11 +1,11 @@
 //! Rows that are known from elsewhere: far sources of each kind, and a far cell and its value.
 use crate::compare::row_is;
-use crate::known::{FAR_CHARGE, SMALL, far_point, nine_charges};
+use crate::known::{FAR_CHARGE, LARGE, SMALL, far_point, nine_charges};
 use cell_name::Cell;
 use complex_box::{CBox, Gauss, Row, Work};
 use kernel_table::Kernel;
-use local_expansion::{at_local, convert};
-use points::Kind;
+use local_expansion::{add_far_source, at_local, convert};
+use points::{Kind, Point};
 use std::alloc::Global;
 use std::test::Fail;
 use test_boxes::{Ends, ends};
@@ -56,6 +56,26 @@ fn far_sources(rt: HostRuntime) {
     row_is(&rt, &far_point(Kind::Vortex(2)), &FAR_VORTEX);
     row_is(&rt, &far_point(Kind::Dipole(3, -2)), &FAR_DIPOLE);
     row_is(&rt, &far_point(Kind::Target), &[((0, 0), (0, 0)); 4]);
+}
+
+/// A charge 1 and a vortex of circulation 2 are the poles 1 and -2i.
+#[test]
+fn far_poles(rt: HostRuntime) {
+    row_is(&rt, &far_point(Kind::Pole(1, 0)), &FAR_CHARGE);
+    row_is(&rt, &far_point(Kind::Pole(0, -2)), &FAR_VORTEX);
+}
+
+/// A cell of the same side and place on the grid of version 1.
+#[test]
+fn far_charge_on_the_smaller_grid(rt: HostRuntime) {
+    let charge = Point {
+        x: 8,
+        y: 0,
+        kind: Kind::Charge(1),
+    };
+    let mut row = [CBox::zero(); 4];
+    add_far_source::<4>(&mut row, LARGE, &charge);
+    row_is(&rt, &row, &FAR_CHARGE);
 }
 
 const MOMENTS: [Ends; 4] = [

@@ -38,6 +38,31 @@ fn charges(rt: HostRuntime) {
     assert_eq!(rt; (four, same_place, work.pairs()), (4, ((0, 0), (0, 0)), 4));
 }
 
+/// `(3 + 4i)/(3 + 4i)`, and the same pole seen from the origin's other side.
+#[test]
+fn poles(rt: HostRuntime) {
+    let mut work = Work::new();
+    let pole = Point {
+        x: 0,
+        y: 0,
+        kind: Kind::Pole(3, 4),
+    };
+    let got = [
+        ends(pair(&pole, 3, 4, &mut work)),
+        ends(pair(&pole, -3, -4, &mut work)),
+        ends(pair(&pole, 0, 1, &mut work)),
+    ];
+    assert_eq!(rt;
+        got,
+        [
+            ((ONE, ONE), (0, 0)),
+            ((-ONE, -ONE), (0, 0)),
+            ((4 * ONE, 4 * ONE), (-3 * ONE, -3 * ONE))
+        ]
+    );
+    assert_eq!(rt; (work.pairs(), work.translations()), (3, 0));
+}
+
 #[test]
 fn other_kinds(rt: HostRuntime) {
     let mut work = Work::new();

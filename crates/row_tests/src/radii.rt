@@ -19,6 +19,11 @@ fn weights(rt: HostRuntime) {
         y: 0,
         kind: Kind::Dipole(5, -6),
     };
+    let pole = Point {
+        x: 524_287,
+        y: -524_288,
+        kind: Kind::Pole(5, -6),
+    };
     let target = Point {
         x: 0,
         y: 0,
@@ -29,9 +34,10 @@ fn weights(rt: HostRuntime) {
             weight(&charge, 4),
             weight(&vortex, 4),
             weight(&dipole, 4),
+            weight(&pole, 4),
             weight(&target, 4)
         ],
-        [3, 7, 88, 0]
+        [3, 7, 88, 11, 0]
     );
 }
 

@@ -1,6 +1,6 @@
 -- The cells, leaves and entries of a tree of the program, counted by numbers and counted as cells.
 use Rattle.std.proofs.Common.{ℕ, ◌≡◌, ◌+◌, ◌<◌, ◌≤◌, inl, inr, List, length, take, get_or, Bool, true, false, cond, not, sym, ap, ◌∙◌, arith}
-use Rattle.std.specs.Prelude.{◌==◌, ◌↔◌, ◌⊎◌, IsTrue, nat_lt, sum_by}
+use Rattle.std.specs.Prelude.{◌==◌, ◌||◌, ◌↔◌, ◌⊎◌, IsTrue, nat_lt, sum_by}
 use Rattle.std.specs.List.{range_with_len, count_by}
 use Rattle.std.proofs.lemmas.Bool.{ltb-false, le-ltb, eqb-true, eq-eqb, not-true, not_from_false, or_cases, or_left, or_right}
 use Rattle.std.proofs.lemmas.List.{length-map}
@@ -15,13 +15,13 @@ use Rattle.cell_lists.specs.ListAt.{list_at}
 use Rattle.quadtree.proofs.TreeChildren.{tree_cell_at}
 use Rattle.letters.specs.declared.Letter.{Letter}
 use Rattle.points.specs.declared.Point.{Point}
-use Rattle.quadtree.specs.Tree.{count_in, AreInGrid, IsTreeCell, IsLeaf}
+use Rattle.quadtree.specs.Tree.{count_in, is_over, AreInGrid, IsTreeCell, IsLeaf}
 use Rattle.quadtree.specs.TreeModel.{TreeModel, size, square_of, node_of, IsTreeOf}
 use Rattle.tree_field.specs.Lists.{TreeLists, AreTreeLists}
 use Rattle.tree_field.proofs.Leaves.{same_test}
 use Rattle.tree_field.proofs.Program.{lists_of_tree}
 use Rattle.tree_field.proofs.Work.{sum_by_numbers, sum_by_rows}
-use Rattle.sample_summary.specs.Summary.{is_leaf, entry_count}
+use Rattle.sample_summary.specs.Summary.{entry_count}
 
 -- ---- the next of the first n numbers
 number_at : (n k : ℕ) → k < n → get_or (range_with_len 0 n) k 0 ≡ k
@@ -36,6 +36,9 @@ counted_no p n k was now lt e at_k same =
     same ∙ e ∙ sym (count_by_more_no p (range_with_len 0 n) k 0 (omega (arith, length-range_with_len 0 n)) (ap p (number_at n k lt) ∙ at_k))
 
 -- ---- whether a cell is a leaf
+abbrev is_leaf : List Point → ℕ → Square → Bool
+is_leaf points cap c = not (is_over points cap c) || (c.level == c.grid)
+
 leaf_is : (grid : ℕ) (points : List Point) (cap : ℕ) (c : Square) (b : Bool) → IsTreeCell grid points cap c → IsTrue b ↔ IsLeaf grid points cap c → b ≡ is_leaf points cap c
 leaf_is grid points cap c b here h = same_test b (is_leaf points cap c) (λ e. passes (h.0 e)) (λ e. h.1 (record { in_tree = here; ends = end e }))
   where

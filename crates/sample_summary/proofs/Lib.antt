@@ -2,5 +2,4 @@
 mod Counting
 mod Greatest
 mod Grid
-mod Lines
 mod Worked

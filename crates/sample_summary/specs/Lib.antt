@@ -1,3 +1,2 @@
--- What the contracts cite: the numbers of a summary, and its lines.
+-- What the contracts cite: the summary of a sample.
 pub mod Summary
-pub mod Text

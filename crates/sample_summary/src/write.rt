@@ -1,14 +1,12 @@
 //! Writing a summary.
-ghost use Rattle.std.specs.Prelude.{◌≡◌, length};
+ghost use Rattle.std.specs.Prelude.{◌≡◌};
 ghost use Rattle.io_ports.specs.Bytes.{Writes};
 ghost use Rattle.io_ports.specs.Faults.{HasCause};
 ghost use Rattle.limits.specs.Limits.{first_grid};
-ghost use Rattle.sample_summary.specs.Summary.{summary_of};
-ghost use Rattle.sample_summary.specs.Text.{summary_text};
+ghost use Rattle.sample_summary.specs.Summary.{summary_text};
 ghost use Rattle.solve_phase.specs.Field.{IsSolved};
 ghost use Rattle.tree_field.specs.Lists.{OfTreeLists};
 
-use crate::numbers::Summary;
 use crate::text::summary_text;
 use io_ports::{Sink, WriteFault, put};
 use points::Points;
@@ -32,10 +30,9 @@ pub fn write_summary<const P: usize, S: Sink>(
     requires field { IsSolved points.now.list cap P field.now }
     requires grid { field.now.basis.tree.grid ≡ first_grid }
     ensures bytes { OfTreeLists first_grid points.now.list cap (λ lists.
-        Writes result (S.held sink.old) (S.held sink.new) (summary_text seed (length points.now.list) P cap (summary_of points.now.list cap P lists))) }
+        Writes result (S.held sink.old) (S.held sink.new) (summary_text seed points.now.list P cap lists)) }
     ensures cause { HasCause (S.faults sink.old) (S.faults sink.new) result }
 {
-    let summary = Summary::of(points.list.points(), field);
-    let text = summary_text(seed, P as u64, cap, &summary);
+    let text = summary_text(seed, points.list.points(), cap, field);
     put(sink, text.as_bytes())
 }

@@ -4,7 +4,7 @@ ghost use Rattle.exact_math.specs.Orders.{IsCapacity, IsOrder};
 ghost use Rattle.field_basis.specs.Basis.{IsBasis};
 ghost use Rattle.field_basis.specs.FieldPlaces.{BoxesContain};
 ghost use Rattle.limits.specs.Limits.{grid_of};
-ghost use Rattle.points.specs.Limits.{AreWithin, WithinLimits};
+ghost use Rattle.points.specs.Limits.{AreWithin, IsOrderOf, WithinLimits};
 ghost use Rattle.quadtree.specs.Faults.{HasTree, IsFaultOf};
 ghost use Rattle.quadtree.specs.TreeModel.{IsTreeOf, size};
 ghost use Rattle.solve_phase.specs.Contents.{RowsContain};
@@ -79,7 +79,7 @@ fn filled<const P: usize>(
 /// the moments of the sources in its cell, a local row the field of the V and X entries of its cell and of those above it, and the box of a
 /// target the direct sum at that target.
 ///
-/// Conditions: the list is within the limits of its version, `P` is one of the orders, and the capacity is 8 to 1024.
+/// Conditions: the list is within the limits of its version, `P` is one of the orders of that version, and the capacity is 8 to 1024.
 ///
 /// # Errors
 ///
@@ -91,7 +91,7 @@ pub fn solve<const P: usize>(
     cap: u32,
 ) -> Result<Field<P>, TreeFault>
     requires list { WithinLimits points.now }
-    requires order { IsOrder P }
+    requires order { IsOrderOf (grid_of points.now.version) P }
     requires cap { IsCapacity cap }
     ensures field { IfOk result (λ field. IsSolved points.now.list cap P field) }
     ensures rows { IfOk result (λ field. RowsContain points.now.list P field) }

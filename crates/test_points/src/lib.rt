@@ -19,14 +19,28 @@ pub fn text_of(alloc: Global, head: &str, lines: &[(u32, &str)]) -> Result<Vec<u
     Ok(text)
 }
 
-/// The list of a field text with these lines.
-pub fn points_of(alloc: Global, lines: &[(u32, &str)]) -> Result<Points, ParseFault>
+/// The list of a text of a first line and these lines.
+fn list_of(alloc: Global, head: &str, lines: &[(u32, &str)]) -> Result<Points, ParseFault>
     ensures { IfOk result (λ p. WithinLimits p) }
 {
-    match text_of(alloc, "fmm 1 field\n", lines) {
+    match text_of(alloc, head, lines) {
         Ok(text) => parse(alloc, &text),
         Err(_) => Err(ParseFault::Memory),
     }
+}
+
+/// The list of a field text of version 1 with these lines.
+pub fn points_of(alloc: Global, lines: &[(u32, &str)]) -> Result<Points, ParseFault>
+    ensures { IfOk result (λ p. WithinLimits p) }
+{
+    list_of(alloc, "fmm 1 field\n", lines)
+}
+
+/// The list of a field text of version 2 with these lines.
+pub fn wide_points_of(alloc: Global, lines: &[(u32, &str)]) -> Result<Points, ParseFault>
+    ensures { IfOk result (λ p. WithinLimits p) }
+{
+    list_of(alloc, "fmm 2 field\n", lines)
 }
 
 /// Appends nine charges at a place, and targets so far to the east of it.
@@ -48,9 +62,9 @@ fn push_group(
     Ok(())
 }
 
-/// The text of 64 times 64 such groups.
-fn groups_text(alloc: Global, easts: &[u16]) -> Result<Vec<u8>, AllocError> {
-    let mut text = Vec::from_slice(alloc, b"fmm 1 field\n")?;
+/// The text of a first line and 64 times 64 such groups.
+fn groups_text(alloc: Global, head: &str, easts: &[u16]) -> Result<Vec<u8>, AllocError> {
+    let mut text = Vec::from_slice(alloc, head.as_bytes())?;
     for i in 0..64u8 {
         for j in 0..64u8 {
             let x = 1024 * i32::from(i) - 32_768;
@@ -61,12 +75,17 @@ fn groups_text(alloc: Global, easts: &[u16]) -> Result<Vec<u8>, AllocError> {
     Ok(text)
 }
 
-/// A text of as many points as a list may have, in more cells than a tree may have.
+/// A text of version 1 of as many points as a list may have, in more cells than a tree may have.
 pub fn full_text(alloc: Global) -> Result<Vec<u8>, AllocError> {
-    groups_text(alloc, &[512, 256, 128, 64, 32, 16, 8])
+    groups_text(alloc, "fmm 1 field\n", &[512, 256, 128, 64, 32, 16, 8])
+}
+
+/// The same points in version 2, where their tree at capacity 8 has 75,109 cells.
+pub fn wide_text(alloc: Global) -> Result<Vec<u8>, AllocError> {
+    groups_text(alloc, "fmm 2 field\n", &[512, 256, 128, 64, 32, 16, 8])
 }
 
 /// A text of 53,248 points, whose tree at capacity 8 has 62,805 cells.
 pub fn large_text(alloc: Global) -> Result<Vec<u8>, AllocError> {
-    groups_text(alloc, &[512, 256, 128, 64])
+    groups_text(alloc, "fmm 1 field\n", &[512, 256, 128, 64])
 }

@@ -9,3 +9,5 @@ mod particles;
 mod ports;
 #[cfg(test)]
 mod samples;
+#[cfg(test)]
+mod versions;

@@ -1,5 +1,5 @@
-//! Worked rows of the text and its border cases.
-ghost use Rattle.limits.specs.Limits.{widest_grid};
+//! Worked rows of version 1 of the text and its border cases.
+ghost use Rattle.limits.specs.Limits.{IsVersion, widest_grid};
 ghost use Rattle.points.specs.Limits.{InRange};
 
 use limits::{FIRST_GRID, in_grid};
@@ -11,10 +11,9 @@ use std::alloc::Global;
 use std::process::Abort;
 use std::test::Fail;
 
-const FAULTS: [(&[u8], u64, TextKind); 28] = [
+const FAULTS: [(&[u8], u64, TextKind); 27] = [
     (b"", 1, TextKind::Syntax),
     (b"fmm 1 field", 1, TextKind::Syntax),
-    (b"fmm 2 field\n", 1, TextKind::Syntax),
     (b"fmm 1 field \ncharge 0 0 1\n", 1, TextKind::Syntax),
     (b"fmm 1 field\ncharge 0 0 1048577\n", 2, TextKind::Range),
     (b"fmm 1 field\ncharge 0 0\n", 2, TextKind::Syntax),
@@ -68,18 +67,29 @@ const TEXTS: [(&[u8], usize); 4] = [
     (b"fmm 1 field\ncharge 5 5 0\ncharge 5 5 -7\n", 2),
 ];
 
-#[test]
-fn faults_are_named(rt: HostRuntime) {
-    for &(text, line, what) in &FAULTS {
+/// Each text has its first fault on that line, of that kind.
+pub(crate) fn have_faults(rt: &impl Abort, alloc: Global, faults: &[(&[u8], u64, TextKind)]) {
+    for &(text, line, what) in faults {
         assert_eq!(rt;
-            (parse(rt.alloc(), text).err(), first_fault(text)),
+            (parse(alloc, text).err(), first_fault(text)),
             (Some(ParseFault::Text { line, what }), Some((line, what)))
         );
     }
 }
 
-/// The text has so many points, and is what they print to.
-fn comes_back(rt: &impl Abort, alloc: Global, text: &[u8], count: usize) -> Result<(), Fail> {
+#[test]
+fn faults_are_named(rt: HostRuntime) {
+    have_faults(&rt, rt.alloc(), &FAULTS);
+}
+
+/// The text is of that version and has so many points, and is what they print to.
+fn comes_back(
+    rt: &impl Abort,
+    alloc: Global,
+    text: &[u8],
+    version: u8,
+    count: usize,
+) -> Result<(), Fail> {
     let points = parse(alloc, text)?;
     assert_eq!(rt;
         (
@@ -87,24 +97,39 @@ fn comes_back(rt: &impl Abort, alloc: Global, text: &[u8], count: usize) -> Resu
             points.list.points().len(),
             first_fault(text)
         ),
-        (1, count, None)
+        (version, count, None)
     );
     let printed = print(alloc, &points)?;
     assert_eq!(rt; printed.as_slice(), text);
     Ok(())
 }
 
-#[test]
-fn texts_are_read_and_printed_back(rt: HostRuntime) -> Result<(), Fail> {
-    for &(text, count) in &TEXTS {
-        comes_back(&rt, rt.alloc(), text, count)?;
+/// The texts are of that version, each with so many points, and are what these print to.
+pub(crate) fn come_back(
+    rt: &impl Abort,
+    alloc: Global,
+    version: u8,
+    texts: &[(&[u8], usize)],
+) -> Result<(), Fail> {
+    for &(text, count) in texts {
+        comes_back(rt, alloc, text, version, count)?;
     }
     Ok(())
 }
 
-/// The field text with this line so many times.
-fn text_of(alloc: Global, count: u32, line: &[u8]) -> Result<Vec<u8>, Fail> {
-    let mut text = Vec::from_slice(alloc, b"fmm 1 field\n")?;
+#[test]
+fn texts_are_read_and_printed_back(rt: HostRuntime) -> Result<(), Fail> {
+    come_back(&rt, rt.alloc(), 1, &TEXTS)
+}
+
+/// The text of this head line with this line so many times.
+pub(crate) fn text_of(
+    alloc: Global,
+    head: &[u8],
+    count: u32,
+    line: &[u8],
+) -> Result<Vec<u8>, Fail> {
+    let mut text = Vec::from_slice(alloc, head)?;
     for _ in 0..count {
         text.extend_from_slice(line)?;
     }
@@ -113,7 +138,12 @@ fn text_of(alloc: Global, count: u32, line: &[u8]) -> Result<Vec<u8>, Fail> {
 
 #[test]
 fn the_weight_has_a_limit(rt: HostRuntime) -> Result<(), Fail> {
-    let mut text = text_of(rt.alloc(), 32, b"dipole 0 0 1048576 1048576\n")?;
+    let mut text = text_of(
+        rt.alloc(),
+        b"fmm 1 field\n",
+        32,
+        b"dipole 0 0 1048576 1048576\n",
+    )?;
     let most = first_fault(text.as_slice());
     text.extend_from_slice(b"charge 0 0 1\n")?;
     let more = first_fault(text.as_slice());
@@ -122,13 +152,13 @@ fn the_weight_has_a_limit(rt: HostRuntime) -> Result<(), Fail> {
 }
 
 /// How many points the text has.
-fn count_of(alloc: Global, text: &[u8]) -> Result<usize, Fail> {
+pub(crate) fn count_of(alloc: Global, text: &[u8]) -> Result<usize, Fail> {
     Ok(parse(alloc, text)?.list.points().len())
 }
 
 #[test]
 fn the_list_has_a_limit(rt: HostRuntime) -> Result<(), Fail> {
-    let mut text = text_of(rt.alloc(), 65_536, b"target 0 0\n")?;
+    let mut text = text_of(rt.alloc(), b"fmm 1 field\n", 65_536, b"target 0 0\n")?;
     let most = count_of(rt.alloc(), text.as_slice())?;
     text.extend_from_slice(b"target 0 0\n")?;
     let more = first_fault(text.as_slice());
@@ -136,18 +166,20 @@ fn the_list_has_a_limit(rt: HostRuntime) -> Result<(), Fail> {
     Ok(())
 }
 
-/// The point of a line, and its pole, dipole and weight.
-fn line_has(
+/// The point of a line of that version, and its pole, dipole and weight.
+pub(crate) fn line_has(
     rt: &impl Abort,
+    version: u8,
     line: &[u8],
     point: Point,
     pole: (i64, i64),
     dipole: (i64, i64),
     weight: u64,
 )
-    requires { InRange widest_grid point }
+    requires version { IsVersion version }
+    requires range { InRange widest_grid point }
 {
-    assert_eq!(rt; parse_point(1, line), Ok(point));
+    assert_eq!(rt; parse_point(version, line), Ok(point));
     let got = (point.pole(), point.dipole(), point.weight64());
     assert_eq!(rt; got, (pole, dipole, weight));
 }
@@ -169,9 +201,9 @@ fn points_have_poles_and_weights(rt: HostRuntime) {
         y: 0,
         kind: Kind::Vortex(7),
     };
-    line_has(&rt, b"charge 1 -2 -3", charge, (-3, 0), (0, 0), 3);
-    line_has(&rt, b"dipole 0 0 5 -6", dipole, (0, 0), (5, -6), 704);
-    line_has(&rt, b"vortex 0 0 7", vortex, (0, -7), (0, 0), 7);
+    line_has(&rt, 1, b"charge 1 -2 -3", charge, (-3, 0), (0, 0), 3);
+    line_has(&rt, 1, b"dipole 0 0 5 -6", dipole, (0, 0), (5, -6), 704);
+    line_has(&rt, 1, b"vortex 0 0 7", vortex, (0, -7), (0, 0), 7);
 }
 
 #[test]

@@ -62,6 +62,31 @@ fn cells_of_the_widest_grid(rt: HostRuntime) {
 }
 
 #[test]
+fn a_corner_of_the_widest_grid(rt: HostRuntime) {
+    let corner = Cell::of(-524_288, 524_287, 20, 20);
+    assert_eq!(rt; (corner.level, corner.i, corner.j), (20, 0, 1_048_575));
+    assert_eq!(rt;
+        (corner.corner(), corner.doubled_centre()),
+        ((-524_288, 524_287), (-1_048_575, 1_048_575))
+    );
+    assert_eq!(rt; corner.offset(524_287, -524_288), (2_097_149, -2_097_151));
+}
+
+/// Cells of the same level, column and row on the two grids.
+#[test]
+fn one_name_on_both_grids(rt: HostRuntime) {
+    let first = Cell::of(0, 0, 16, 16);
+    let widest = Cell::of(0, 0, 16, 20);
+    assert_eq!(rt;
+        (first.level, first.i, first.j),
+        (widest.level, widest.i, widest.j)
+    );
+    assert!(rt; first < widest);
+    assert_eq!(rt; (first.side(), widest.side()), (1, 16));
+    assert_eq!(rt; (first.holds(8, 8), widest.holds(8, 8)), (false, true));
+}
+
+#[test]
 fn families(rt: HostRuntime) {
     let cell = Cell::of(8, 0, 14, 16);
     let up = cell.parent();

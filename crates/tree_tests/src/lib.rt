@@ -9,3 +9,5 @@ mod entries;
 mod known;
 #[cfg(test)]
 mod trees;
+#[cfg(test)]
+mod wide;

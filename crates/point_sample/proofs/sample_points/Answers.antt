@@ -3,8 +3,9 @@ use Rattle.std.proofs.lemmas.List.FromFn.{map-range_with_len_more}
 use Rattle.points.specs.declared.Mode.TheVariants.{Field}
 use Rattle.points.specs.Limits.{WithinLimits}
 use Rattle.point_sample.specs.Generator.{state_after}
-use Rattle.point_sample.specs.Sample.{next_point, sample_list, sample_point, sample_version}
+use Rattle.point_sample.specs.Sample.{next_point}
 use Rattle.point_sample.proofs.Draws.{five_more}
+use Rattle.point_sample.proofs.Points.{sample_list, sample_point}
 use Rattle.point_sample.proofs.Within.{sample_within}
 use Rattle.point_sample.proofs.sample_points.Goals as goal
 
@@ -25,7 +26,7 @@ pub returns-clause-sample : goal.returns-clause-sample
 returns-clause-sample c =
     let all : c.points.counter ≡ c.args.n = omega arith in
     let list = c.points.invariant.list ∙ ap (sample_list c.args.seed) all in
-    λ i. record { version = sample_version; mode = Field; list = list i }
+    λ i. record { version = 1; mode = Field; list = list i }
 
 pub returns-clause-within : goal.returns-clause-within
 returns-clause-within c = subst WithinLimits (sym (returns-clause-sample c)) (sample_within c.args.seed c.args.n c.requires)

@@ -1,8 +1,8 @@
 use Rattle.std.proofs.Common.{refl}
 use Rattle.fmm_program.specs.Answers.{usage_line}
-use Rattle.fmm_program.specs.Endings.{plain}
+use Rattle.fmm_program.proofs.FlushedEnds.{plain}
 use Rattle.fmm_program.specs.declared.status.Status.TheVariants.{Usage}
 use Rattle.fmm_program.proofs.refusals.refuse_words.Goals as goal
 
 pub returns-in-Err-clause-ends : goal.returns-in-Err-clause-ends
-returns-in-Err-clause-ends g c = (Usage, plain usage_line, (refl, refl), c.in-Err.ensures.bytes, (0, tt))
+returns-in-Err-clause-ends g c = (Usage, plain usage_line, (refl, refl, refl), c.in-Err.ensures.bytes, (0, tt))

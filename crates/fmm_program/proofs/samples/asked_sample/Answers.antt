@@ -8,18 +8,11 @@ pub returns-clause-some : goal.returns-clause-some
 returns-clause-some c =
     let is_sample : c.word.result.now ≡ codes "sample" = (bytes_decides _ _).0 (not-false _ (sym c.if-ne.ensures)) in
     record {
-      seed_word = c.word-2.result.now;
-      count_word = c.word-3.result.now;
-      order_word = c.word-4.result.now;
-      cap_word = c.word-5.result.now;
-      words_are = five_words _ _ _ _ _ _ (sym c.count.ensures ∙ c.if-count-ne5.false) (c.word.ensures ∙ ap Some is_sample) c.word-2.ensures c.word-3.ensures c.word-4.ensures c.word-5.ensures;
-      spells_seed = c.in_ok-seed.ensures.some.0;
-      spells_count = c.in_ok-count.ensures.some.0;
-      spells_order = c.in_ok-order.ensures.some.0;
-      spells_cap = c.in_ok-cap.ensures.some.0;
+      words_are = five_words _ _ _ _ _ _ (sym c.count.ensures ∙ c.if-count-ne5.false) (c.word.ensures ∙ ap Some is_sample)
+          (c.word-2.ensures ∙ ap Some c.in_ok-seed.ensures.some.0) (c.word-3.ensures ∙ ap Some c.in_ok-count.ensures.some.0)
+          (c.word-4.ensures ∙ ap Some c.in_ok-order.ensures.some.0) (c.word-5.ensures ∙ ap Some c.in_ok-cap.ensures.some.0);
       seed_fits = omega (arith, c.in_ok-seed.ensures.some.2);
-      some_points = c.in_ok-count.ensures.some.1;
-      few_points = omega (arith, c.in_ok-count.ensures.some.2, c.most_sampled.ensures);
+      count_fits = (c.in_ok-count.ensures.some.1, omega (arith, c.in_ok-count.ensures.some.2, c.most_sampled.ensures));
       is_order = c.in_ok-order.ensures.some.1;
       is_capacity = c.in_ok-cap.ensures.some.1;
     }

@@ -1,52 +1,69 @@
-use Rattle.std.proofs.Common.{◌≡◌, ◌∙◌, sym, ap₂, ◌*ℤ◌, arith, to_z-of_z, SFits}
-use Rattle.std.proofs.lemmas.Int.{ints, clamps}
-use Rattle.std.specs.Int.{w64, w128, int_max}
+use Rattle.std.proofs.Common.{◌≡◌, ◌∙◌, sym, ap₂, ◌*ℤ◌, arith, to_z-of_z}
+use Rattle.std.proofs.lemmas.Int.{ints}
+use Rattle.std.specs.Int.{int_max}
 use Rattle.fixed_interval.proofs.Order.{settled, ends_up, ends_down, ends_across}
-use Rattle.local_expansion.proofs.NarrowEnds.{wider}
+use Rattle.local_expansion.proofs.NarrowEnds.{wider, narrow_fits, narrow_cast, product_cast, product_of, greatest_of}
 use Rattle.local_expansion.proofs.narrow.upper_end.Goals as goal
+
+pub product-requires-clause-left : goal.product-requires-clause-left
+product-requires-clause-left c = narrow_cast _ c.end_above.ensures.size
+
+pub product-requires-clause-right : goal.product-requires-clause-right
+product-requires-clause-right c = narrow_cast _ c.args.y.high_end
+
+pub returns-then-x-ge0-clause-size : goal.returns-then-x-ge0-clause-size
+returns-then-x-ge0-clause-size c = product_cast _ c.product.ensures.size
 
 pub returns-then-x-ge0-clause-value : goal.returns-then-x-ge0-clause-value
 returns-then-x-ge0-clause-value c =
     let x = c.args.x in
     let y = c.args.y in
-    let f : SFits w64 y.hi = omega (arith, ints, y.low_end, y.high_end) in
+    let f = narrow_fits y.hi y.high_end in
     let e = ends_up x.lo x.hi y.lo y.hi (omega (arith, ints)) x.ordered y.ordered in
-    let g : SFits w64 c.end_above.result = omega (arith, ints, c.end_above.ensures.size) in
-    let p : c.product.result ≡ c.end_above.result *ℤ y.hi = simp to_z-of_z at c.product.ensures.value in
+    let p = product_of _ _ _ c.end_above.ensures.size y.high_end c.product.ensures.value in
     let q : c.end_above.result *ℤ y.hi ≡ int_max (x.lo *ℤ y.hi) (x.hi *ℤ y.hi) = simp to_z-of_z at c.end_above.ensures.product in
     settled _ _ (wider _ c.product.ensures.size) (p ∙ (q ∙ sym e.greatest))
+
+pub product-requires-then-x-le0-clause-left : goal.product-requires-then-x-le0-clause-left
+product-requires-then-x-le0-clause-left c = narrow_cast _ c.end_above-then-x-le0.ensures.size
+
+pub product-requires-then-x-le0-clause-right : goal.product-requires-then-x-le0-clause-right
+product-requires-then-x-le0-clause-right c = narrow_cast _ c.args.y.low_end
+
+pub returns-then-x-le0-clause-size : goal.returns-then-x-le0-clause-size
+returns-then-x-le0-clause-size c = product_cast _ c.product-then-x-le0.ensures.size
 
 pub returns-then-x-le0-clause-value : goal.returns-then-x-le0-clause-value
 returns-then-x-le0-clause-value c =
     let x = c.args.x in
     let y = c.args.y in
-    let f : SFits w64 y.lo = omega (arith, ints, y.low_end, y.high_end) in
+    let f = narrow_fits y.lo y.low_end in
     let e = ends_down x.lo x.hi y.lo y.hi (omega (arith, ints)) x.ordered y.ordered in
-    let g : SFits w64 c.end_above-then-x-le0.result = omega (arith, ints, c.end_above-then-x-le0.ensures.size) in
-    let p : c.product-then-x-le0.result ≡ c.end_above-then-x-le0.result *ℤ y.lo = simp to_z-of_z at c.product-then-x-le0.ensures.value in
+    let p = product_of _ _ _ c.end_above-then-x-le0.ensures.size y.low_end c.product-then-x-le0.ensures.value in
     let q : c.end_above-then-x-le0.result *ℤ y.lo ≡ int_max (x.lo *ℤ y.lo) (x.hi *ℤ y.lo) = simp to_z-of_z at c.end_above-then-x-le0.ensures.product in
     settled _ _ (wider _ c.product-then-x-le0.ensures.size) (p ∙ (q ∙ sym e.greatest))
 
+pub product-requires-2-clause-left : goal.product-requires-2-clause-left
+product-requires-2-clause-left c = narrow_cast _ c.args.x.low_end
+
+pub product-requires-2-clause-right : goal.product-requires-2-clause-right
+product-requires-2-clause-right c = narrow_cast _ c.args.y.low_end
+
+pub product-requires-3-clause-left : goal.product-requires-3-clause-left
+product-requires-3-clause-left c = narrow_cast _ c.args.x.high_end
+
+pub product-requires-3-clause-right : goal.product-requires-3-clause-right
+product-requires-3-clause-right c = narrow_cast _ c.args.y.high_end
+
 pub returns-clause-size : goal.returns-clause-size
-returns-clause-size c =
-    let a = c.product-2.ensures.size in
-    let b = c.product-3.ensures.size in
-    let m = c.max.ensures.value in
-    record { above = omega (arith, ints, clamps, a, b, m); below = omega (arith, ints, clamps, a, b, m) }
+returns-clause-size c = product_cast _ (greatest_of _ _ _ c.product-2.ensures.size c.product-3.ensures.size c.max.ensures.value).size
 
 pub returns-clause-value : goal.returns-clause-value
 returns-clause-value c =
     let x = c.args.x in
     let y = c.args.y in
-    let h : SFits w64 x.lo = omega (arith, ints, x.low_end) in
-    let i : SFits w64 x.hi = omega (arith, ints, x.high_end) in
-    let j : SFits w64 y.lo = omega (arith, ints, y.low_end) in
-    let k : SFits w64 y.hi = omega (arith, ints, y.high_end) in
     let e = ends_across x.lo x.hi y.lo y.hi (omega (arith, ints)) (omega (arith, ints)) y.ordered in
-    let f : SFits w128 c.product-2.result = omega (arith, ints, c.product-2.ensures.size) in
-    let g : SFits w128 c.product-3.result = omega (arith, ints, c.product-3.ensures.size) in
-    let p : c.product-2.result ≡ x.lo *ℤ y.lo = simp to_z-of_z at c.product-2.ensures.value in
-    let q : c.product-3.result ≡ x.hi *ℤ y.hi = simp to_z-of_z at c.product-3.ensures.value in
-    let r : c.max.result ≡ int_max c.product-2.result c.product-3.result = simp to_z-of_z at c.max.ensures.value in
-    let s : SFits w128 c.max.result = omega (arith, ints, clamps, c.product-2.ensures.size, c.product-3.ensures.size, r) in
-    to_z-of_z s ∙ (r ∙ (ap₂ int_max p q ∙ sym e.greatest))
+    let p = product_of _ _ _ x.low_end y.low_end c.product-2.ensures.value in
+    let q = product_of _ _ _ x.high_end y.high_end c.product-3.ensures.value in
+    let r = greatest_of _ _ _ c.product-2.ensures.size c.product-3.ensures.size c.max.ensures.value in
+    settled _ _ (wider _ r.size) (r.is ∙ (ap₂ int_max p q ∙ sym e.greatest))

@@ -21,11 +21,17 @@ returns-in-None-clause-refuses c = λ kind fault. ap Err (syntax_alone c.args.ve
 outside : (grid : ℕ) (p q : Point) → IsGrid grid → p ≡ cut_point q → (InRange grid p → ⊥) → InRange grid q → ⊥
 outside grid p q is read out range = out (subst (InRange grid) (sym (read ∙ point_kept grid q is range)) range)
 
+pub returns-in-Some-clause-fault : goal.returns-in-Some-clause-fault
+returns-in-Some-clause-fault c =
+    let found = c.in-Some.ensures.some in
+    let out : InRange (grid_of c.args.version) c.in-Some.point → ⊥ = λ range. false≢true (c.if-not-is_in_range.ensures.1 (subst (λ n. InRange n c.in-Some.point) (sym c.grid_of-grid.ensures) range)) in
+    (found.0, found.1, outside _ c.in-Some.point found.0 (version_has_grid c.args.version) found.2 out)
+
 pub returns-in-Some-clause-accepts : goal.returns-in-Some-clause-accepts
 returns-in-Some-clause-accepts c = λ p spells range.
     let found = c.in-Some.ensures.some in
     let out : InRange (grid_of c.args.version) c.in-Some.point → ⊥ = λ range. false≢true (c.if-not-is_in_range.ensures.1 (subst (λ n. InRange n c.in-Some.point) (sym c.grid_of-grid.ensures) range)) in
-    absurd (outside _ c.in-Some.point found.0 (version_has_grid c.args.version) found.2 out (subst (InRange (grid_of c.args.version)) (one_form c.args.line.now p found.0 spells found.1) range))
+    absurd (outside _ c.in-Some.point found.0 (version_has_grid c.args.version) found.2 out (subst (InRange (grid_of c.args.version)) (one_form c.args.version c.args.line.now p found.0 spells found.1) range))
 
 pub returns-in-Some-clause-refuses : goal.returns-in-Some-clause-refuses
 returns-in-Some-clause-refuses c = λ kind fault.
@@ -33,19 +39,19 @@ returns-in-Some-clause-refuses c = λ kind fault.
     ap Err (range_alone c.args.version c.args.line.now found.0 found.1 kind fault)
 
 -- a point that is read as one in range is the one that is read
-inside : (line : List ℕ) (grid : ℕ) (p q : Point) → IsGrid grid → LineSpells line q → p ≡ cut_point q → InRange grid p → LineSpells line p
-inside line grid p q is spells read range = subst (LineSpells line) (sym (read ∙ point_back grid q is (subst (InRange grid) read range))) spells
+inside : (version : ℕ) (line : List ℕ) (p q : Point) → LineSpells version line q → p ≡ cut_point q → InRange (grid_of version) p → LineSpells version line p
+inside version line p q spells read range = subst (LineSpells version line) (sym (read ∙ point_back (grid_of version) q (version_has_grid version) (subst (InRange (grid_of version)) read range))) spells
 
 pub returns-in-Some-2-clause-ok : goal.returns-in-Some-2-clause-ok
 returns-in-Some-2-clause-ok c =
     let found = c.in-Some.ensures.some in
     let range : InRange (grid_of c.args.version) c.in-Some.point = subst (λ n. InRange n c.in-Some.point) c.grid_of-grid.ensures (c.if-not-is_in_range.ensures.0 refl) in
-    (inside c.args.line.now _ c.in-Some.point found.0 (version_has_grid c.args.version) found.1 found.2 range, range)
+    (inside c.args.version c.args.line.now c.in-Some.point found.0 found.1 found.2 range, range)
 
 pub returns-in-Some-2-clause-accepts : goal.returns-in-Some-2-clause-accepts
 returns-in-Some-2-clause-accepts c = λ p spells range.
     let ok = returns-in-Some-2-clause-ok c in
-    ap Ok (one_form c.args.line.now c.in-Some.point p ok.0 spells)
+    ap Ok (one_form c.args.version c.args.line.now c.in-Some.point p ok.0 spells)
 
 pub returns-in-Some-2-clause-refuses : goal.returns-in-Some-2-clause-refuses
 returns-in-Some-2-clause-refuses c = λ kind fault.

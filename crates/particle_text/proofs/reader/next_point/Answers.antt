@@ -3,7 +3,7 @@ use Rattle.particle_text.proofs.LineFaults.{syntax_first, no_line, form_fault_fi
 use Rattle.particle_text.proofs.reader.next_point.Goals as goal
 
 pub returns-in_default-clause-fault : goal.returns-in_default-clause-fault
-returns-in_default-clause-fault c = syntax_first _ _ _ _ _ (λ p rest. no_line c.args.bytes.now p rest c.in_default.ensures.none)
+returns-in_default-clause-fault c = syntax_first _ _ _ _ _ (λ p rest. no_line c.args.version c.args.bytes.now p rest c.in_default.ensures.none)
 
 pub returns-in_err-point-clause-fault : goal.returns-in_err-point-clause-fault
 returns-in_err-point-clause-fault c =
@@ -12,5 +12,5 @@ returns-in_err-point-clause-fault c =
 
 pub returns-in-Some-admit-clause-fault : goal.returns-in-Some-admit-clause-fault
 returns-in-Some-admit-clause-fault c =
-    let begins = begins_with _ _ _ c.in_ok-point.point c.in-Some.ensures.some c.in_ok-point.ensures.ok.0 in
+    let begins = begins_with c.args.version _ _ _ c.in_ok-point.point c.in-Some.ensures.some c.in_ok-point.ensures.ok.0 in
     point_fault_first _ _ _ _ _ _ _ begins c.in-Some-admit.kind c.in-Some-admit.ensures.some

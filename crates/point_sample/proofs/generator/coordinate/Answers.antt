@@ -2,7 +2,7 @@ use Rattle.std.proofs.Common.{◌∙◌, ◌*◌, ◌/◌, pos, ◌-ℤ◌, ap, 
 use Rattle.std.proofs.lemmas.Int.{ints}
 use Rattle.std.proofs.lemmas.Nat.{shr_le}
 use Rattle.limits.specs.Grid.{half}
-use Rattle.point_sample.specs.Sample.{sample_grid}
+use Rattle.limits.specs.Limits.{first_grid}
 use Rattle.point_sample.proofs.Draws.{pow_four}
 use Rattle.point_sample.proofs.generator.coordinate.Goals as goal
 
@@ -12,9 +12,9 @@ returns c =
     let read = c.from.ensures in
     let r = c.ranges.draw in
     let f : SFits w64 c.from.result = omega (arith, ints) in
-    let g : SFits w64 (c.from.result -ℤ pos (half sample_grid)) = omega (arith, ints) in
+    let g : SFits w64 (c.from.result -ℤ pos (half first_grid)) = omega (arith, ints) in
     ap (λ z. to_z w64 (of_z w64 (to_z w64 (of_z w64 c.from.result) -ℤ to_z w64 (of_z w64 z)))) c.half.ensures
-    ∙ ap (λ z. to_z w64 (of_z w64 (z -ℤ pos (half sample_grid)))) (to_z-of_z f)
+    ∙ ap (λ z. to_z w64 (of_z w64 (z -ℤ pos (half first_grid)))) (to_z-of_z f)
     ∙ to_z-of_z g
-    ∙ ap (λ z. z -ℤ pos (half sample_grid)) read
-    ∙ ap (λ p. pos (c.args.draw / p) -ℤ pos (half sample_grid)) (sym (pow_four c.args.scale))
+    ∙ ap (λ z. z -ℤ pos (half first_grid)) read
+    ∙ ap (λ p. pos (c.args.draw / p) -ℤ pos (half first_grid)) (sym (pow_four c.args.scale))

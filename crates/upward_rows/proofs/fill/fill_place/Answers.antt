@@ -38,3 +38,12 @@ returns-clause-row g c =
     subst (IsMultipolePlace g.row.P c.args.points.now c.args.tree.now c.args.n)
     (sym (own_place c.args.places.now c.split_at_mut-front.result.0.now c.split_at_mut-front.result.1.now c.args.n c.make_place.new.place h.value (omega (arith, h.front_len)) (omega (arith, c.requires.cell, c.requires.len))))
     c.make_place.ensures.row
+
+pub split_at_mut-front-requires : goal.split_at_mut-front-requires
+split_at_mut-front-requires g c = omega (arith, c.requires.cell, c.requires.len)
+
+pub bounds-front-n : goal.bounds-front-n
+bounds-front-n g c = omega (arith, c.split_at_mut-front.ensures.front_len)
+
+pub returns-clause-work : goal.returns-clause-work
+returns-clause-work g c = c.make_place.ensures.work

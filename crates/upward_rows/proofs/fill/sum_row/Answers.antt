@@ -151,3 +151,40 @@ pub returns-after-loop-child-clause-work : goal.returns-after-loop-child-clause-
 returns-after-loop-child-clause-work g c =
     let kept = kept_whole _ _ c.requires.tree _ c.requires.cell c.children-children.result.now c.loop-child.child-index c.children-children.ensures (omega (arith, c.loop-child-test.false)) in
     c.loop-child.invariant.work ∙ ap (λ (count : ℕ). translated count c.args.work.now) (ap length kept ∙ shifts_of_cell _ _ c.requires.tree _ c.requires.cell (sym c.is_leaf.ensures ∙ c.if-is_leaf.false))
+
+pub is_leaf-requires : goal.is_leaf-requires
+is_leaf-requires g c = c.requires.cell
+
+pub members-requires : goal.members-requires
+members-requires g c = c.requires.cell
+
+pub children-children-requires : goal.children-children-requires
+children-children-requires g c = c.requires.cell
+
+pub bounds-cells-n : goal.bounds-cells-n
+bounds-cells-n g c = omega (arith, c.requires.cell, ap length c.cells-cells.ensures.all)
+
+pub sum_sources-requires-clause-order : goal.sum_sources-requires-clause-order
+sum_sources-requires-clause-order g c = c.requires.order
+
+pub sum_sources-requires-clause-len : goal.sum_sources-requires-clause-len
+sum_sources-requires-clause-len g c = c.requires.len
+
+pub overflow_sub-first : goal.overflow_sub-first
+overflow_sub-first g c = omega (arith, c.requires.behind.few, ap length c.cells-cells.ensures.all)
+
+pub bounds-children-child-index : goal.bounds-children-child-index
+bounds-children-child-index g c = c.loop-child-test.true
+
+pub bounds-cells-m : goal.bounds-cells-m
+bounds-cells-m g c =
+    let child = child_at _ _ c.requires.tree _ c.requires.cell _ _ c.children-children.ensures c.loop-child-test.true in
+    omega (arith, child.in_range, ap length c.cells-cells.ensures.all)
+
+pub offset_bounds-behind-m : goal.offset_bounds-behind-m
+offset_bounds-behind-m g c =
+    let child = child_at _ _ c.requires.tree _ c.requires.cell _ _ c.children-children.ensures c.loop-child-test.true in
+    omega (arith, child.in_range, c.requires.behind.few, ap length c.cells-cells.ensures.all)
+
+pub row-requires : goal.row-requires
+row-requires g c = let few = order_bounds g.row.P c.requires.order in (omega (arith, few), lit< tt)

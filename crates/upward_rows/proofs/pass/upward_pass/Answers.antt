@@ -84,3 +84,18 @@ returns-clause-translations g c =
     sum_by_number (λ (p : PlaceModel). p.translations) (shifts_into points tree) places no_place (λ m lt. c.loop-n.invariant.translations m (omega (arith, c.loop-n-test.false)) (omega (arith, lt, as_many)))
     ∙ ap (λ k. sum_by (shifts_into points tree) (range_with_len 0 k)) as_many
     ∙ shifts_of_all tree points c.requires.tree.cap c.requires.tree.is_tree (in_grid tree.grid points c.requires.tree.within.range)
+
+pub loop-n-init : goal.loop-n-init
+loop-n-init g c = record { rows = λ m le lt. absurd (omega (arith, le, lt, ap length c.cells-n.ensures.all)); translations = λ m le lt. absurd (omega (arith, le, lt, ap length c.cells-n.ensures.all)) }
+
+pub bounds-places-n : goal.bounds-places-n
+bounds-places-n g c = omega (arith, c.fill_place.auto.places, c.loop-n.auto.places, c.requires.len, c.loop-n-test.true, c.loop-n.auto.n, ap length c.cells-n.ensures.all)
+
+pub set_translations-requires : goal.set_translations-requires
+set_translations-requires g c = let few = order_bounds g.row.P c.requires.order in omega (arith, few)
+
+pub returns-clause-rows : goal.returns-clause-rows
+returns-clause-rows g c = record { as_many = omega (arith, c.loop-n.auto.places, c.requires.len); each = λ m lt. c.loop-n.invariant.rows m (omega (arith, c.loop-n-test.false)) lt }
+
+pub returns-clause-each : goal.returns-clause-each
+returns-clause-each g c = λ m lt. c.loop-n.invariant.translations m (omega (arith, c.loop-n-test.false)) lt
