@@ -96,27 +96,36 @@ leaf_at_level grid points cap p last h k e = let P : ℕ → Type 0 = λ v. IsLe
 pair_of : (grid : ℕ) (points : List Point) (cap : ℕ) (p q : Point) (m n : ℕ) → IsLeafLevel grid points cap p m → IsLeafLevel grid points cap q n → (letter : Letter) (k l : ℕ) → IsCase (TouchAt grid p q) m n letter k l → IsPair grid points cap letter (cell_of grid p k) (cell_of grid q l)
 pair_of grid points cap p q m n lp lq U k l h =
     (leaf_at_level grid points cap p m lp k h.first_ends, leaf_at_level grid points cap q n lq l h.second_ends, h.holds)
-pair_of grid points cap p q m n lp lq V k l h =
-    (lp.in_tree k h.in_first, lq.in_tree l h.in_second, record {
-        same_level = h.same;
-        below_root = h.below;
-        parents_touch =
-            touches_along _ _ _ _ (sym (parent_of grid p k h.below (omega (arith, h.in_first, lp.in_grid))))
-            (sym (parent_of grid q l (omega (arith, h.same, h.below)) (omega (arith, h.in_second, lq.in_grid)))) h.holds_above;
-        apart = h.fails;
-      })
-pair_of grid points cap p q m n lp lq W k l h =
-    (leaf_at_level grid points cap p m lp k h.first_ends, lq.in_tree l h.in_second, record {
-        deeper = h.deeper;
-        parent_touches = touches_along _ _ _ _ (sym (parent_of grid q l (omega (arith, h.deeper)) (omega (arith, h.in_second, lq.in_grid)))) refl (Touches-sym (cell_of grid p k) (cell_of grid q (l - 1)) h.holds_above);
-        apart = λ t. h.fails (Touches-sym (cell_of grid q l) (cell_of grid p k) t);
-      })
-pair_of grid points cap p q m n lp lq X k l h =
-    (leaf_at_level grid points cap q n lq l h.first_ends, lp.in_tree k h.in_second, record {
-        deeper = h.deeper;
-        parent_touches = touches_along _ _ _ _ (sym (parent_of grid p k (omega (arith, h.deeper)) (omega (arith, h.in_second, lp.in_grid)))) refl h.holds_above;
-        apart = h.fails;
-      })
+pair_of grid points cap p q m n lp lq V k l h = (
+  lp.in_tree k h.in_first,
+  lq.in_tree l h.in_second,
+  record {
+    same_level = h.same;
+    below_root = h.below;
+    parents_touch =
+        touches_along _ _ _ _ (sym (parent_of grid p k h.below (omega (arith, h.in_first, lp.in_grid))))
+        (sym (parent_of grid q l (omega (arith, h.same, h.below)) (omega (arith, h.in_second, lq.in_grid)))) h.holds_above;
+    apart = h.fails;
+  },
+)
+pair_of grid points cap p q m n lp lq W k l h = (
+  leaf_at_level grid points cap p m lp k h.first_ends,
+  lq.in_tree l h.in_second,
+  record {
+    deeper = h.deeper;
+    parent_touches = touches_along _ _ _ _ (sym (parent_of grid q l (omega (arith, h.deeper)) (omega (arith, h.in_second, lq.in_grid)))) refl (Touches-sym (cell_of grid p k) (cell_of grid q (l - 1)) h.holds_above);
+    apart = λ t. h.fails (Touches-sym (cell_of grid q l) (cell_of grid p k) t);
+  },
+)
+pair_of grid points cap p q m n lp lq X k l h = (
+  leaf_at_level grid points cap q n lq l h.first_ends,
+  lp.in_tree k h.in_second,
+  record {
+    deeper = h.deeper;
+    parent_touches = touches_along _ _ _ _ (sym (parent_of grid p k (omega (arith, h.deeper)) (omega (arith, h.in_second, lp.in_grid)))) refl h.holds_above;
+    apart = h.fails;
+  },
+)
 
 pair_along : (grid : ℕ) (points : List Point) (cap : ℕ) (letter : Letter) (b b' c c' : Square) → b ≡ b' → c ≡ c' → IsPair grid points cap letter b c → IsPair grid points cap letter b' c'
 pair_along grid points cap letter b b' c c' eb ec h =

@@ -82,8 +82,8 @@ pub record Touches (b c : Square) : Type 0 where
 
 -- the cell of a level that holds a place of the grid, by how far the place lies from the west and the south border
 abbrev pub square_at : ℕ → ℕ → ℤ → ℤ → Square
-square_at grid level x y =
-    let s = 2 ^ (grid - level) in record { grid = grid; level = level; i = unsigned_abs (x +ℤ pos (half grid)) / s; j = unsigned_abs (y +ℤ pos (half grid)) / s }
+square_at grid level x y = let s = 2 ^ (grid - level) in
+    record { grid = grid; level = level; i = unsigned_abs (x +ℤ pos (half grid)) / s; j = unsigned_abs (y +ℤ pos (half grid)) / s }
 
 -- the cell of the level above that has the cell as a quarter
 abbrev pub parent : Square → Square

@@ -46,7 +46,7 @@ module _ (points : List Point) where
     -- of a cell with that many levels below its own: the sum of the rows of its quarters with a source, shifted up, and of a leaf that of its sources
     unfoldable pub multipole_above : ℕ → Square → ℕ → BoxEnds
     multipole_above zero c = leaf_row c
-    multipole_above (suc levels) c = cond (is_over points cap c) (child_rows (λ q. q) (multipole_above levels) (filter (has_source points) (quarters c))) (leaf_row c)
+    multipole_above (suc n) c = cond (is_over points cap c) (child_rows (λ q. q) (multipole_above n) (filter (has_source points) (quarters c))) (leaf_row c)
 
     abbrev pub multipole_row : Square → ℕ → BoxEnds
     multipole_row c = multipole_above (c.grid - c.level) c
