@@ -8,13 +8,14 @@ use Rattle.cell_name.proofs.Quarters.{ancestor-square_at}
 use Rattle.cell_lists.specs.Walk.{AncestorsTouch}
 use Rattle.std.proofs.Math.Nat.{div-eq_of_lt}
 use Rattle.cell_name.proofs.Cells.{same_square, Holds-square_at, square_at-unique, parent-square_at, square_at-root, Touches-refl, Touches-sym, Touches-part, IsPart-square_at, decide_touches}
-use Rattle.quadtree.specs.Tree.{IsTreeCell, IsLeaf, HasTarget, HasSource, AreInGrid}
+use Rattle.quadtree.specs.Tree.{IsTreeCell, IsLeaf, AreInGrid, has_target, has_source}
 use Rattle.quadtree.proofs.LeafLevel.{cell_of, IsListed, IsLeafLevel, leaf_level_exists}
 use Rattle.letters.specs.declared.Letter.{Letter}
 use Rattle.letters.specs.declared.Letter.TheVariants.{U, V, W, X}
 use Rattle.cell_lists.specs.Entries.{IsPair, IsEntry, Accounts, NoOtherAccounts, IsTargetAndSource, EachPairHasOneEntry}
 use Rattle.cell_lists.specs.Cases.{IsCase}
 use Rattle.cell_lists.proofs.Descent.{PassesUp, case_exists, case_unique}
+use Rattle.quadtree.proofs.Occupants.{target_in, target_there, source_in, source_there}
 
 -- the target's cell of level `k` touches the source's cell of level `l`
 abbrev pub TouchAt : ℕ → Point → Point → ℕ → ℕ → Type 0
@@ -51,41 +52,41 @@ cell_is grid c p same inside held =
 
 -- the cells of a pair are cells of the tree
 pub in_tree_of : (grid : ℕ) (points : List Point) (cap : ℕ) (letter : Letter) (b c : Square) → IsPair grid points cap letter b c → IsTreeCell grid points cap b × IsTreeCell grid points cap c
-in_tree_of grid points cap U b c h = (h.first_leaf.in_tree, h.second_leaf.in_tree)
-in_tree_of grid points cap V b c h = (h.first_in_tree, h.second_in_tree)
-in_tree_of grid points cap W b c h = (h.first_leaf.in_tree, h.second_in_tree)
-in_tree_of grid points cap X b c h = (h.second_in_tree, h.first_leaf.in_tree)
+in_tree_of grid points cap U b c h = (h.0.in_tree, h.1.in_tree)
+in_tree_of grid points cap V b c h = (h.0, h.1)
+in_tree_of grid points cap W b c h = (h.0.in_tree, h.1)
+in_tree_of grid points cap X b c h = (h.1, h.0.in_tree)
 
 -- a pair of a letter, of the cells of the two places, is that letter's case
 case_of : (grid : ℕ) (points : List Point) (cap : ℕ) (p q : Point) (m n : ℕ) → IsLeafLevel grid points cap p m → IsLeafLevel grid points cap q n → (letter : Letter) (k l : ℕ) → IsPair grid points cap letter (cell_of grid p k) (cell_of grid q l) → IsCase (TouchAt grid p q) m n letter k l
 case_of grid points cap p q m n lp lq U k l h =
-    record { first_ends = lp.no_other k h.first_leaf; second_ends = lq.no_other l h.second_leaf; holds = h.touch }
+    record { first_ends = lp.no_other k h.0; second_ends = lq.no_other l h.1; holds = h.2 }
 case_of grid points cap p q m n lp lq V k l h =
     record {
-      same = h.come_apart.same_level;
-      below = h.come_apart.below_root;
-      in_first = lp.no_deeper k h.first_in_tree;
-      in_second = lq.no_deeper l h.second_in_tree;
+      same = h.2.same_level;
+      below = h.2.below_root;
+      in_first = lp.no_deeper k h.0;
+      in_second = lq.no_deeper l h.1;
       holds_above =
-          touches_along _ _ _ _ (parent_of grid p k h.come_apart.below_root h.first_in_tree.level_in_grid)
-          (parent_of grid q l (omega (arith, h.come_apart.same_level, h.come_apart.below_root)) h.second_in_tree.level_in_grid) h.come_apart.parents_touch;
-      fails = h.come_apart.apart;
+          touches_along _ _ _ _ (parent_of grid p k h.2.below_root h.0.level_in_grid)
+          (parent_of grid q l (omega (arith, h.2.same_level, h.2.below_root)) h.1.level_in_grid) h.2.parents_touch;
+      fails = h.2.apart;
     }
 case_of grid points cap p q m n lp lq W k l h =
     record {
-      first_ends = lp.no_other k h.first_leaf;
-      deeper = h.comes_apart.deeper;
-      in_second = lq.no_deeper l h.second_in_tree;
-      holds_above = Touches-sym (cell_of grid q (l - 1)) (cell_of grid p k) (touches_along _ _ _ _ (parent_of grid q l (omega (arith, h.comes_apart.deeper)) h.second_in_tree.level_in_grid) refl h.comes_apart.parent_touches);
-      fails = λ t. h.comes_apart.apart (Touches-sym (cell_of grid p k) (cell_of grid q l) t);
+      first_ends = lp.no_other k h.0;
+      deeper = h.2.deeper;
+      in_second = lq.no_deeper l h.1;
+      holds_above = Touches-sym (cell_of grid q (l - 1)) (cell_of grid p k) (touches_along _ _ _ _ (parent_of grid q l (omega (arith, h.2.deeper)) h.1.level_in_grid) refl h.2.parent_touches);
+      fails = λ t. h.2.apart (Touches-sym (cell_of grid p k) (cell_of grid q l) t);
     }
 case_of grid points cap p q m n lp lq X k l h =
     record {
-      first_ends = lq.no_other l h.first_leaf;
-      deeper = h.comes_apart.deeper;
-      in_second = lp.no_deeper k h.second_in_tree;
-      holds_above = touches_along _ _ _ _ (parent_of grid p k (omega (arith, h.comes_apart.deeper)) h.second_in_tree.level_in_grid) refl h.comes_apart.parent_touches;
-      fails = h.comes_apart.apart;
+      first_ends = lq.no_other l h.0;
+      deeper = h.2.deeper;
+      in_second = lp.no_deeper k h.1;
+      holds_above = touches_along _ _ _ _ (parent_of grid p k (omega (arith, h.2.deeper)) h.1.level_in_grid) refl h.2.parent_touches;
+      fails = h.2.apart;
     }
 
 leaf_at_level : (grid : ℕ) (points : List Point) (cap : ℕ) (p : Point) (last : ℕ) → IsLeafLevel grid points cap p last → (k : ℕ) → k ≡ last → IsLeaf grid points cap (cell_of grid p k)
@@ -94,40 +95,37 @@ leaf_at_level grid points cap p last h k e = let P : ℕ → Type 0 = λ v. IsLe
 -- and a case of a letter is a pair of that letter
 pair_of : (grid : ℕ) (points : List Point) (cap : ℕ) (p q : Point) (m n : ℕ) → IsLeafLevel grid points cap p m → IsLeafLevel grid points cap q n → (letter : Letter) (k l : ℕ) → IsCase (TouchAt grid p q) m n letter k l → IsPair grid points cap letter (cell_of grid p k) (cell_of grid q l)
 pair_of grid points cap p q m n lp lq U k l h =
-    record { first_leaf = leaf_at_level grid points cap p m lp k h.first_ends; second_leaf = leaf_at_level grid points cap q n lq l h.second_ends; touch = h.holds }
-pair_of grid points cap p q m n lp lq V k l h =
-    record {
-      first_in_tree = lp.in_tree k h.in_first;
-      second_in_tree = lq.in_tree l h.in_second;
-      come_apart = record {
-        same_level = h.same;
-        below_root = h.below;
-        parents_touch =
-            touches_along _ _ _ _ (sym (parent_of grid p k h.below (omega (arith, h.in_first, lp.in_grid))))
-            (sym (parent_of grid q l (omega (arith, h.same, h.below)) (omega (arith, h.in_second, lq.in_grid)))) h.holds_above;
-        apart = h.fails;
-      };
-    }
-pair_of grid points cap p q m n lp lq W k l h =
-    record {
-      first_leaf = leaf_at_level grid points cap p m lp k h.first_ends;
-      second_in_tree = lq.in_tree l h.in_second;
-      comes_apart = record {
-        deeper = h.deeper;
-        parent_touches = touches_along _ _ _ _ (sym (parent_of grid q l (omega (arith, h.deeper)) (omega (arith, h.in_second, lq.in_grid)))) refl (Touches-sym (cell_of grid p k) (cell_of grid q (l - 1)) h.holds_above);
-        apart = λ t. h.fails (Touches-sym (cell_of grid q l) (cell_of grid p k) t);
-      };
-    }
-pair_of grid points cap p q m n lp lq X k l h =
-    record {
-      first_leaf = leaf_at_level grid points cap q n lq l h.first_ends;
-      second_in_tree = lp.in_tree k h.in_second;
-      comes_apart = record {
-        deeper = h.deeper;
-        parent_touches = touches_along _ _ _ _ (sym (parent_of grid p k (omega (arith, h.deeper)) (omega (arith, h.in_second, lp.in_grid)))) refl h.holds_above;
-        apart = h.fails;
-      };
-    }
+    (leaf_at_level grid points cap p m lp k h.first_ends, leaf_at_level grid points cap q n lq l h.second_ends, h.holds)
+pair_of grid points cap p q m n lp lq V k l h = (
+  lp.in_tree k h.in_first,
+  lq.in_tree l h.in_second,
+  record {
+    same_level = h.same;
+    below_root = h.below;
+    parents_touch =
+        touches_along _ _ _ _ (sym (parent_of grid p k h.below (omega (arith, h.in_first, lp.in_grid))))
+        (sym (parent_of grid q l (omega (arith, h.same, h.below)) (omega (arith, h.in_second, lq.in_grid)))) h.holds_above;
+    apart = h.fails;
+  },
+)
+pair_of grid points cap p q m n lp lq W k l h = (
+  leaf_at_level grid points cap p m lp k h.first_ends,
+  lq.in_tree l h.in_second,
+  record {
+    deeper = h.deeper;
+    parent_touches = touches_along _ _ _ _ (sym (parent_of grid q l (omega (arith, h.deeper)) (omega (arith, h.in_second, lq.in_grid)))) refl (Touches-sym (cell_of grid p k) (cell_of grid q (l - 1)) h.holds_above);
+    apart = λ t. h.fails (Touches-sym (cell_of grid q l) (cell_of grid p k) t);
+  },
+)
+pair_of grid points cap p q m n lp lq X k l h = (
+  leaf_at_level grid points cap q n lq l h.first_ends,
+  lp.in_tree k h.in_second,
+  record {
+    deeper = h.deeper;
+    parent_touches = touches_along _ _ _ _ (sym (parent_of grid p k (omega (arith, h.deeper)) (omega (arith, h.in_second, lp.in_grid)))) refl h.holds_above;
+    apart = h.fails;
+  },
+)
 
 pair_along : (grid : ℕ) (points : List Point) (cap : ℕ) (letter : Letter) (b b' c c' : Square) → b ≡ b' → c ≡ c' → IsPair grid points cap letter b c → IsPair grid points cap letter b' c'
 pair_along grid points cap letter b b' c c' eb ec h =
@@ -220,14 +218,16 @@ ancestor_of grid b p k e le kb =
     let a : ancestor (cell_of grid p b.level) k ≡ cell_of grid p k = ancestor-square_at grid b.level k p.x p.y kb le in
     sym a ∙ ap (λ v. ancestor v k) (sym e)
 
-pub entry_from_case : (grid : ℕ) (points : List Point) (cap : ℕ) (b c : Square) (letter : Letter) (k l : ℕ) → 0 < grid → AreInGrid grid points → IsLeaf grid points cap b → IsLeaf grid points cap c → HasTarget points b → HasSource points c → IsCase (AncestorsTouch b c) b.level c.level letter k l → IsEntry grid points cap letter (ancestor b k) (ancestor c l)
-entry_from_case grid points cap b c letter k l positive inside b_leaf c_leaf target source h =
-    let p : Point = target.target in
-    let q : Point = source.source in
-    let gp = listed grid points p inside target.here.listed in
-    let gq = listed grid points q inside source.here.listed in
-    let eb : b ≡ cell_of grid p b.level = cell_is grid b p b_leaf.in_tree.of_grid gp.in_grid target.here.held in
-    let ec : c ≡ cell_of grid q c.level = cell_is grid c q c_leaf.in_tree.of_grid gq.in_grid source.here.held in
+pub entry_from_case : (grid : ℕ) (points : List Point) (cap : ℕ) (b c : Square) (letter : Letter) (k l : ℕ) → 0 < grid → AreInGrid grid points → IsLeaf grid points cap b → IsLeaf grid points cap c → IsTrue (has_target points b) → IsTrue (has_source points c) → IsCase (AncestorsTouch b c) b.level c.level letter k l → IsEntry grid points cap letter (ancestor b k) (ancestor c l)
+entry_from_case grid points cap b c letter k l positive inside b_leaf c_leaf with_target with_source h =
+    let target = target_in points b with_target in
+    let source = source_in points c with_source in
+    let p : Point = target.point in
+    let q : Point = source.point in
+    let gp = listed grid points p inside target.listed in
+    let gq = listed grid points q inside source.listed in
+    let eb : b ≡ cell_of grid p b.level = cell_is grid b p b_leaf.in_tree.of_grid gp.in_grid target.held in
+    let ec : c ≡ cell_of grid q c.level = cell_is grid c q c_leaf.in_tree.of_grid gq.in_grid source.held in
     let lp = leaf_level_exists grid points cap p positive gp in
     let lq = leaf_level_exists grid points cap q positive gq in
     let P : Square → Type 0 = λ v. IsLeaf grid points cap v in
@@ -248,13 +248,13 @@ entry_from_case grid points cap b c letter k l positive inside b_leaf c_leaf tar
     let el = ancestor_of grid c q l ec c_leaf.in_tree.level_in_grid within.1 in
     let hold_p = Holds-square_at grid k p.x p.y gp.in_grid in
     let hold_q = Holds-square_at grid l q.x q.y gq.in_grid in
-    let A : Square → Type 0 = λ v. HasTarget points v in
-    let B : Square → Type 0 = λ v. HasSource points v in
-    let has_target : HasTarget points (cell_of grid p k) = record { target = p; here = record { listed = target.here.listed; held = hold_p }; is_target = target.is_target } in
-    let has_source : HasSource points (cell_of grid q l) = record { source = q; here = record { listed = source.here.listed; held = hold_q }; is_source = source.is_source } in
+    let A : Square → Type 0 = λ v. IsTrue (has_target points v) in
+    let B : Square → Type 0 = λ v. IsTrue (has_source points v) in
+    let target_k : IsTrue (has_target points (cell_of grid p k)) = target_there points (cell_of grid p k) (record { point = p; listed = target.listed; held = hold_p; passes = target.passes }) in
+    let source_l : IsTrue (has_source points (cell_of grid q l)) = source_there points (cell_of grid q l) (record { point = q; listed = source.listed; held = hold_q; passes = source.passes }) in
     record {
-      target = subst A ek has_target;
-      source = subst B el has_source;
+      target = subst A ek target_k;
+      source = subst B el source_l;
       pair = pair_along grid points cap letter (cell_of grid p k) (ancestor b k) (cell_of grid q l) (ancestor c l) ek el pair;
     }
 

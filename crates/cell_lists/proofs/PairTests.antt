@@ -15,16 +15,16 @@ module _ (tree : TreeModel) (points : List Point) (cap b c : ℕ) (h : IsTreeOf 
   Meets letter = MeetsLetter (node_of tree b).is_leaf (node_of tree c).is_leaf (square_of tree b) (square_of tree c) letter
 
   is_pair : (letter : Letter) → Meets letter → IsPair tree.grid points cap letter (square_of tree b) (square_of tree c)
-  is_pair U m = record { first_leaf = (h.nodes_are b lb).leaf.0 m.0; second_leaf = (h.nodes_are c lc).leaf.0 m.1; touch = m.2 }
-  is_pair V m = record { first_in_tree = tree_cell_at tree points cap b h lb; second_in_tree = tree_cell_at tree points cap c h lc; come_apart = m }
-  is_pair W m = record { first_leaf = (h.nodes_are b lb).leaf.0 m.0; second_in_tree = tree_cell_at tree points cap c h lc; comes_apart = m.1 }
-  is_pair X m = record { first_leaf = (h.nodes_are c lc).leaf.0 m.0; second_in_tree = tree_cell_at tree points cap b h lb; comes_apart = m.1 }
+  is_pair U m = ((h.nodes_are b lb).leaf.0 m.0, (h.nodes_are c lc).leaf.0 m.1, m.2)
+  is_pair V m = (tree_cell_at tree points cap b h lb, tree_cell_at tree points cap c h lc, m)
+  is_pair W m = ((h.nodes_are b lb).leaf.0 m.0, tree_cell_at tree points cap c h lc, m.1)
+  is_pair X m = ((h.nodes_are c lc).leaf.0 m.0, tree_cell_at tree points cap b h lb, m.1)
 
   meets : (letter : Letter) → IsPair tree.grid points cap letter (square_of tree b) (square_of tree c) → Meets letter
-  meets U p = ((h.nodes_are b lb).leaf.1 p.first_leaf, (h.nodes_are c lc).leaf.1 p.second_leaf, p.touch)
-  meets V p = p.come_apart
-  meets W p = ((h.nodes_are b lb).leaf.1 p.first_leaf, p.comes_apart)
-  meets X p = ((h.nodes_are c lc).leaf.1 p.first_leaf, p.comes_apart)
+  meets U p = ((h.nodes_are b lb).leaf.1 p.0, (h.nodes_are c lc).leaf.1 p.1, p.2)
+  meets V p = p.2
+  meets W p = ((h.nodes_are b lb).leaf.1 p.0, p.2)
+  meets X p = ((h.nodes_are c lc).leaf.1 p.0, p.2)
 
   -- with a target in the first and a source in the second they are an entry
   pub entry_from_letter : (answer : Option Letter) (letter : Letter) → IsTrue (node_of tree b).has_target → IsTrue (node_of tree c).has_source → ((answer ≡ Some letter) ↔ Meets letter) → (answer ≡ Some letter) ↔ IsEntry tree.grid points cap letter (square_of tree b) (square_of tree c)

@@ -147,23 +147,23 @@ IsMetOrBelow tree b c = IsMet tree b c ⊎ (IsTrue (node_of tree b).is_leaf × I
 
 pub pair_met : (tree : TreeModel) (points : List Point) (cap b c : ℕ) (letter : Letter) → IsTree tree → IsTreeOf tree points cap → b < size tree → c < size tree → IsPair tree.grid points cap letter (square_of tree b) (square_of tree c) → IsMetOrBelow tree b c
 pair_met tree points cap b c U is h lb lc p =
-    let leaf_b = (h.nodes_are b lb).leaf.1 p.first_leaf in
-    let leaf_c = (h.nodes_are c lc).leaf.1 p.second_leaf in
+    let leaf_b = (h.nodes_are b lb).leaf.1 p.0 in
+    let leaf_c = (h.nodes_are c lc).leaf.1 p.1 in
     elim (cases_lt (square_of tree b).level (square_of tree c).level) [
-      | inl deeper ↦ inr (leaf_b, record { in_range = lc; deeper = deeper; parent_touches = Touches-parent (square_of tree b) (square_of tree c) (omega arith) (level_in_grid tree is c lc) (Touches-sym (square_of tree b) (square_of tree c) p.touch) })
+      | inl deeper ↦ inr (leaf_b, record { in_range = lc; deeper = deeper; parent_touches = Touches-parent (square_of tree b) (square_of tree c) (omega arith) (level_in_grid tree is c lc) (Touches-sym (square_of tree b) (square_of tree c) p.2) })
       | inr le ↦
           inl (colleague_met tree b c is lb (record {
             in_range = lc;
-            touch = p.touch;
+            touch = p.2;
             reached = elim (cases_lt (square_of tree c).level (square_of tree b).level) [ inl lt ↦ inr (leaf_c, lt) | inr ge ↦ inl (omega arith) ];
           }))
     ]
 pair_met tree points cap b c V is h lb lc p =
-    inl (inr (record { in_range = lc; below_root = p.come_apart.below_root; reached = inl (sym p.come_apart.same_level, p.come_apart.parents_touch) }))
+    inl (inr (record { in_range = lc; below_root = p.2.below_root; reached = inl (sym p.2.same_level, p.2.parents_touch) }))
 pair_met tree points cap b c W is h lb lc p =
-    inr ((h.nodes_are b lb).leaf.1 p.first_leaf, record { in_range = lc; deeper = p.comes_apart.deeper; parent_touches = p.comes_apart.parent_touches })
+    inr ((h.nodes_are b lb).leaf.1 p.0, record { in_range = lc; deeper = p.2.deeper; parent_touches = p.2.parent_touches })
 pair_met tree points cap b c X is h lb lc p =
-    inl (inr (record { in_range = lc; below_root = omega (arith, p.comes_apart.deeper); reached = inr ((h.nodes_are c lc).leaf.1 p.first_leaf, p.comes_apart.deeper, p.comes_apart.parent_touches) }))
+    inl (inr (record { in_range = lc; below_root = omega (arith, p.2.deeper); reached = inr ((h.nodes_are c lc).leaf.1 p.0, p.2.deeper, p.2.parent_touches) }))
 
 pub meets_all : (tree : TreeModel) (b : ℕ) (found : List ℕ) → IsTree tree → b < size tree → ((c : ℕ) → IsMet tree b c → Contains found c) → (IsTrue (node_of tree b).is_leaf → (c : ℕ) → IsBelow tree b c → Contains found c) → MeetsAll tree b found
 meets_all tree b found is lb around below points cap inside h letter c lc entry =

@@ -185,7 +185,7 @@ v_place tree points cap b cells is lb l n lt =
     let c : ℕ = slice_index cells n in
     let lc : c < size tree = l.numbers n 0 lt in
     let entry = (l.exact c lc).0 (Contains-get_or cells n 0 lt) in
-    has_place (square_of tree b) (square_of tree c) (entry.pair.first_in_tree.of_grid ∙ sym entry.pair.second_in_tree.of_grid) entry.pair.come_apart
+    has_place (square_of tree b) (square_of tree c) (entry.pair.0.of_grid ∙ sym entry.pair.1.of_grid) entry.pair.2
 
 -- the places of the cells of a V list rise
 at_least : (tree : TreeModel) (points : List Point) (cap b : ℕ) (cells : List ℕ) → IsTreeOf tree points cap → b < size tree → IsListOf tree points cap V b cells → (n : ℕ) → n < length cells → (h : HasPlace (square_of tree b) (square_of tree (slice_index cells n))) → n ≤ h.place

@@ -3,15 +3,9 @@ use Rattle.std.specs.Prelude.{ℕ, ◌≡◌, ◌<◌, ◌≤◌, List, Contains
 use Rattle.points.specs.declared.Point.{Point}
 use Rattle.points.specs.Points.{IsTarget, IsSource}
 use Rattle.cell_name.specs.Square.{Square, parent, Holds, Touches}
-use Rattle.quadtree.specs.Tree.{IsTreeCell, IsLeaf, HasTarget, HasSource, AreInGrid}
+use Rattle.quadtree.specs.Tree.{IsTreeCell, IsLeaf, AreInGrid, has_target, has_source}
 use Rattle.letters.specs.declared.Letter.{Letter}
 use Rattle.letters.specs.declared.Letter.TheVariants.{U, V, W, X}
-
--- both are leaves and they touch; a leaf touches itself
-pub record IsUPair (grid : ℕ) (points : List Point) (cap : ℕ) (b c : Square) : Type 0 where
-  pub first_leaf : IsLeaf grid points cap b
-  pub second_leaf : IsLeaf grid points cap c
-  pub touch : Touches b c
 
 -- they have one level of at least 1, their parents touch, and they don't touch
 pub record ComeApartOnOneLevel (b c : Square) : Type 0 where
@@ -20,34 +14,24 @@ pub record ComeApartOnOneLevel (b c : Square) : Type 0 where
   pub parents_touch : Touches (parent b) (parent c)
   pub apart : Touches b c → ⊥
 
-pub record IsVPair (grid : ℕ) (points : List Point) (cap : ℕ) (b c : Square) : Type 0 where
-  pub first_in_tree : IsTreeCell grid points cap b
-  pub second_in_tree : IsTreeCell grid points cap c
-  pub come_apart : ComeApartOnOneLevel b c
-
 -- `c` has a greater level than `b`, its parent touches `b`, and `c` doesn't
 pub record ComesApartBelow (b c : Square) : Type 0 where
   pub deeper : b.level < c.level
   pub parent_touches : Touches (parent c) b
   pub apart : Touches c b → ⊥
 
--- `b` is a leaf, and `c` comes apart from it below its level
-pub record IsWPair (grid : ℕ) (points : List Point) (cap : ℕ) (b c : Square) : Type 0 where
-  pub first_leaf : IsLeaf grid points cap b
-  pub second_in_tree : IsTreeCell grid points cap c
-  pub comes_apart : ComesApartBelow b c
-
--- the condition of each letter; X is W with the two cells exchanged
+-- the condition of each letter: two leaves that touch, as a leaf touches itself; two cells of one level that come apart on it; a leaf and a cell that comes apart from it below
+-- its level; and the last with the two cells exchanged
 abbrev pub IsPair : ℕ → List Point → ℕ → Letter → Square → Square → Type 0
-IsPair grid points cap U b c = IsUPair grid points cap b c
-IsPair grid points cap V b c = IsVPair grid points cap b c
-IsPair grid points cap W b c = IsWPair grid points cap b c
-IsPair grid points cap X b c = IsWPair grid points cap c b
+IsPair grid points cap U b c = IsLeaf grid points cap b × IsLeaf grid points cap c × Touches b c
+IsPair grid points cap V b c = IsTreeCell grid points cap b × IsTreeCell grid points cap c × ComeApartOnOneLevel b c
+IsPair grid points cap W b c = IsLeaf grid points cap b × IsTreeCell grid points cap c × ComesApartBelow b c
+IsPair grid points cap X b c = IsLeaf grid points cap c × IsTreeCell grid points cap b × ComesApartBelow c b
 
 -- an entry of the lists: `b` has a target, `c` has a source, and the pair meets the condition of its letter
 pub record IsEntry (grid : ℕ) (points : List Point) (cap : ℕ) (letter : Letter) (b c : Square) : Type 0 where
-  pub target : HasTarget points b
-  pub source : HasSource points c
+  pub target : IsTrue (has_target points b)
+  pub source : IsTrue (has_source points c)
   pub pair : IsPair grid points cap letter b c
 
 -- an entry of `b` and `c` accounts for a target and a source

@@ -10,7 +10,7 @@ use Rattle.limits.proofs.Grids.{grid_positive, within_widest}
 use Rattle.limits.specs.Limits.{IsGrid}
 use Rattle.cell_name.specs.declared.cell.Cell.{Cell}
 use Rattle.cell_name.specs.Cell.{square}
-use Rattle.cell_name.specs.Square.{Square, root, ClosedHolds, side_at, side, half, corner_x, corner_y, IsInGrid, IsName, IsInsideGrid, Holds, Touches, from_border, square_at, parent}
+use Rattle.cell_name.specs.Square.{Square, root, ClosedHolds, side, half, corner_x, corner_y, IsInGrid, IsName, IsInsideGrid, Holds, Touches, square_at, parent}
 use Rattle.cell_name.proofs.Axis.{piece_begins, piece_ends, only_piece, side-halves, half-begins, half-ends}
 
 abs-of_nonnegative : (z : ℤ) → pos 0 ≤ℤ z → pos (unsigned_abs z) ≡ z
@@ -18,17 +18,17 @@ abs-of_nonnegative (pos n) h = refl
 abs-of_nonnegative (negsuc n) h = absurd (omega (arith, ints))
 
 -- the distance from the border, for a place that is not before it
-pub from_border_is : (grid : ℕ) (x : ℤ) → neg_ℤ (pos (half grid)) ≤ℤ x → pos (from_border grid x) ≡ x +ℤ pos (half grid)
-from_border_is grid x h = abs-of_nonnegative (x +ℤ pos (half grid)) (omega (arith, ints))
+pub border_distance_is : (grid : ℕ) (x : ℤ) → neg_ℤ (pos (half grid)) ≤ℤ x → pos (unsigned_abs (x +ℤ pos (half grid))) ≡ x +ℤ pos (half grid)
+border_distance_is grid x h = abs-of_nonnegative (x +ℤ pos (half grid)) (omega (arith, ints))
 
 pub Holds-square_at : (grid level : ℕ) (x y : ℤ) → IsInGrid grid x y → Holds (square_at grid level x y) x y
 Holds-square_at grid level x y g =
-    let s = side_at grid level in
+    let s = 2 ^ (grid - level) in
     let p : 0 < s = pow_pos (grid - level) in
-    let u = from_border grid x in
-    let v = from_border grid y in
-    let eu = from_border_is grid x g.west in
-    let ev = from_border_is grid y g.south in
+    let u = unsigned_abs (x +ℤ pos (half grid)) in
+    let v = unsigned_abs (y +ℤ pos (half grid)) in
+    let eu = border_distance_is grid x g.west in
+    let ev = border_distance_is grid y g.south in
     let bu = piece_begins u s in
     let au = piece_ends u s p in
     let bv = piece_begins v s in
@@ -45,11 +45,11 @@ same_square c d g p q r = λ t. record { grid = g t; level = p t; i = q t; j = r
 
 pub square_at-unique : (c : Square) (x y : ℤ) → IsInGrid c.grid x y → Holds c x y → c ≡ square_at c.grid c.level x y
 square_at-unique c x y g h =
-    let s = side_at c.grid c.level in
-    let u = from_border c.grid x in
-    let v = from_border c.grid y in
-    let eu = from_border_is c.grid x g.west in
-    let ev = from_border_is c.grid y g.south in
+    let s = 2 ^ (c.grid - c.level) in
+    let u = unsigned_abs (x +ℤ pos (half c.grid)) in
+    let v = unsigned_abs (y +ℤ pos (half c.grid)) in
+    let eu = border_distance_is c.grid x g.west in
+    let ev = border_distance_is c.grid y g.south in
     same_square c (square_at c.grid c.level x y) refl refl (only_piece u s c.i (omega (arith, ints)) (omega (arith, ints))) (only_piece v s c.j (omega (arith, ints)) (omega (arith, ints)))
 
 pub Touches-refl : (c : Square) → Touches c c
@@ -89,7 +89,7 @@ part_refl c d e = let P : Square → Type 0 = λ q. IsPart c q in subst P e (rec
 pub IsPart-parent : (c : Square) → 0 < c.level → c.level ≤ c.grid → IsPart c (parent c)
 IsPart-parent c lo hi =
     let s = side c in
-    let d : side_at c.grid (c.level - 1) ≡ 2 * s = side_above c.grid c.level lo hi in
+    let d : 2 ^ (c.grid - (c.level - 1)) ≡ 2 * s = side_above c.grid c.level lo hi in
     record {
       same_grid = refl;
       west = rw d (half-begins c.i s);
@@ -98,10 +98,10 @@ IsPart-parent c lo hi =
       north = rw d (half-ends c.j s);
     }
   where
-    side_above : (grid level : ℕ) → 0 < level → level ≤ grid → side_at grid (level - 1) ≡ 2 * side_at grid level
+    side_above : (grid level : ℕ) → 0 < level → level ≤ grid → 2 ^ (grid - (level - 1)) ≡ 2 * 2 ^ (grid - level)
     side_above grid level lo hi =
         let e : level - 1 + 1 ≡ level = omega arith in
-        let h : side_at grid (level - 1) ≡ 2 * side_at grid (level - 1 + 1) = side-halves grid (level - 1) (omega arith) in
+        let h : 2 ^ (grid - (level - 1)) ≡ 2 * 2 ^ (grid - (level - 1 + 1)) = side-halves grid (level - 1) (omega arith) in
         rw e at h
 
 -- touching is inherited by the parent
@@ -128,12 +128,12 @@ Holds-parent c x y lo hi h = Holds-part c (parent c) x y (IsPart-parent c lo hi)
 -- the cell of a place at a level is the parent of the one at the next
 pub parent-square_at : (grid level : ℕ) (x y : ℤ) → level < grid → parent (square_at grid (level + 1) x y) ≡ square_at grid level x y
 parent-square_at grid level x y h =
-    same_square (parent (square_at grid (level + 1) x y)) (square_at grid level x y) refl (omega arith) (halved (from_border grid x)) (halved (from_border grid y))
+    same_square (parent (square_at grid (level + 1) x y)) (square_at grid level x y) refl (omega arith) (halved (unsigned_abs (x +ℤ pos (half grid)))) (halved (unsigned_abs (y +ℤ pos (half grid))))
   where
-    halved : (u : ℕ) → u / side_at grid (level + 1) / 2 ≡ u / side_at grid level
+    halved : (u : ℕ) → u / 2 ^ (grid - (level + 1)) / 2 ≡ u / 2 ^ (grid - level)
     halved u =
-        let e : side_at grid level ≡ side_at grid (level + 1) * 2 = omega (arith, side-halves grid level h) in
-        div-div-eq-div-mul u (side_at grid (level + 1)) 2 ∙ ap (λ s. u / s) (sym e)
+        let e : 2 ^ (grid - level) ≡ 2 ^ (grid - (level + 1)) * 2 = omega (arith, side-halves grid level h) in
+        div-div-eq-div-mul u (2 ^ (grid - (level + 1))) 2 ∙ ap (λ s. u / s) (sym e)
 
 -- whether two cells touch is decided
 pub decide_touches : (b c : Square) → Touches b c ⊎ (Touches b c → ⊥)
@@ -172,12 +172,12 @@ square_at-root grid x y positive g =
     whole : (grid : ℕ) → 0 < grid → 2 ^ grid ≡ 2 * 2 ^ (grid - 1)
     whole grid h = let e : grid ≡ suc (grid - 1) = omega arith in ap (λ n. 2 ^ n) e ∙ pow-succ' 2 (grid - 1)
 
-    first : (z : ℤ) → neg_ℤ (pos (half grid)) ≤ℤ z → z <ℤ pos (half grid) → from_border grid z / side_at grid 0 ≡ 0
+    first : (z : ℤ) → neg_ℤ (pos (half grid)) ≤ℤ z → z <ℤ pos (half grid) → unsigned_abs (z +ℤ pos (half grid)) / 2 ^ (grid - 0) ≡ 0
     first z lo hi =
-        let e : pos (from_border grid z) ≡ z +ℤ pos (half grid) = from_border_is grid z lo in
+        let e : pos (unsigned_abs (z +ℤ pos (half grid))) ≡ z +ℤ pos (half grid) = border_distance_is grid z lo in
         let twice : 2 ^ grid ≡ 2 * half grid = whole grid positive in
-        let lt : from_border grid z < 2 ^ grid = omega (arith, ints) in
-        let s : side_at grid 0 ≡ 2 ^ grid = ap (λ n. 2 ^ n) (omega arith) in
+        let lt : unsigned_abs (z +ℤ pos (half grid)) < 2 ^ grid = omega (arith, ints) in
+        let s : 2 ^ (grid - 0) ≡ 2 ^ grid = ap (λ n. 2 ^ n) (omega arith) in
         rw s (div-eq_of_lt lt)
 
 part_from_equal : (c d : Square) → c.grid ≡ d.grid → c.i ≡ d.i → c.j ≡ d.j → side c ≡ side d → IsPart c d
@@ -195,18 +195,18 @@ IsPart-square_at grid level x y =
           let P : Square → Type 0 = λ c. IsPart (square_at grid (suc level) x y) c in
           subst P e (IsPart-parent (square_at grid (suc level) x y) (omega arith) (omega arith))
       | inr past ↦
-          let e : side_at grid (suc level) ≡ side_at grid level = ap (λ n. 2 ^ n) (omega arith) in
-          part_from_equal (square_at grid (suc level) x y) (square_at grid level x y) refl (ap (λ s. from_border grid x / s) e) (ap (λ s. from_border grid y / s) e) e
+          let e : 2 ^ (grid - (suc level)) ≡ 2 ^ (grid - level) = ap (λ n. 2 ^ n) (omega arith) in
+          part_from_equal (square_at grid (suc level) x y) (square_at grid level x y) refl (ap (λ s. unsigned_abs (x +ℤ pos (half grid)) / s) e) (ap (λ s. unsigned_abs (y +ℤ pos (half grid)) / s) e) e
     ]
 
 -- a cell's side times the number of cells of its level is the side of the grid
-pub side-whole : (grid level : ℕ) → level ≤ grid → 2 ^ level * side_at grid level ≡ 2 ^ grid
+pub side-whole : (grid level : ℕ) → level ≤ grid → 2 ^ level * 2 ^ (grid - level) ≡ 2 ^ grid
 side-whole grid level h = sym (pow-add 2 level (grid - level)) ∙ ap (λ n. 2 ^ n) (omega arith)
 
 -- a piece of the grid begins and ends in it
-pub piece_in_grid : (grid level i : ℕ) → level ≤ grid → i < 2 ^ level → i * side_at grid level + side_at grid level ≤ 2 ^ grid
+pub piece_in_grid : (grid level i : ℕ) → level ≤ grid → i < 2 ^ level → i * 2 ^ (grid - level) + 2 ^ (grid - level) ≤ 2 ^ grid
 piece_in_grid grid level i le lt =
-    let e : (i + 1) * side_at grid level ≤ 2 ^ level * side_at grid level = mul-le-mul_right (side_at grid level) (omega arith) in
+    let e : (i + 1) * 2 ^ (grid - level) ≤ 2 ^ level * 2 ^ (grid - level) = mul-le-mul_right (2 ^ (grid - level)) (omega arith) in
     omega (arith, side-whole grid level le)
 
 whole_is_two_halves : (grid : ℕ) → 0 < grid → 2 ^ grid ≡ 2 * half grid
@@ -243,9 +243,9 @@ pub square_at-name : (grid level : ℕ) (x y : ℤ) → 0 < grid → level ≤ g
 square_at-name grid level x y positive le g =
     record {
       level_in_grid = le;
-      column = below (from_border grid x) (omega (arith, ints, from_border_is grid x g.west, g.east, whole_is_two_halves grid positive));
-      row = below (from_border grid y) (omega (arith, ints, from_border_is grid y g.south, g.north, whole_is_two_halves grid positive));
+      column = below (unsigned_abs (x +ℤ pos (half grid))) (omega (arith, ints, border_distance_is grid x g.west, g.east, whole_is_two_halves grid positive));
+      row = below (unsigned_abs (y +ℤ pos (half grid))) (omega (arith, ints, border_distance_is grid y g.south, g.north, whole_is_two_halves grid positive));
     }
   where
-    below : (u : ℕ) → u < 2 ^ grid → u / side_at grid level < 2 ^ level
+    below : (u : ℕ) → u < 2 ^ grid → u / 2 ^ (grid - level) < 2 ^ level
     below u lt = shr_below u level (grid - level) (let e : 2 ^ (level + (grid - level)) ≡ 2 ^ grid = ap (λ n. 2 ^ n) (omega arith) in rw e lt)

@@ -6,8 +6,8 @@ use Rattle.std.proofs.lemmas.Nat.{pow_pos, pow-add}
 use Rattle.std.proofs.lemmas.Bool.{cases_lt}
 use Rattle.std.proofs.Math.IntN.{pos-*ℤ-pos, pos-*ℤ-negsuc}
 use Rattle.std.proofs.Math.Nat.{mul-le-mul_right, lt_of_mul-lt-mul_right, le_of_mul-le-mul_right, mul_assoc}
-use Rattle.cell_name.specs.Square.{Square, side_at, side, half, Holds, Touches, offset_x, offset_y, doubled_centre_x, doubled_centre_y, parent}
-use Rattle.cell_name.specs.Apart.{columns_between, rows_between, AreTwoOrThreeSidesApart, AreApart, IsLarge}
+use Rattle.cell_name.specs.Square.{Square, side, half, Holds, Touches, offset_x, offset_y, doubled_centre_x, doubled_centre_y, parent}
+use Rattle.cell_name.specs.Apart.{AreTwoOrThreeSidesApart, AreApart, IsLarge, sides_between}
 use Rattle.cell_name.proofs.Axis.{apart_ahead}
 
 -- the size of a whole number from its two bounds
@@ -58,7 +58,7 @@ offset_y_at_most c x y h = size_at_most (offset_y c y) (side c) (omega (arith, i
 
 -- cells of one level of a grid have one side
 pub same_side : (b c : Square) → b.grid ≡ c.grid → b.level ≡ c.level → side b ≡ side c
-same_side b c same level = λ t. side_at (same t) (level t)
+same_side b c same level = λ t. 2 ^ ((same t) - (level t))
 
 -- two places in cells of one level that don't touch are at least one side apart in one coordinate
 pub places_apart : (b c : Square) (x y x' y' : ℤ) → b.grid ≡ c.grid → b.level ≡ c.level → (Touches b c → ⊥) → Holds b x y → Holds c x' y' → AreApart (side c) x x' ⊎ AreApart (side c) y y'
@@ -115,7 +115,7 @@ middles_differ i k s h =
     omega (arith, ints, m)
 
 -- the centres of two cells of one level differ by as many sides as their columns, and rows, differ
-pub centres_differ : (b c : Square) → b.grid ≡ c.grid → b.level ≡ c.level → (doubled_centre_x b ≡ doubled_centre_x c +ℤ pos (2 * side c) *ℤ columns_between b c) × (doubled_centre_y b ≡ doubled_centre_y c +ℤ pos (2 * side c) *ℤ rows_between b c)
+pub centres_differ : (b c : Square) → b.grid ≡ c.grid → b.level ≡ c.level → (doubled_centre_x b ≡ doubled_centre_x c +ℤ pos (2 * side c) *ℤ (sides_between b c).re) × (doubled_centre_y b ≡ doubled_centre_y c +ℤ pos (2 * side c) *ℤ (sides_between b c).im)
 centres_differ b c same level =
     let e : side b ≡ side c = same_side b c same level in
     let eh : half b.grid ≡ half c.grid = ap half same in (
@@ -151,7 +151,7 @@ two_or_three b c same level apart t =
     let rows = halves_near b.j c.j (near (b.j / 2) (c.j / 2) s p (omega (arith, ints))) (near (c.j / 2) (b.j / 2) s p (omega (arith, ints))) in
     record { at_least_two = far (gap b c same apart); at_most_three = omega (arith, columns, rows) }
   where
-    far : ((b.i * side b + side b < c.i * side c) ⊎ (c.i * side c + side c < b.i * side b)) ⊎ ((b.j * side b + side b < c.j * side c) ⊎ (c.j * side c + side c < b.j * side b)) → 2 ≤ max (unsigned_abs (columns_between b c)) (unsigned_abs (rows_between b c))
+    far : ((b.i * side b + side b < c.i * side c) ⊎ (c.i * side c + side c < b.i * side b)) ⊎ ((b.j * side b + side b < c.j * side c) ⊎ (c.j * side c + side c < b.j * side b)) → 2 ≤ max (unsigned_abs (sides_between b c).re) (unsigned_abs (sides_between b c).im)
     far h =
         let e : side b ≡ side c = same_side b c same level in
         let eh = ap half same in
@@ -159,17 +159,17 @@ two_or_three b c same level apart t =
         let ej : b.j * side b ≡ b.j * side c = ap (λ s. b.j * s) e in
         elim h [
           | inl across ↦
-              let large : 2 ≤ unsigned_abs (columns_between b c) =
+              let large : 2 ≤ unsigned_abs (sides_between b c).re =
               elim across [
-                | inl lt ↦ let n = not_near b.i c.i (side c) (omega arith) in size_at_least_down (columns_between b c) 2 (omega (arith, ints))
-                | inr lt ↦ let n = not_near c.i b.i (side c) (omega arith) in size_at_least_up (columns_between b c) 2 (omega (arith, ints))
+                | inl lt ↦ let n = not_near b.i c.i (side c) (omega arith) in size_at_least_down (sides_between b c).re 2 (omega (arith, ints))
+                | inr lt ↦ let n = not_near c.i b.i (side c) (omega arith) in size_at_least_up (sides_between b c).re 2 (omega (arith, ints))
               ] in
               omega arith
           | inr up ↦
-              let large : 2 ≤ unsigned_abs (rows_between b c) =
+              let large : 2 ≤ unsigned_abs (sides_between b c).im =
               elim up [
-                | inl lt ↦ let n = not_near b.j c.j (side c) (omega arith) in size_at_least_down (rows_between b c) 2 (omega (arith, ints))
-                | inr lt ↦ let n = not_near c.j b.j (side c) (omega arith) in size_at_least_up (rows_between b c) 2 (omega (arith, ints))
+                | inl lt ↦ let n = not_near b.j c.j (side c) (omega arith) in size_at_least_down (sides_between b c).im 2 (omega (arith, ints))
+                | inr lt ↦ let n = not_near c.j b.j (side c) (omega arith) in size_at_least_up (sides_between b c).im 2 (omega (arith, ints))
               ] in
               omega arith
         ]
@@ -177,7 +177,7 @@ two_or_three b c same level apart t =
 -- ---- a cell and one that is no deeper
 
 -- the side of a level above in sides of a level below
-pub side-above : (grid above below : ℕ) → above ≤ below → below ≤ grid → side_at grid above ≡ 2 ^ (below - above) * side_at grid below
+pub side-above : (grid above below : ℕ) → above ≤ below → below ≤ grid → 2 ^ (grid - above) ≡ 2 ^ (below - above) * 2 ^ (grid - below)
 side-above grid above below p q = ap (λ n. 2 ^ n) (omega arith) ∙ pow-add 2 (below - above) (grid - below)
 
 -- a place in a cell is far from the centre of a cell that is no higher and doesn't touch it
@@ -186,7 +186,7 @@ offset_large b c x y same deeper le apart h =
     let s : ℕ = side c in
     let m : ℕ = 2 ^ (c.level - b.level) in
     let eh = ap half same in
-    let e : side b ≡ m * s = ap (λ g. side_at g b.level) same ∙ side-above c.grid b.level c.level deeper le in
+    let e : side b ≡ m * s = ap (λ g. 2 ^ (g - b.level)) same ∙ side-above c.grid b.level c.level deeper le in
     let ei : b.i * side b ≡ b.i * m * s = ap (λ n. b.i * n) e ∙ sym (mul_assoc b.i m s) in
     let ej : b.j * side b ≡ b.j * m * s = ap (λ n. b.j * n) e ∙ sym (mul_assoc b.j m s) in
     elim (gap b c same apart) [

@@ -1,11 +1,11 @@
 -- The quarters of a cell tile it, and ancestors.
-use Rattle.std.proofs.Common.{ℕ, ◌≡◌, ◌≢◌, ◌+◌, ◌-◌, ◌*◌, ◌/◌, ◌%◌, ◌^◌, ◌<◌, ◌≤◌, zero, suc, Bool, true, false, [], ◌∷◌, refl, sym, subst, ◌∙◌, ap, ap₂, arith}
+use Rattle.std.proofs.Common.{ℕ, ◌≡◌, ◌≢◌, ◌+◌, ◌-◌, ◌*◌, ◌/◌, ◌%◌, ◌^◌, ◌<◌, ◌≤◌, zero, suc, Bool, true, false, [], ◌∷◌, refl, sym, subst, ◌∙◌, ap, ap₂, arith, unsigned_abs}
 use Rattle.std.specs.Prelude.{ℤ, pos, ◌+ℤ◌, ◌-ℤ◌, ◌≤ℤ◌, ◌<ℤ◌, int_le, int_lt, ◌&&◌, not, All, AllPairs, Contains}
 use Rattle.std.proofs.lemmas.List.Elements.{All-from_recursion, All-nil}
 use Rattle.std.proofs.lemmas.List.Kept.{AllPairs-cons}
 use Rattle.std.proofs.lemmas.Int.{ints, by_lt_z}
 use Rattle.std.proofs.Math.Nat.{lt_of_mul-lt-mul_right, div-div-eq-div-mul, mul_comm}
-use Rattle.cell_name.specs.Square.{Square, side_at, side, half, corner_x, corner_y, Holds, holds_test, Touches, from_border, square_at, parent, child, ancestor}
+use Rattle.cell_name.specs.Square.{Square, side, half, corner_x, corner_y, Holds, holds_test, Touches, square_at, parent, child, ancestor}
 use Rattle.cell_name.specs.declared.cell.Quadrant.{Quadrant}
 use Rattle.cell_name.specs.Cell.{half_number}
 use Rattle.cell_name.specs.Quarters.{quarter, quarters, LiesInOneChild}
@@ -46,7 +46,7 @@ only_half a x i r t s west east west' east' =
 
 pub lies_in_one_child : (c : Square) (x y : ℤ) → c.level < c.grid → Holds c x y → LiesInOneChild c x y
 lies_in_one_child c x y lt h =
-    let s : ℕ = side_at c.grid (c.level + 1) in
+    let s : ℕ = 2 ^ (c.grid - (c.level + 1)) in
     let a : ℤ = pos (half c.grid) in
     let e : side c ≡ 2 * s = side-halves c.grid c.level lt in
     let across = half_with a x c.i s (begins a x c.i (side c) s e h.west) (ends a x c.i (side c) s e h.east) in
@@ -174,7 +174,7 @@ pub record IsByMiddle (c : Square) (x y : ℤ) (right top : Bool) : Type 0 where
 -- the middle is the corner of the quarter in the northeast
 pub quarters_by_middle : (c : Square) (x y : ℤ) → c.level < c.grid → Holds c x y → IsByMiddle c x y (int_le (corner_x (child c 1 1)) x) (int_le (corner_y (child c 1 1)) y)
 quarters_by_middle c x y lt h =
-    let s : ℕ = side_at c.grid (c.level + 1) in
+    let s : ℕ = 2 ^ (c.grid - (c.level + 1)) in
     let a : ℤ = pos (half c.grid) in
     let e : side c ≡ 2 * s = side-halves c.grid c.level lt in
     let west = first_half a x c.i s (begins a x c.i (side c) s e h.west) in
@@ -195,9 +195,9 @@ apart-children b c lo hi apart t = apart (Touches-parent b c lo hi t)
 -- the ancestor of a place's cell is the place's cell of the ancestor's level
 pub ancestor-square_at : (grid level above : ℕ) (x y : ℤ) → above ≤ level → level ≤ grid → ancestor (square_at grid level x y) above ≡ square_at grid above x y
 ancestor-square_at grid level above x y p q =
-    same_square (ancestor (square_at grid level x y) above) (square_at grid above x y) refl refl (both (from_border grid x)) (both (from_border grid y))
+    same_square (ancestor (square_at grid level x y) above) (square_at grid above x y) refl refl (both (unsigned_abs (x +ℤ pos (half grid)))) (both (unsigned_abs (y +ℤ pos (half grid))))
   where
-    both : (u : ℕ) → u / side_at grid level / 2 ^ (level - above) ≡ u / side_at grid above
+    both : (u : ℕ) → u / 2 ^ (grid - level) / 2 ^ (level - above) ≡ u / 2 ^ (grid - above)
     both u =
-        div-div-eq-div-mul u (side_at grid level) (2 ^ (level - above)) ∙
-        ap (λ n. u / n) (mul_comm (side_at grid level) (2 ^ (level - above)) ∙ sym (side-above grid above level p q))
+        div-div-eq-div-mul u (2 ^ (grid - level)) (2 ^ (level - above)) ∙
+        ap (λ n. u / n) (mul_comm (2 ^ (grid - level)) (2 ^ (level - above)) ∙ sym (side-above grid above level p q))

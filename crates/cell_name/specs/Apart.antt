@@ -1,18 +1,16 @@
 -- How far cells that don't touch are apart.
 use Rattle.std.specs.Prelude.{ℕ, ◌≤◌, ◌⊎◌, ℤ, pos, ◌+ℤ◌, ◌-ℤ◌, ◌≤ℤ◌, unsigned_abs, max}
+use Rattle.exact_math.specs.Gaussian.{Gaussian, gaussian}
 use Rattle.cell_name.specs.Square.{Square}
 
--- how many columns, or rows, `b` stands further than `c`: for cells of one level, the difference of their centres in sides
-abbrev pub columns_between : Square → Square → ℤ
-columns_between b c = pos b.i -ℤ pos c.i
-
-abbrev pub rows_between : Square → Square → ℤ
-rows_between b c = pos b.j -ℤ pos c.j
+-- how many sides the centre of b lies from that of c, for cells of one level: as many as columns and rows
+abbrev pub sides_between : Square → Square → Gaussian
+sides_between b c = gaussian (pos b.i -ℤ pos c.i) (pos b.j -ℤ pos c.j)
 
 -- the greater part of that difference is two or three
 pub record AreTwoOrThreeSidesApart (b c : Square) : Type 0 where
-  pub at_least_two : 2 ≤ max (unsigned_abs (columns_between b c)) (unsigned_abs (rows_between b c))
-  pub at_most_three : max (unsigned_abs (columns_between b c)) (unsigned_abs (rows_between b c)) ≤ 3
+  pub at_least_two : 2 ≤ max (unsigned_abs (sides_between b c).re) (unsigned_abs (sides_between b c).im)
+  pub at_most_three : max (unsigned_abs (sides_between b c).re) (unsigned_abs (sides_between b c).im) ≤ 3
 
 -- a coordinate of one place is at least `s` further than that of the other
 pub record AreApart (s : ℕ) (x x' : ℤ) : Type 0 where

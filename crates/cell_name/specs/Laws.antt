@@ -1,7 +1,7 @@
 -- The laws of cells, each over plain variables.
 use Rattle.std.specs.Prelude.{ℕ, ◌≡◌, ◌+◌, ◌*◌, ◌≤◌, ◌<◌, ◌⊎◌, ◌↔◌, ℤ, IsTrue, pos, ◌+ℤ◌, ◌*ℤ◌, unsigned_abs}
 use Rattle.cell_name.specs.Square.{Square, side, parent, child, ancestor, square_at, IsInGrid, Holds, holds_test, ClosedHolds, Touches, offset_x, offset_y, doubled_centre_x, doubled_centre_y}
-use Rattle.cell_name.specs.Apart.{AreTwoOrThreeSidesApart, AreApart, IsLarge, columns_between, rows_between}
+use Rattle.cell_name.specs.Apart.{AreTwoOrThreeSidesApart, AreApart, IsLarge, sides_between}
 use Rattle.cell_name.specs.Quarters.{LiesInOneChild}
 
 -- a cell holds a place exactly where it is the place's cell of its level
@@ -60,7 +60,7 @@ OffsetIsSmall = (c : Square) (x y : ℤ) → Holds c x y → (unsigned_abs (offs
 -- the centres of two cells of one level differ by as many sides as their columns and rows
 abbrev pub CentresDifferBySides : Type 0
 CentresDifferBySides =
-    (b c : Square) → b.grid ≡ c.grid → b.level ≡ c.level → (doubled_centre_x b ≡ doubled_centre_x c +ℤ pos (2 * side c) *ℤ columns_between b c) × (doubled_centre_y b ≡ doubled_centre_y c +ℤ pos (2 * side c) *ℤ rows_between b c)
+    (b c : Square) → b.grid ≡ c.grid → b.level ≡ c.level → (doubled_centre_x b ≡ doubled_centre_x c +ℤ pos (2 * side c) *ℤ (sides_between b c).re) × (doubled_centre_y b ≡ doubled_centre_y c +ℤ pos (2 * side c) *ℤ (sides_between b c).im)
 
 -- two cells of one level whose parents touch and that don't touch
 abbrev pub PairIsTwoOrThreeApart : Type 0

@@ -18,12 +18,9 @@ root grid = record { grid = grid; level = 0; i = 0; j = 0 }
 abbrev pub no_square : Square
 no_square = root 0
 
--- the side of the cells of a level
-abbrev pub side_at : ℕ → ℕ → ℕ
-side_at grid level = 2 ^ (grid - level)
-
+-- each level halves it
 abbrev pub side : Square → ℕ
-side c = side_at c.grid c.level
+side c = 2 ^ (c.grid - c.level)
 
 abbrev pub corner_x : Square → ℤ
 corner_x c = pos (c.i * side c) -ℤ pos (half c.grid)
@@ -67,8 +64,7 @@ pub record Holds (c : Square) (x y : ℤ) : Type 0 where
 
 -- `Holds` as a test, by which the points of a cell are counted
 abbrev pub holds_test : Square → ℤ → ℤ → Bool
-holds_test c x y =
-    int_le (corner_x c) x && int_lt x (corner_x c +ℤ pos (side c)) && int_le (corner_y c) y && int_lt y (corner_y c +ℤ pos (side c))
+holds_test c x y = int_le (corner_x c) x && int_lt x (corner_x c +ℤ pos (side c)) && int_le (corner_y c) y && int_lt y (corner_y c +ℤ pos (side c))
 
 -- the closed square has the place
 pub record ClosedHolds (c : Square) (x y : ℤ) : Type 0 where
@@ -84,14 +80,10 @@ pub record Touches (b c : Square) : Type 0 where
   pub south : corner_y b ≤ℤ (corner_y c +ℤ pos (side c))
   pub north : corner_y c ≤ℤ (corner_y b +ℤ pos (side b))
 
--- how far a place lies from the west or the south border of the grid
-abbrev pub from_border : ℕ → ℤ → ℕ
-from_border grid x = unsigned_abs (x +ℤ pos (half grid))
-
--- the cell of a level that holds a place of the grid
+-- the cell of a level that holds a place of the grid, by how far the place lies from the west and the south border
 abbrev pub square_at : ℕ → ℕ → ℤ → ℤ → Square
-square_at grid level x y =
-    record { grid = grid; level = level; i = from_border grid x / side_at grid level; j = from_border grid y / side_at grid level }
+square_at grid level x y = let s = 2 ^ (grid - level) in
+    record { grid = grid; level = level; i = unsigned_abs (x +ℤ pos (half grid)) / s; j = unsigned_abs (y +ℤ pos (half grid)) / s }
 
 -- the cell of the level above that has the cell as a quarter
 abbrev pub parent : Square → Square

@@ -1,11 +1,11 @@
 -- The zero box under the operations on boxes.
 use Rattle.std.proofs.Common.{◌≡◌, refl, ap, ◌∙◌, arith, ℤ, pos, negsuc, ◌+ℤ◌, ◌*ℤ◌, ◌≤ℤ◌}
 use Rattle.std.proofs.lemmas.Int.{ints}
-use Rattle.exact_math.specs.Ends.{BoxEnds, point_ends, add_ends, sub_ends, zero_box, add_box, scale_ends, scale_box, gscale_box, quot_box, gquot_box}
+use Rattle.exact_math.specs.Ends.{BoxEnds, add_ends, sub_ends, zero_box, add_box, scale_ends, scale_box, gscale_box, quot_box, gquot_box}
 use Rattle.exact_math.specs.Gaussian.{Gaussian}
 use Rattle.exact_math.specs.Rounding.{floor_div}
 
-zero_times : (k : ℤ) → scale_ends (point_ends (pos 0)) k ≡ point_ends (pos 0)
+zero_times : (k : ℤ) → scale_ends (record { lo = (pos 0); hi = (pos 0) }) k ≡ (record { lo = (pos 0); hi = (pos 0) })
 zero_times k = let e : pos 0 *ℤ k ≡ pos 0 = omega (arith, ints) in rw e refl
 
 pub zero_scaled : (k : ℤ) → scale_box zero_box k ≡ zero_box

@@ -10,12 +10,12 @@ use Rattle.std.proofs.lemmas.Map.Views.{length-le_from_below}
 use Rattle.std.proofs.lemmas.Option.{slice_get-get_or}
 use Rattle.cell_name.proofs.HoldsTest.{Holds-from_test}
 use Rattle.quadtree.proofs.TreeChildren.{tree_cell_at}
-use Rattle.cell_lists.specs.Entries.{IsEntry, IsVPair, IsWPair}
+use Rattle.cell_lists.specs.Entries.{IsEntry, IsPair}
 use Rattle.cell_lists.specs.EntryLists.{lists_of, EntryListsModel}
 use Rattle.cell_lists.specs.Lists.{IsListOf}
 use Rattle.cell_lists.specs.ListAt.{list_at}
 use Rattle.letters.specs.declared.Letter.{Letter}
-use Rattle.letters.specs.declared.Letter.TheVariants.{V, X}
+use Rattle.letters.specs.declared.Letter.TheVariants.{V, X, W}
 use Rattle.cell_name.proofs.Cells.{Touches-sym}
 use Rattle.limits.proofs.Grids.{within_widest}
 use Rattle.limits.specs.Limits.{most_points, widest_grid}
@@ -55,18 +55,18 @@ module _ (P : ℕ) (b : BasisModel) (is : IsBasis P b) (n : ℕ) (lt : n < size 
       let list = the_list letter in
       (list.exact (get_or (list_at (lists_of lists letter) n) k d) (list.numbers k d h)).0 (Contains-get_or (list_at (lists_of lists letter) n) k d h)
 
-  v_entry_at : (c : ℕ) → c < size tree → IsVPair tree.grid points b.cap (square_of tree n) (square_of tree c) → IsVEntryAt tree n c
+  v_entry_at : (c : ℕ) → c < size tree → IsPair tree.grid points b.cap V (square_of tree n) (square_of tree c) → IsVEntryAt tree n c
   v_entry_at c h e = record {
     in_range = h;
-    distance = (pairs_of_cells (square_of tree n) (square_of tree c) (grid_is n lt ∙ sym (grid_is c h)) e.come_apart.same_level e.come_apart.apart e.come_apart.parents_touch).kernel;
+    distance = (pairs_of_cells (square_of tree n) (square_of tree c) (grid_is n lt ∙ sym (grid_is c h)) e.2.same_level e.2.apart e.2.parents_touch).kernel;
   }
 
-  far_position : (c k : ℕ) → c < size tree → IsWPair tree.grid points b.cap (square_of tree c) (square_of tree n) → Contains (members_of points (square_of tree c)) k → IsFarPosition points (square_of tree n) k
+  far_position : (c k : ℕ) → c < size tree → IsPair tree.grid points b.cap W (square_of tree c) (square_of tree n) → Contains (members_of points (square_of tree c)) k → IsFarPosition points (square_of tree n) k
   far_position c k h e m = record {
     inside = inside;
     range = subst (λ grid. InRange grid (point_at points k)) (sym (grid_is n lt)) (is.within.range k no_point inside);
-    far = far_places (square_of tree c) (square_of tree n) (point_at points k).x (point_at points k).y (grid_is c h ∙ sym (grid_is n lt)) (omega (arith, e.comes_apart.deeper)) (omega (arith, grid_is n lt, level_is n lt))
-        (λ t. e.comes_apart.apart (Touches-sym (square_of tree c) (square_of tree n) t))
+    far = far_places (square_of tree c) (square_of tree n) (point_at points k).x (point_at points k).y (grid_is c h ∙ sym (grid_is n lt)) (omega (arith, e.2.deeper)) (omega (arith, grid_is n lt, level_is n lt))
+        (λ t. e.2.apart (Touches-sym (square_of tree c) (square_of tree n) t))
         (Holds-from_test (square_of tree c) (point_at points k).x (point_at points k).y (sym (ap (holds_point (square_of tree c)) (slice_get-get_or points k no_point inside)) ∙ held));
   }
     where
@@ -82,7 +82,7 @@ module _ (P : ℕ) (b : BasisModel) (is : IsBasis P b) (n : ℕ) (lt : n < size 
       let le = length-filter_both (λ j. holds_position (square_of tree c) points j) (λ j. not (holds_position (square_of tree c) points j)) (λ j. refl) (range_with_len 0 (length points)) in
       omega (arith, e, le, length-range_with_len 0 (length points), is.within.count, (within_widest tree.grid is.is_tree.known_grid).points)
 
-  far_cell : (c : ℕ) → c < size tree → IsWPair tree.grid points b.cap (square_of tree c) (square_of tree n) → IsFarCell tree points (square_of tree n) c
+  far_cell : (c : ℕ) → c < size tree → IsPair tree.grid points b.cap W (square_of tree c) (square_of tree n) → IsFarCell tree points (square_of tree n) c
   far_cell c h e = record {
     in_range = h;
     few = few_members c h;

@@ -20,14 +20,13 @@ use Rattle.quadtree.proofs.Limits.{in_grid}
 use Rattle.exact_math.proofs.Lists.{image_of}
 use Rattle.quadtree.specs.TreeModel.{size, square_of, node_of}
 use Rattle.row_recursions.proofs.RowSizes.{power_positive}
-use Rattle.row_recursions.specs.Geometry.{sides_between}
 use Rattle.row_recursions.specs.Rows.{converted, far_source, AreSameRows}
-use Rattle.soundness.specs.Computed.{total_row, total_box, far_coefficients_in}
+use Rattle.soundness.specs.Computed.{total_row, total_box}
 use Rattle.soundness.specs.Squares.{IsFarFrom, offset, quadrant}
 use Rattle.tree_field.proofs.LocalRows.{local_row-below, local_radius-below}
 use Rattle.tree_field.proofs.Program.{nodes_of_tree}
 use Rattle.soundness.proofs.Sums.{total_box-map, total_box-fewer, sum_by-map}
-use Rattle.tree_field.specs.Field.{sources_in, multipole_row, converted_rows, far_rows, local_row, local_radius, pair_radius_in, single_radius_in}
+use Rattle.tree_field.specs.Field.{sources_in, multipole_row, local_row, local_radius, pair_loss_in, single_loss_in}
 use Rattle.tree_field.specs.Lists.{TreeLists, AreTreeLists}
 use Rattle.field_basis.specs.Basis.{BasisModel, IsBasis}
 use Rattle.field_basis.specs.Targets.{no_point, point_at}
@@ -35,6 +34,9 @@ use Rattle.downward_rows.specs.Entries.{far_row_at, v_rows_of, x_entry, x_rows_o
 use Rattle.downward_rows.specs.Radii.{v_losses_of, x_losses_of}
 use Rattle.downward_rows.proofs.Lists.{entries_by_number}
 use Rattle.downward_rows.proofs.SameRows.{shifted_down_same}
+use Rattle.row_recursions.specs.Cells.{far_coefficients_in}
+use Rattle.soundness.specs.Steps.{v_rows, x_rows}
+use Rattle.cell_name.specs.Apart.{sides_between}
 
 -- ---- the points of a far cell
 -- a target far from a cell adds nothing
@@ -72,12 +74,12 @@ module _ (P : ℕ) (b : BasisModel) (is : IsBasis P b) (n : ℕ) (lt : n < size 
       ∙ ap (λ l. total_row (far_coefficients_in (square_of b.tree n)) l k) ((nodes_of_tree b.tree b.points b.cap (in_grid b.tree.grid b.points is.within.range) is.is_tree c far.in_range).members no_point)
 
   module _ (lists : TreeLists) (are : AreTreeLists b.tree.grid b.points b.cap lists) where
-    v_rows_are : (k : ℕ) → v_rows_of P b n k ≡ converted_rows b.points b.cap P lists (square_of b.tree n) k
+    v_rows_are : (k : ℕ) → v_rows_of P b n k ≡ v_rows (λ c. c) (multipole_row b.points b.cap) P (square_of b.tree n) (lists.entries V (square_of b.tree n)) k
     v_rows_are k =
         sym (total_box-map (λ c. converted P (kernel_entry (sides_between (square_of b.tree n) c)) (multipole_row b.points b.cap c) k) (square_of b.tree) (list_at b.lists.v n))
         ∙ ap (λ l. total_box (λ c. converted P (kernel_entry (sides_between (square_of b.tree n) c)) (multipole_row b.points b.cap c) k) l) (sym (entries_by_number P b is V n lt lists are))
 
-    x_rows_are : (k : ℕ) → x_rows_of b n k ≡ far_rows b.points b.cap P lists (square_of b.tree n) k
+    x_rows_are : (k : ℕ) → x_rows_of b n k ≡ x_rows (λ p. p) (sources_in b.points) (square_of b.tree n) (lists.entries X (square_of b.tree n)) k
     x_rows_are k =
         sym (total_box-map (λ c. total_row (far_coefficients_in (square_of b.tree n)) (sources_in b.points c) k) (square_of b.tree) (list_at b.lists.x n))
         ∙ ap (λ l. total_box (λ c. total_row (far_coefficients_in (square_of b.tree n)) (sources_in b.points c) k) l) (sym (entries_by_number P b is X n lt lists are))
@@ -87,15 +89,15 @@ module _ (P : ℕ) (b : BasisModel) (is : IsBasis P b) (n : ℕ) (lt : n < size 
         ap₂ add_box (shifted_down_same P m (local_row b.points b.cap P lists (parent (square_of b.tree n))) (quadrant (square_of b.tree n)) same k) (ap₂ add_box (v_rows_are k) (x_rows_are k))
         ∙ sym (local_row-below b.points b.cap P lists (square_of b.tree n) lo k)
 
-    pub v_losses_are : v_losses_of P b n ≡ sum_by (pair_radius_in b.points P (side (square_of b.tree n))) (lists.entries V (square_of b.tree n))
+    pub v_losses_are : v_losses_of P b n ≡ sum_by (pair_loss_in b.points P (side (square_of b.tree n))) (lists.entries V (square_of b.tree n))
     v_losses_are =
-        sym (sum_by-map (pair_radius_in b.points P (side (square_of b.tree n))) (square_of b.tree) (list_at b.lists.v n))
-        ∙ ap (λ l. sum_by (pair_radius_in b.points P (side (square_of b.tree n))) l) (sym (entries_by_number P b is V n lt lists are))
+        sym (sum_by-map (pair_loss_in b.points P (side (square_of b.tree n))) (square_of b.tree) (list_at b.lists.v n))
+        ∙ ap (λ l. sum_by (pair_loss_in b.points P (side (square_of b.tree n))) l) (sym (entries_by_number P b is V n lt lists are))
 
-    pub x_losses_are : x_losses_of P b n ≡ sum_by (single_radius_in b.points P (side (square_of b.tree n))) (lists.entries X (square_of b.tree n))
+    pub x_losses_are : x_losses_of P b n ≡ sum_by (single_loss_in b.points P (side (square_of b.tree n))) (lists.entries X (square_of b.tree n))
     x_losses_are =
-        sym (sum_by-map (single_radius_in b.points P (side (square_of b.tree n))) (square_of b.tree) (list_at b.lists.x n))
-        ∙ ap (λ l. sum_by (single_radius_in b.points P (side (square_of b.tree n))) l) (sym (entries_by_number P b is X n lt lists are))
+        sym (sum_by-map (single_loss_in b.points P (side (square_of b.tree n))) (square_of b.tree) (list_at b.lists.x n))
+        ∙ ap (λ l. sum_by (single_loss_in b.points P (side (square_of b.tree n))) l) (sym (entries_by_number P b is X n lt lists are))
 
     pub radius_is : 0 < (square_of b.tree n).level → local_radius b.points b.cap P lists (parent (square_of b.tree n)) + (v_losses_of P b n + x_losses_of P b n) ≡ local_radius b.points b.cap P lists (square_of b.tree n)
     radius_is lo =

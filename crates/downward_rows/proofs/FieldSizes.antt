@@ -9,7 +9,6 @@ use Rattle.soundness.proofs.RowTotals.{wider}
 use Rattle.limits.proofs.Grids.{within_widest}
 use Rattle.limits.specs.Limits.{most_multipole, most_local, widest_grid}
 use Rattle.places.specs.Place.{PlaceModel}
-use Rattle.quadtree.specs.Tree.{HasTarget}
 use Rattle.quadtree.specs.TreeModel.{size, square_of, node_of}
 use Rattle.row_recursions.specs.Rows.{row_of}
 use Rattle.row_recursions.specs.Sizes.{RowWithin}
@@ -19,6 +18,7 @@ use Rattle.field_basis.proofs.Sizes.{some_lists, known, limited, tree_cell_of_li
 use Rattle.field_basis.specs.Basis.{BasisModel, IsBasis}
 use Rattle.field_basis.specs.FieldPlaces.{IsMultipolePlace, IsLocalPlace}
 use Rattle.downward_rows.proofs.SameRows.{within_same}
+use Rattle.quadtree.specs.Tree.{has_target}
 
 module _ (P : ℕ) (b : BasisModel) (is : IsBasis P b) where
   module _ (n : ℕ) (lt : n < size b.tree) where
@@ -27,7 +27,7 @@ module _ (P : ℕ) (b : BasisModel) (is : IsBasis P b) where
         within_same P (2 ^ 80) (row_of place.row) (multipole_row b.points b.cap (square_of b.tree n)) (here.row_is b.cap is.is_tree)
         (wider P (most_multipole widest_grid) (2 ^ 80) (multipole_row b.points b.cap (square_of b.tree n)) (omega arith) (multipole_within P b is n lt))
 
-    target_or_not : {A : Type 0} → (HasTarget b.points (square_of b.tree n) → A) → ((HasTarget b.points (square_of b.tree n) → ⊥) → A) → A
+    target_or_not : {A : Type 0} → (IsTrue (has_target b.points (square_of b.tree n)) → A) → ((IsTrue (has_target b.points (square_of b.tree n)) → ⊥) → A) → A
     target_or_not there none = ⊎_elim
         (λ e. there ((is.is_tree.nodes_are n lt).target.0 e))
         (λ e. none (λ t. true≢false (sym ((is.is_tree.nodes_are n lt).target.1 t) ∙ e)))

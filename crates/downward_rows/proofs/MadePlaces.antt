@@ -10,7 +10,6 @@ use Rattle.cell_lists.specs.ListAt.{list_at}
 use Rattle.complex_box.specs.Counts.{Counts}
 use Rattle.complex_box.specs.declared.CBox.{CBox}
 use Rattle.places.specs.Place.{PlaceModel, no_place, place_at}
-use Rattle.quadtree.specs.Tree.{HasTarget}
 use Rattle.quadtree.specs.TreeModel.{IsTree, size, square_of, node_of}
 use Rattle.row_recursions.specs.Rows.{row_of, AreSameRows}
 use Rattle.row_recursions.specs.Sizes.{RowWithin}
@@ -27,6 +26,7 @@ use Rattle.downward_rows.proofs.FieldRows.{row_is, radius_is}
 use Rattle.field_basis.proofs.Sizes.{some_lists}
 use Rattle.downward_rows.proofs.FieldSizes.{local_small, radius_small}
 use Rattle.downward_rows.proofs.Trees.{target_of_parent}
+use Rattle.quadtree.specs.Tree.{has_target}
 use mir.Syntax.{w128}
 
 -- the sum of two radii, as it comes back from a call
@@ -75,7 +75,7 @@ module _ (P : ℕ) (b : BasisModel) (is : IsBasis P b) (n : ℕ) (lt : n < size 
 
   -- below the root, where the cell has a target
   module _ (lo : 0 < n) (has : (node_of b.tree n).has_target ≡ true) (above : PlaceModel) (parent_is : IsLocalPlace P b (node_of b.tree n).parent above) where
-    target : HasTarget b.points (square_of b.tree n)
+    target : IsTrue (has_target b.points (square_of b.tree n))
     target = (is.is_tree.nodes_are n lt).target.0 has
 
     level : 0 < (square_of b.tree n).level

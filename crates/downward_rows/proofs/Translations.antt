@@ -35,7 +35,7 @@ module _ (P : ℕ) (b : BasisModel) (is : IsBasis P b) where
     | inl lo ↦
         let e = entry_at P b is n lt V 0 0 lo in
         let root : n ≡ 0 → (square_of b.tree n).level ≡ 0 = λ z. ap (λ m. (square_of b.tree m).level) z ∙ first_level b.tree (some_tree b.points b.tree (tree_of_basis P b is)) (omega arith) in
-        let below : 0 < n = elim (cases_lt 0 n) [ inl l ↦ l | inr le ↦ absurd (omega (arith, root (omega arith), e.pair.come_apart.below_root)) ] in
+        let below : 0 < n = elim (cases_lt 0 n) [ inl l ↦ l | inr le ↦ absurd (omega (arith, root (omega arith), e.pair.2.below_root)) ] in
         absurd (true≢false (sym (and_from (nat_lt 0 n) (node_of b.tree n).has_target (lt-ltb 0 n below) ((is.is_tree.nodes_are n lt).target.1 e.target)) ∙ out))
   ]
 

@@ -10,7 +10,6 @@ use Rattle.complex_box.specs.declared.CBox.{CBox}
 use Rattle.kernel_table.specs.Kernel.{kernel_entry}
 use Rattle.places.specs.Place.{PlaceModel, no_place, place_at}
 use Rattle.quadtree.specs.TreeModel.{TreeModel, size, square_of}
-use Rattle.row_recursions.specs.Geometry.{sides_between}
 use Rattle.row_recursions.specs.Rows.{row_of, converted}
 use Rattle.row_recursions.specs.Sizes.{RowWithin}
 use Rattle.tree_field.specs.Field.{multipole_row}
@@ -19,6 +18,7 @@ use Rattle.field_basis.specs.FieldPlaces.{IsMultipolePlace}
 use Rattle.downward_rows.specs.Entries.{v_entry}
 use Rattle.downward_rows.proofs.FieldSizes.{multipole_small}
 use Rattle.downward_rows.proofs.SameRows.{converted_same}
+use Rattle.cell_name.specs.Apart.{sides_between}
 
 pub place_read : (places : List PlaceModel) (n : ℕ) (p : PlaceModel) → n < length places → p ≡ slice_index_or places n p → p ≡ place_at places n
 place_read places n p lt e = e ∙ get_or_default places n p no_place lt

@@ -4,11 +4,11 @@ use Rattle.exact_math.proofs.Orders.{order_bounds}
 use Rattle.cell_name.specs.Square.{side}
 use Rattle.field_sizes.proofs.Disjoint.{entries_share_no_source}
 use Rattle.field_sizes.proofs.EntrySums.{sum_by-entries}
-use Rattle.field_sizes.proofs.Radii.{pair_radius-within, single_radius-within}
+use Rattle.field_sizes.proofs.Radii.{pair_loss-within, single_loss-within}
 use Rattle.letters.specs.declared.Letter.TheVariants.{V, X}
 use Rattle.limits.proofs.Grids.{within_widest}
 use Rattle.quadtree.specs.TreeModel.{size, square_of}
-use Rattle.tree_field.specs.Field.{pair_radius_in, single_radius_in}
+use Rattle.tree_field.specs.Field.{pair_loss_in, single_loss_in}
 use Rattle.tree_field.specs.Lists.{TreeLists, AreTreeLists}
 use Rattle.field_basis.proofs.Sizes.{some_lists, limited, tree_cell_of_lists}
 use Rattle.field_basis.specs.Basis.{BasisModel, IsBasis}
@@ -25,11 +25,11 @@ module _ (P : ℕ) (b : BasisModel) (is : IsBasis P b) (n : ℕ) (lt : n < size 
   pub v_losses_light : v_losses_of P b n ≤ 2 ^ 77
   v_losses_light =
       let whole = sum_by-entries entries_share_no_source b.points b.cap some.0 (limited P b is some.0 some.1) V (square_of b.tree n) (tree_cell_of_lists P b is some.0 some.1 n lt) P (2 ^ 41)
-      (pair_radius_in b.points P (side (square_of b.tree n))) few (pair_radius-within b.points P (square_of b.tree n)) in
+      (pair_loss_in b.points P (side (square_of b.tree n))) few (pair_loss-within b.points P (square_of b.tree n)) in
       omega (arith, v_losses_are P b is n lt some.0 some.1, whole, is.within.weight, (within_widest b.tree.grid is.is_tree.known_grid).weight)
 
   pub x_losses_light : x_losses_of P b n ≤ 2 ^ 77
   x_losses_light =
       let whole = sum_by-entries entries_share_no_source b.points b.cap some.0 (limited P b is some.0 some.1) X (square_of b.tree n) (tree_cell_of_lists P b is some.0 some.1 n lt) P (2 ^ 40)
-      (single_radius_in b.points P (side (square_of b.tree n))) few (single_radius-within b.points P (square_of b.tree n)) in
+      (single_loss_in b.points P (side (square_of b.tree n))) few (single_loss-within b.points P (square_of b.tree n)) in
       omega (arith, x_losses_are P b is n lt some.0 some.1, whole, is.within.weight, (within_widest b.tree.grid is.is_tree.known_grid).weight)

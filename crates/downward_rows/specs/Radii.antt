@@ -1,22 +1,21 @@
 -- What the entries of a cell can lose by truncation.
-use Rattle.std.specs.Prelude.{ℕ}
+use Rattle.std.specs.Prelude.{ℕ, sum_by}
 use Rattle.cell_lists.specs.ListAt.{list_at}
 use Rattle.cell_name.specs.Square.{side}
 use Rattle.quadtree.specs.TreeModel.{square_of}
-use Rattle.soundness.specs.Steps.{v_losses, x_losses}
-use Rattle.tree_field.specs.Field.{weight_in, pair_radius_in, single_radius_in}
+use Rattle.tree_field.specs.Field.{pair_loss_in, single_loss_in}
 use Rattle.field_basis.specs.Basis.{BasisModel}
 
 -- a cell c of the V list of cell n, and all of them
 abbrev pub v_loss : ℕ → BasisModel → ℕ → ℕ → ℕ
-v_loss P b n c = pair_radius_in b.points P (side (square_of b.tree n)) (square_of b.tree c)
+v_loss P b n c = pair_loss_in b.points P (side (square_of b.tree n)) (square_of b.tree c)
 
 abbrev pub v_losses_of : ℕ → BasisModel → ℕ → ℕ
-v_losses_of P b n = v_losses P (λ c. weight_in b.points P (square_of b.tree c)) (side (square_of b.tree n)) (list_at b.lists.v n)
+v_losses_of P b n = sum_by (v_loss P b n) (list_at b.lists.v n)
 
 -- a cell c of its X list, and all of them
 abbrev pub x_loss : ℕ → BasisModel → ℕ → ℕ → ℕ
-x_loss P b n c = single_radius_in b.points P (side (square_of b.tree n)) (square_of b.tree c)
+x_loss P b n c = single_loss_in b.points P (side (square_of b.tree n)) (square_of b.tree c)
 
 abbrev pub x_losses_of : ℕ → BasisModel → ℕ → ℕ
-x_losses_of P b n = x_losses P (λ c. weight_in b.points P (square_of b.tree c)) (side (square_of b.tree n)) (list_at b.lists.x n)
+x_losses_of P b n = sum_by (x_loss P b n) (list_at b.lists.x n)

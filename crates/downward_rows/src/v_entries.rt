@@ -4,13 +4,13 @@ ghost use Rattle.complex_box.specs.Box.{number};
 ghost use Rattle.cell_name.specs.Cell.{square};
 ghost use Rattle.cell_lists.specs.ListAt.{list_at};
 ghost use Rattle.quadtree.specs.TreeModel.{size};
-ghost use Rattle.row_recursions.specs.Geometry.{sides_between};
 ghost use Rattle.row_recursions.specs.Rows.{row_of, RowsAdd};
 ghost use Rattle.row_recursions.specs.Sizes.{RowWithin};
 ghost use Rattle.places.specs.Place.{place_at};
 ghost use Rattle.field_basis.specs.Counts.{translated};
 ghost use Rattle.field_basis.specs.FieldPlaces.{AreMultipolePlaces, IsMultipolePlace};
 ghost use Rattle.downward_rows.specs.Entries.{IsVEntryAt, v_entry, v_rows_of};
+ghost use Rattle.cell_name.specs.Apart.{sides_between};
 
 use cell_name::Cell;
 use complex_box::{CBox, Gauss, Work};

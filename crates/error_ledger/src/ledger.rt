@@ -2,7 +2,7 @@
 ghost use Rattle.std.specs.Int.{div_ceil};
 ghost use Rattle.std.specs.Prelude.{◌≡◌, ℕ, ◌+◌, ◌-◌, ◌*◌, ◌^◌, ◌≤◌, ◌<◌, pos, ◌≤ℤ◌, ◌<ℤ◌, unsigned_abs};
 ghost use Rattle.limits.specs.Limits.{widest_grid};
-ghost use Rattle.truncation.specs.Tails.{pair_tail as tail_of_pairs, single_tail as tail_of_singles, pair_radius, single_radius};
+ghost use Rattle.truncation.specs.Tails.{pair_tail as tail_of_pairs, single_tail as tail_of_singles, pair_loss, single_loss};
 ghost use Rattle.truncation.specs.Truncation.{MakesUp};
 
 use std::marker::Model;
@@ -51,8 +51,8 @@ impl Ledger {
         requires most_side { side ≤ℤ pos (2 ^ widest_grid) }
         requires least { 1 ≤ order }
         requires most { order ≤ 32 }
-        requires room { self.old + pair_radius order (unsigned_abs weight) (unsigned_abs side) < 2 ^ 100 }
-        ensures added { self.new ≡ self.old + pair_radius order (unsigned_abs weight) (unsigned_abs side) }
+        requires room { self.old + pair_loss order (unsigned_abs weight) (unsigned_abs side) < 2 ^ 100 }
+        ensures added { self.new ≡ self.old + pair_loss order (unsigned_abs weight) (unsigned_abs side) }
         ensures bounds { MakesUp (unsigned_abs weight * tail_of_pairs order) (unsigned_abs side) (self.new - self.old) }
     {
         let tail = pair_tail(order).unsigned_abs();
@@ -68,8 +68,8 @@ impl Ledger {
         requires most_side { side ≤ℤ pos (2 ^ widest_grid) }
         requires least { 1 ≤ order }
         requires most { order ≤ 32 }
-        requires room { self.old + single_radius order (unsigned_abs weight) (unsigned_abs side) < 2 ^ 100 }
-        ensures added { self.new ≡ self.old + single_radius order (unsigned_abs weight) (unsigned_abs side) }
+        requires room { self.old + single_loss order (unsigned_abs weight) (unsigned_abs side) < 2 ^ 100 }
+        ensures added { self.new ≡ self.old + single_loss order (unsigned_abs weight) (unsigned_abs side) }
         ensures bounds { MakesUp (unsigned_abs weight * tail_of_singles order) (unsigned_abs side) (self.new - self.old) }
     {
         let tail = single_tail(order).unsigned_abs();

@@ -17,10 +17,6 @@ pub record BoxEnds : Type 0 where
   pub re : Ends
   pub im : Ends
 
--- [n, n]
-abbrev pub point_ends : ℤ → Ends
-point_ends n = record { lo = n; hi = n }
-
 abbrev pub add_ends : Ends → Ends → Ends
 add_ends i j = record { lo = i.lo +ℤ j.lo; hi = i.hi +ℤ j.hi }
 
@@ -47,10 +43,8 @@ scale_ends i k = record { lo = int_min (i.lo *ℤ k) (i.hi *ℤ k); hi = int_max
 
 -- the least and the greatest of the four products of ends
 abbrev pub times_ends : Ends → Ends → Ends
-times_ends i j = record {
-  lo = least (i.lo *ℤ j.lo) (i.lo *ℤ j.hi) (i.hi *ℤ j.lo) (i.hi *ℤ j.hi);
-  hi = greatest (i.lo *ℤ j.lo) (i.lo *ℤ j.hi) (i.hi *ℤ j.lo) (i.hi *ℤ j.hi);
-}
+times_ends i j =
+    record { lo = least (i.lo *ℤ j.lo) (i.lo *ℤ j.hi) (i.hi *ℤ j.lo) (i.hi *ℤ j.hi); hi = greatest (i.lo *ℤ j.lo) (i.lo *ℤ j.hi) (i.hi *ℤ j.lo) (i.hi *ℤ j.hi) }
 
 -- the quotient by n, rounded outward, for n above 0
 abbrev pub quot_ends : Ends → ℤ → Ends
@@ -62,8 +56,9 @@ widen_ends i r = record { lo = i.lo -ℤ r; hi = i.hi +ℤ r }
 
 -- ---- boxes
 
+-- the number x + i y
 abbrev pub point_box : ℤ → ℤ → BoxEnds
-point_box x y = record { re = point_ends x; im = point_ends y }
+point_box x y = record { re = record { lo = x; hi = x }; im = record { lo = y; hi = y } }
 
 abbrev pub zero_box : BoxEnds
 zero_box = point_box (pos 0) (pos 0)
@@ -85,17 +80,11 @@ scale_box b k = record { re = scale_ends b.re k; im = scale_ends b.im k }
 
 -- re re - im im, and re im + im re
 abbrev pub times_box : BoxEnds → BoxEnds → BoxEnds
-times_box b c = record {
-  re = sub_ends (times_ends b.re c.re) (times_ends b.im c.im);
-  im = add_ends (times_ends b.re c.im) (times_ends b.im c.re);
-}
+times_box b c = record { re = sub_ends (times_ends b.re c.re) (times_ends b.im c.im); im = add_ends (times_ends b.re c.im) (times_ends b.im c.re) }
 
 -- the product with a Gaussian integer
 abbrev pub gscale_box : BoxEnds → Gaussian → BoxEnds
-gscale_box b g = record {
-  re = sub_ends (scale_ends b.re g.re) (scale_ends b.im g.im);
-  im = add_ends (scale_ends b.re g.im) (scale_ends b.im g.re);
-}
+gscale_box b g = record { re = sub_ends (scale_ends b.re g.re) (scale_ends b.im g.im); im = add_ends (scale_ends b.re g.im) (scale_ends b.im g.re) }
 
 abbrev pub quot_box : BoxEnds → ℤ → BoxEnds
 quot_box b n = record { re = quot_ends b.re n; im = quot_ends b.im n }

@@ -51,11 +51,7 @@ whole_complex g = record { re = g.re; im = g.im; denominator = pos 1 }
 -- x + y, as (R, I, D) + (r, i, d) = (R d + r D, I d + i D, D d)
 infixl 6 ◌+ᶜ◌ ◌-ᶜ◌
 abbrev pub ◌+ᶜ◌ : ComplexRatio → ComplexRatio → ComplexRatio
-x +ᶜ y = record {
-  re = x.re *ℤ y.denominator +ℤ y.re *ℤ x.denominator;
-  im = x.im *ℤ y.denominator +ℤ y.im *ℤ x.denominator;
-  denominator = x.denominator *ℤ y.denominator;
-}
+x +ᶜ y = let D = x.denominator in let d = y.denominator in record { re = x.re *ℤ d +ℤ y.re *ℤ D; im = x.im *ℤ d +ℤ y.im *ℤ D; denominator = D *ℤ d }
 
 -- -x
 abbrev pub neg_complex : ComplexRatio → ComplexRatio

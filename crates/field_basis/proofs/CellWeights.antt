@@ -22,18 +22,15 @@ use Rattle.quadtree.proofs.Limits.{in_grid}
 use Rattle.quadtree.specs.Members.{holds_position, members_of}
 use Rattle.quadtree.specs.TreeModel.{TreeModel, size, square_of, node_of}
 use Rattle.quadtree.proofs.Distinct.{Contains-filter}
-use Rattle.row_recursions.specs.Sources.{source_of}
-use Rattle.row_recursions.proofs.Points.{weight-le-weight64, source_weight-nothing}
-use Rattle.truncation.specs.Entries.{weight}
-use Rattle.tree_field.specs.Field.{is_source_in, weight_in}
+use Rattle.row_recursions.proofs.Points.{weight-le-weight64, weight-nothing}
+use Rattle.tree_field.specs.Field.{weight_in}
 use Rattle.exact_math.proofs.Lists.{range_below}
 use Rattle.tree_field.proofs.Program.{nodes_of_tree}
 use Rattle.soundness.proofs.Sums.{sum_by-map}
+use Rattle.field_sizes.proofs.CellWeights.{weighs}
 use Rattle.field_basis.specs.Trees.{IsTreeOfPoints}
 use Rattle.field_basis.specs.Weights.{IsWeight}
-
-abbrev weighs : ℕ → Point → ℕ
-weighs P p = weight P (source_of p)
+use Rattle.quadtree.specs.Tree.{is_source_in}
 
 -- the weight of the point at a position
 abbrev pub weighs_at : ℕ → List Point → ℕ → ℕ
@@ -88,7 +85,7 @@ module _ (points : List Point) (tree : TreeModel) (h : IsTreeOfPoints points tre
   members_weigh P =
       let inside = in_grid tree.grid points h.within.range in
       sym (sum_by-map (weighs P) (λ k. get_or points k first_point) (node_of tree n).members)
-      ∙ sym (sum_of_kept (weighs P) (λ p. is_source p.kind) (map (λ k. get_or points k first_point) (node_of tree n).members) (source_weight-nothing P))
+      ∙ sym (sum_of_kept (weighs P) (λ p. is_source p.kind) (map (λ k. get_or points k first_point) (node_of tree n).members) (weight-nothing P))
       ∙ ap (sum_by (weighs P)) ((nodes_of_tree tree points h.cap inside h.is_tree n lt).members first_point)
 
   -- all points weigh no more than a list of the widest grid may

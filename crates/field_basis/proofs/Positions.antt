@@ -12,12 +12,13 @@ use Rattle.std.proofs.lemmas.Option.{slice_get-get_or}
 use Rattle.points.proofs.Slices.{first_point}
 use Rattle.points.specs.Points.{is_source}
 use Rattle.points.specs.declared.Point.{Point}
-use Rattle.quadtree.specs.Tree.{HasTarget}
 use Rattle.quadtree.specs.TreeModel.{TreeModel, IsTreeOf, IsLeafOf, size, square_of, leaf_of}
 use Rattle.quadtree.proofs.Distinct.{Contains-filter}
 use Rattle.tree_field.specs.Field.{targets}
 use Rattle.exact_math.proofs.Lists.{All-from_members, filter-map, range_below}
 use Rattle.field_basis.specs.Targets.{no_point, point_at, target_positions}
+use Rattle.quadtree.specs.Tree.{has_target}
+use Rattle.quadtree.proofs.Occupants.{target_there}
 
 pub points_at : (points : List Point) → points ≡ map (point_at points) (range_with_len 0 (length points))
 points_at points = fill_by_all (point_at points) points (length points) no_point refl (λ k lt. refl)
@@ -75,12 +76,13 @@ pub leaf_at_position : (tree : TreeModel) (points : List Point) (cap : ℕ) → 
 leaf_at_position tree points cap h k d lt = h.leaves_are k (get_or points k d) (slice_get-get_or points k d lt)
 
 module _ (points : List Point) (cap : ℕ) (tree : TreeModel) (h : IsTreeOf tree points cap) (k : ℕ) (is : IsTargetPosition points k) where
-  pub has_target : HasTarget points (square_of tree (leaf_of tree k))
-  has_target = record {
-    target = point_at points k;
-    here = record { listed = Contains-get_or points k no_point is.inside; held = (leaf_at_position tree points cap h k no_point is.inside).held };
-    is_target = ap not is.is_target;
-  }
+  pub target_has_leaf : IsTrue (has_target points (square_of tree (leaf_of tree k)))
+  target_has_leaf = target_there points (square_of tree (leaf_of tree k)) (record {
+    point = point_at points k;
+    listed = Contains-get_or points k no_point is.inside;
+    held = (leaf_at_position tree points cap h k no_point is.inside).held;
+    passes = ap not is.is_target;
+  })
 
 pub leaf_in_tree : (points : List Point) (cap : ℕ) (tree : TreeModel) → IsTreeOf tree points cap → (positions : List ℕ) → positions ≡ target_positions points → (i : ℕ) → i < length positions → (b : ℕ) → b ≡ leaf_of tree (get_or positions i 0) → b < size tree
 leaf_in_tree points cap tree h positions e i lt b is =

@@ -9,9 +9,9 @@ use Rattle.near_field.specs.Pair.{is_at}
 use Rattle.points.specs.Points.{is_source}
 use Rattle.points.specs.declared.Point.{Point}
 use Rattle.quadtree.specs.TreeModel.{TreeModel, square_of, node_of}
-use Rattle.tree_field.specs.Field.{has_source}
 use Rattle.field_basis.specs.Basis.{BasisModel, target_place, target_leaf}
 use Rattle.field_basis.specs.Targets.{point_at}
+use Rattle.quadtree.specs.Tree.{has_source}
 
 -- so many translations more, and so many pairs
 abbrev pub translated : ℕ → Counts → Counts

@@ -9,13 +9,13 @@ use Rattle.points.specs.Points.{place}
 use Rattle.complex_box.specs.declared.CBox.{CBox}
 use Rattle.places.specs.Place.{PlaceModel, place_at}
 use Rattle.points.specs.declared.Point.{Point}
-use Rattle.quadtree.specs.Tree.{HasTarget}
 use Rattle.quadtree.specs.TreeModel.{TreeModel, size, square_of, IsTreeOf}
 use Rattle.row_recursions.specs.Rows.{row_of, AreSameRows}
 use Rattle.tree_field.specs.Field.{multipole_row, local_row, local_radius, target_box, target_boxes, targets}
 use Rattle.tree_field.specs.Lists.{TreeLists, OfTreeLists}
 use Rattle.tree_field.specs.Work.{pairs}
 use Rattle.field_basis.specs.Basis.{BasisModel, target_place}
+use Rattle.quadtree.specs.Tree.{has_target}
 
 -- a fact of the lists of a basis
 abbrev pub OfLists : BasisModel → (TreeLists → Type 0) → Type 0
@@ -48,8 +48,8 @@ pub record HasNoRow (P : ℕ) (place : PlaceModel) : Type 0 where
 
 -- those of cell n where it has a target, and zero where it has none
 pub record IsLocalPlace (P : ℕ) (b : BasisModel) (n : ℕ) (place : PlaceModel) : Type 0 where
-  pub with_target : HasTarget b.points (square_of b.tree n) → OfLists b (λ lists. HasLocalRow P b lists n place)
-  pub without : (HasTarget b.points (square_of b.tree n) → ⊥) → HasNoRow P place
+  pub with_target : IsTrue (has_target b.points (square_of b.tree n)) → OfLists b (λ lists. HasLocalRow P b lists n place)
+  pub without : (IsTrue (has_target b.points (square_of b.tree n)) → ⊥) → HasNoRow P place
 
 -- there is a place for each cell, which holds these
 pub record AreAllLocalPlaces (P : ℕ) (b : BasisModel) (places : List PlaceModel) : Type 0 where

@@ -5,7 +5,7 @@ use Rattle.letters.specs.declared.Letter.TheVariants.{W}
 use Rattle.points.specs.Limits.{total_weight}
 use Rattle.points.specs.declared.Point.{Point}
 use Rattle.quadtree.specs.Tree.{IsTreeCell}
-use Rattle.tree_field.specs.Field.{single_radius_in}
+use Rattle.tree_field.specs.Field.{single_loss_in}
 use Rattle.tree_field.specs.Lists.{TreeLists}
 use Rattle.field_sizes.specs.Sizes.{IsLimited, RowSizes, RadiusSizes, BoxSizes}
 use Rattle.field_sizes.proofs.BoxSizes.{box_sizes}
@@ -24,5 +24,5 @@ boxes_within = box_sizes entries_share_no_source
 
 -- what the W entries of a cell can lose together
 pub losses_within : (points : List Point) (cap P : ℕ) (lists : TreeLists) → P ≤ 32 → IsLimited points cap lists → (b : Square) → IsTreeCell lists.grid points cap b
-    → sum_by (λ c. single_radius_in points P (side c) c) (lists.entries W b) ≤ 2 ^ 40 * total_weight points
+    → sum_by (λ c. single_loss_in points P (side c) c) (lists.entries W b) ≤ 2 ^ 40 * total_weight points
 losses_within = multipoles_lose entries_share_no_source

@@ -8,7 +8,8 @@ use Rattle.cell_name.specs.Square.{Square, Holds}
 use Rattle.cell_name.proofs.HoldsTest.{Holds-from_test}
 use Rattle.points.specs.declared.Point.{Point}
 use Rattle.quadtree.proofs.Distinct.{Contains-filter}
-use Rattle.tree_field.specs.Field.{is_source_in, sources_in}
+use Rattle.tree_field.specs.Field.{sources_in}
+use Rattle.quadtree.specs.Tree.{is_source_in}
 
 abbrev pub IsHeld : Square → Point → Type 0
 IsHeld c p = Holds c p.x p.y

@@ -8,20 +8,20 @@ use Rattle.cell_name.specs.Square.{Square, child, Holds, holds_test}
 use Rattle.cell_name.proofs.Cells.{Holds-parent}
 use Rattle.cell_name.proofs.HoldsTest.{Holds-from_test, test-from_Holds}
 use Rattle.cell_name.proofs.Quarters.{lies_in_one_child, IsQuarter, quarters_are, quarters_differ}
-use Rattle.points.specs.Points.{is_source}
+use Rattle.points.specs.Points.{is_source, pole, dipole}
 use Rattle.points.specs.Limits.{weight64, total_weight}
 use Rattle.points.specs.declared.Point.{Point}
 use Rattle.cell_name.specs.Quarters.{quarters}
 use Rattle.quadtree.proofs.Distinct.{Contains-filter}
-use Rattle.row_recursions.specs.Sources.{source_of}
 use Rattle.row_recursions.proofs.Points.{weight-le-weight64}
-use Rattle.truncation.specs.Entries.{weight}
-use Rattle.tree_field.specs.Field.{is_source_in, sources_in}
+use Rattle.tree_field.specs.Field.{sources_in}
 use Rattle.exact_math.proofs.Lists.{All-from_members, AllPairs-both, filter-filter}
 use Rattle.soundness.proofs.Sums.{sum_by-same}
 use Rattle.field_sizes.proofs.CellSources.{sum_by-filter}
 use Rattle.field_sizes.proofs.Disjoint.{sum_by-disjoint}
 use Rattle.field_sizes.specs.Sizes.{WeightSizes}
+use Rattle.exact_math.specs.Sizes.{weight_at}
+use Rattle.quadtree.specs.Tree.{is_source_in}
 
 abbrev pub weight64_in : List Point → Square → ℕ
 weight64_in points c = sum_by weight64 (sources_in points c)
@@ -87,14 +87,14 @@ module _ (c : Square) (lt : c.level < c.grid) where
       omega (arith, e, h)
 
 -- ---- the weights at an order
-abbrev pub weight_at : ℕ → Point → ℕ
-weight_at P p = weight P (source_of p)
+abbrev pub weighs : ℕ → Point → ℕ
+weighs P p = weight_at P (pole p.kind) (dipole p.kind)
 
-pub weight_at-light : (P : ℕ) (points : List Point) → P ≤ 32 → sum_by (weight_at P) points ≤ total_weight points
-weight_at-light P points few = sum_by-le-sum_by (weight_at P) weight64 points (λ p. weight-le-weight64 P p few)
+pub weighs-light : (P : ℕ) (points : List Point) → P ≤ 32 → sum_by (weighs P) points ≤ total_weight points
+weighs-light P points few = sum_by-le-sum_by (weighs P) weight64 points (λ p. weight-le-weight64 P p few)
 
 pub weight_sizes : WeightSizes
 weight_sizes points P c few =
-    let a = sum_by-filter (weight_at P) (is_source_in c) points in
-    let b = weight_at-light P points few in
+    let a = sum_by-filter (weighs P) (is_source_in c) points in
+    let b = weighs-light P points few in
     omega (arith, a, b)

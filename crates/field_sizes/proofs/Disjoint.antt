@@ -14,8 +14,7 @@ use Rattle.cell_lists.proofs.OneEntry.{only_entry}
 use Rattle.letters.specs.declared.Letter.{Letter}
 use Rattle.points.specs.Points.{is_source}
 use Rattle.points.specs.declared.Point.{Point}
-use Rattle.quadtree.specs.Tree.{AreInGrid, IsTreeCell}
-use Rattle.tree_field.specs.Field.{is_source_in}
+use Rattle.quadtree.specs.Tree.{AreInGrid, IsTreeCell, is_source_in}
 use Rattle.tree_field.specs.Lists.{TreeLists, AreTreeLists}
 use Rattle.exact_math.proofs.Lists.{All-from_members, AllPairs-both, rest_differ}
 use Rattle.field_sizes.specs.Sizes.{EntriesShareNoSource}

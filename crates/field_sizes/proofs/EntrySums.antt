@@ -17,7 +17,7 @@ use Rattle.row_recursions.specs.Sizes.{RowWithin}
 use Rattle.soundness.specs.Computed.{total_box, total_row}
 use Rattle.tree_field.specs.Field.{sources_in, weight_in}
 use Rattle.tree_field.specs.Lists.{TreeLists}
-use Rattle.field_sizes.proofs.CellWeights.{weight64_in, weight_at, weight_at-light}
+use Rattle.field_sizes.proofs.CellWeights.{weight64_in, weighs, weighs-light}
 use Rattle.soundness.proofs.RowTotals.{total_box-within, total_row-within, wider, sum_by-times}
 use Rattle.field_sizes.specs.Sizes.{EntriesShareNoSource, IsLimited}
 
@@ -26,7 +26,7 @@ module _ (apart : EntriesShareNoSource) (points : List Point) (cap : ℕ) (lists
   cells = lists.entries letter b
 
   each : (Q : Square → Type 0) → ((c : Square) → IsEntry lists.grid points cap letter b c → Q c) → All Q cells
-  each Q h = All-weaker (IsEntry lists.grid points cap letter b) Q h cells (limited.lists_are.entries_are letter b in_tree).entries
+  each Q h = All-weaker (IsEntry lists.grid points cap letter b) Q h cells (limited.lists_are.entries_are letter b in_tree).each
 
   multiple : (m whole : ℕ) (w : Point → ℕ) → sum_by w points ≤ whole → sum_by (λ c. m * sum_by w (sources_in points c)) cells ≤ m * whole
   multiple m whole w light =
@@ -50,5 +50,5 @@ module _ (apart : EntriesShareNoSource) (points : List Point) (cap : ℕ) (lists
   pub sum_by-entries : (P m : ℕ) (f : Square → ℕ) → P ≤ 32 → ((c : Square) → f c ≤ m * weight_in points P c) → sum_by f cells ≤ m * total_weight points
   sum_by-entries P m f few h =
       let a = sum_by-le-sum_by f (λ c. m * weight_in points P c) cells h in
-      let d = multiple m (total_weight points) (weight_at P) (weight_at-light P points few) in
+      let d = multiple m (total_weight points) (weighs P) (weighs-light P points few) in
       omega (arith, a, d)

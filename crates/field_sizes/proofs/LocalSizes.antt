@@ -8,8 +8,8 @@ use Rattle.complex_box.proofs.Sizes.{box_wider, add_box_within, zero_within}
 use Rattle.kernel_table.specs.Kernel.{IsKernelDistance, kernel_entry}
 use Rattle.cell_name.specs.Square.{Square, side, parent}
 use Rattle.cell_name.proofs.Cells.{Touches-sym}
-use Rattle.cell_lists.specs.Entries.{IsVPair, IsWPair}
-use Rattle.letters.specs.declared.Letter.TheVariants.{V, X}
+use Rattle.cell_lists.specs.Entries.{IsPair}
+use Rattle.letters.specs.declared.Letter.TheVariants.{V, X, W}
 use Rattle.limits.specs.Limits.{widest_grid, most_multipole, most_local}
 use Rattle.limits.proofs.Grids.{grid_positive, within_widest}
 use Rattle.points.specs.declared.Point.{Point}
@@ -24,9 +24,9 @@ use Rattle.row_recursions.specs.Sizes.{RowWithin}
 use Rattle.row_recursions.proofs.ConvertedSizes.{converted_within}
 use Rattle.row_recursions.proofs.Geometry.{pairs_of_cells, far_places}
 use Rattle.row_recursions.proofs.RowSizes.{far_source_within, shifted_down_within, power_positive}
-use Rattle.soundness.specs.Computed.{total_row, far_coefficients_in}
+use Rattle.soundness.specs.Computed.{total_row}
 use Rattle.soundness.specs.Squares.{offset, quadrant, sides_between, IsFarFrom}
-use Rattle.tree_field.specs.Field.{sources_in, multipole_row, converted_rows, far_rows, local_row}
+use Rattle.tree_field.specs.Field.{sources_in, multipole_row, local_row}
 use Rattle.tree_field.specs.Lists.{TreeLists}
 use Rattle.tree_field.proofs.LocalRows.{local_row-root, local_row-below}
 use Rattle.field_sizes.proofs.CellSources.{IsHeld, sources_held}
@@ -36,6 +36,8 @@ use Rattle.field_sizes.proofs.MultipoleSizes.{heavier, unit_square, multipole_ro
 use Rattle.field_sizes.proofs.GridLimits.{multipole_limit, local_limit}
 use Rattle.soundness.proofs.RowTotals.{total_row-within, wider, sum_by-times}
 use Rattle.field_sizes.specs.Sizes.{EntriesShareNoSource, IsLimited, RowSizes}
+use Rattle.row_recursions.specs.Cells.{far_coefficients_in}
+use Rattle.soundness.specs.Steps.{v_rows, x_rows}
 
 -- ---- far sources
 far_within : (P : ℕ) (b : Square) (p : Point) → P ≤ 32 → IsFarFrom b (place p) → RowWithin P (2 ^ 40 * weight64 p) (far_coefficients_in b p)
@@ -66,24 +68,24 @@ module _ (apart : EntriesShareNoSource) (points : List Point) (cap P : ℕ) (lis
   abbrev from_far : ℕ
   from_far = 2 ^ 40 * total_weight points
 
-  converted_rows-within : (b : Square) → IsTreeCell lists.grid points cap b → RowWithin P from_pairs (converted_rows points cap P lists b)
+  converted_rows-within : (b : Square) → IsTreeCell lists.grid points cap b → RowWithin P from_pairs (v_rows (λ c. c) (multipole_row points cap) P b (lists.entries V b))
   converted_rows-within b in_tree = total_row-entries apart points cap lists limited V b in_tree P (3 * 2 ^ 39) (λ c. converted P (kernel_entry (sides_between b c)) (multipole_row points cap c)) (λ c e. one c e.pair)
     where
-      one : (c : Square) → IsVPair lists.grid points cap b c → RowWithin P (3 * 2 ^ 39 * weight64_in points c) (converted P (kernel_entry (sides_between b c)) (multipole_row points cap c))
+      one : (c : Square) → IsPair lists.grid points cap V b c → RowWithin P (3 * 2 ^ 39 * weight64_in points c) (converted P (kernel_entry (sides_between b c)) (multipole_row points cap c))
       one c pair =
-          let other = pair.second_in_tree in
+          let other = pair.1 in
           converted_by P (weight64_in points c) b c cap points few
-          (pairs_of_cells b c (in_tree.of_grid ∙ sym other.of_grid) pair.come_apart.same_level pair.come_apart.apart pair.come_apart.parents_touch).kernel
+          (pairs_of_cells b c (in_tree.of_grid ∙ sym other.of_grid) pair.2.same_level pair.2.apart pair.2.parents_touch).kernel
           (multipole_row-within P points cap c (omega arith) (omega (arith, other.level_in_grid, other.of_grid)))
 
-  far_rows-within : (b : Square) → IsTreeCell lists.grid points cap b → RowWithin P from_far (far_rows points cap P lists b)
+  far_rows-within : (b : Square) → IsTreeCell lists.grid points cap b → RowWithin P from_far (x_rows (λ p. p) (sources_in points) b (lists.entries X b))
   far_rows-within b in_tree = total_row-entries apart points cap lists limited X b in_tree P (2 ^ 40) (λ c. total_row (far_coefficients_in b) (sources_in points c)) (λ c e. one c e.pair)
     where
-      one : (c : Square) → IsWPair lists.grid points cap c b → RowWithin P (2 ^ 40 * weight64_in points c) (total_row (far_coefficients_in b) (sources_in points c))
+      one : (c : Square) → IsPair lists.grid points cap W c b → RowWithin P (2 ^ 40 * weight64_in points c) (total_row (far_coefficients_in b) (sources_in points c))
       one c pair =
-          let other = pair.first_leaf.in_tree in
+          let other = pair.0.in_tree in
           far_total P b (sources_in points c) few (All-weaker (IsHeld c) (λ p. IsFarFrom b (place p))
-          (λ p held. far_places c b p.x p.y (other.of_grid ∙ sym in_tree.of_grid) (omega (arith, pair.comes_apart.deeper)) (omega (arith, in_tree.level_in_grid, in_tree.of_grid)) (λ t. pair.comes_apart.apart (Touches-sym c b t)) held)
+          (λ p held. far_places c b p.x p.y (other.of_grid ∙ sym in_tree.of_grid) (omega (arith, pair.2.deeper)) (omega (arith, in_tree.level_in_grid, in_tree.of_grid)) (λ t. pair.2.apart (Touches-sym c b t)) held)
           (sources_in points c) (sources_held points c))
 
   -- a row of the level n
@@ -93,9 +95,9 @@ module _ (apart : EntriesShareNoSource) (points : List Point) (cap P : ℕ) (lis
       let up = IsTreeCell-parent lists.grid points cap b (grid_positive lists.grid limited.known_grid) limited.in_grid in_tree (omega arith) in
       subst (BoxEndsWithin (suc n * (from_pairs + from_far))) (sym (local_row-below points cap P lists b (omega arith) k))
       (box_wider (n * (from_pairs + from_far) + (from_pairs + from_far)) (suc n * (from_pairs + from_far)) _ (one_level_more n from_pairs from_far)
-      (add_box_within (n * (from_pairs + from_far)) (from_pairs + from_far) (shifted_down P (local_row points cap P lists (parent b)) (quadrant b) k) (add_box (converted_rows points cap P lists b k) (far_rows points cap P lists b k))
+      (add_box_within (n * (from_pairs + from_far)) (from_pairs + from_far) (shifted_down P (local_row points cap P lists (parent b)) (quadrant b) k) (add_box (v_rows (λ c. c) (multipole_row points cap) P b (lists.entries V b) k) (x_rows (λ p. p) (sources_in points) b (lists.entries X b) k))
       (shifted_down_within P (n * (from_pairs + from_far)) (quadrant b) (local_row points cap P lists (parent b)) (unit_square b) (level_within n (parent b) (omega arith) up) k lt)
-      (add_box_within from_pairs from_far (converted_rows points cap P lists b k) (far_rows points cap P lists b k) (converted_rows-within b in_tree k lt) (far_rows-within b in_tree k lt))))
+      (add_box_within from_pairs from_far (v_rows (λ c. c) (multipole_row points cap) P b (lists.entries V b) k) (x_rows (λ p. p) (sources_in points) b (lists.entries X b) k) (converted_rows-within b in_tree k lt) (far_rows-within b in_tree k lt))))
 
   pub local_row-within : (b : Square) → IsTreeCell lists.grid points cap b → RowWithin P (2 ^ 46 * total_weight points) (local_row points cap P lists b)
   local_row-within b in_tree =

@@ -18,14 +18,15 @@ use Rattle.row_recursions.specs.Sizes.{RowWithin}
 use Rattle.row_recursions.proofs.Geometry.{held_places}
 use Rattle.row_recursions.proofs.RowSizes.{source_moment_within, shifted_up_within, power_positive}
 use Rattle.row_recursions.proofs.Turns.{unit_quadrant}
-use Rattle.soundness.specs.Computed.{total_row, moments_in}
+use Rattle.soundness.specs.Computed.{total_row}
 use Rattle.soundness.specs.Squares.{offset, quadrant}
 use Rattle.exact_math.specs.Within.{GaussianWithin}
-use Rattle.quadtree.specs.Tree.{is_over}
-use Rattle.tree_field.specs.Field.{sources_in, has_source, leaf_row, multipole_above, multipole_row}
+use Rattle.quadtree.specs.Tree.{is_over, has_source}
+use Rattle.tree_field.specs.Field.{sources_in, leaf_row, multipole_above, multipole_row}
 use Rattle.field_sizes.proofs.CellSources.{IsHeld, sources_held, sum_by-filter}
 use Rattle.field_sizes.proofs.CellWeights.{weight64_in, weight64_in-light, quarters_weight}
 use Rattle.soundness.proofs.RowTotals.{total_row-within, wider, sum_by-times}
+use Rattle.row_recursions.specs.Cells.{moments_in}
 
 pub heavier : (k a b : ℕ) → k ≤ 64 → 2 ^ 40 * (a + k * b) ≤ 2 ^ 40 * (a + 64 * b)
 heavier k a b h = let m = mul-le-mul_right b h in omega arith

@@ -14,7 +14,7 @@ use Rattle.quadtree.proofs.Parents.{IsTreeCell-parent}
 use Rattle.row_recursions.proofs.RowSizes.{power_positive}
 use Rattle.truncation.specs.Tails.{pair_tail, single_tail}
 use Rattle.truncation.proofs.Tails.{pair_tail_le, single_tail_le, div_ceil-le}
-use Rattle.tree_field.specs.Field.{weight_in, pair_radius_in, single_radius_in, local_radius}
+use Rattle.tree_field.specs.Field.{weight_in, pair_loss_in, single_loss_in, local_radius}
 use Rattle.tree_field.specs.Lists.{TreeLists}
 use Rattle.tree_field.proofs.LocalRows.{local_radius-root, local_radius-below}
 use Rattle.field_sizes.proofs.EntrySums.{sum_by-entries}
@@ -27,11 +27,11 @@ loses w t m s h le =
     let b = mul-le-mul_left w le in
     omega (arith, a, b)
 
-pub pair_radius-within : (points : List Point) (P : ℕ) (b c : Square) → pair_radius_in points P (side b) c ≤ 2 ^ 41 * weight_in points P c
-pair_radius-within points P b c = loses (weight_in points P c) (pair_tail P) (2 ^ 41) (side b) (power_positive (b.grid - b.level)) (pair_tail_le P)
+pub pair_loss-within : (points : List Point) (P : ℕ) (b c : Square) → pair_loss_in points P (side b) c ≤ 2 ^ 41 * weight_in points P c
+pair_loss-within points P b c = loses (weight_in points P c) (pair_tail P) (2 ^ 41) (side b) (power_positive (b.grid - b.level)) (pair_tail_le P)
 
-pub single_radius-within : (points : List Point) (P : ℕ) (b c : Square) → single_radius_in points P (side b) c ≤ 2 ^ 40 * weight_in points P c
-single_radius-within points P b c = loses (weight_in points P c) (single_tail P) (2 ^ 40) (side b) (power_positive (b.grid - b.level)) (single_tail_le P)
+pub single_loss-within : (points : List Point) (P : ℕ) (b c : Square) → single_loss_in points P (side b) c ≤ 2 ^ 40 * weight_in points P c
+single_loss-within points P b c = loses (weight_in points P c) (single_tail P) (2 ^ 40) (side b) (power_positive (b.grid - b.level)) (single_tail_le P)
 
 -- ---- levels
 one_level_more : (r n v x p q : ℕ) → r ≤ n * (v + x) → p ≤ v → q ≤ x → r + (p + q) ≤ suc n * (v + x)
@@ -47,11 +47,11 @@ module _ (apart : EntriesShareNoSource) (points : List Point) (cap P : ℕ) (lis
   abbrev from_far : ℕ
   from_far = 2 ^ 40 * total_weight points
 
-  pairs_lose : (b : Square) → IsTreeCell lists.grid points cap b → sum_by (pair_radius_in points P (side b)) (lists.entries V b) ≤ from_pairs
-  pairs_lose b in_tree = sum_by-entries apart points cap lists limited V b in_tree P (2 ^ 41) (pair_radius_in points P (side b)) few (pair_radius-within points P b)
+  pairs_lose : (b : Square) → IsTreeCell lists.grid points cap b → sum_by (pair_loss_in points P (side b)) (lists.entries V b) ≤ from_pairs
+  pairs_lose b in_tree = sum_by-entries apart points cap lists limited V b in_tree P (2 ^ 41) (pair_loss_in points P (side b)) few (pair_loss-within points P b)
 
-  far_lose : (b : Square) → IsTreeCell lists.grid points cap b → sum_by (single_radius_in points P (side b)) (lists.entries X b) ≤ from_far
-  far_lose b in_tree = sum_by-entries apart points cap lists limited X b in_tree P (2 ^ 40) (single_radius_in points P (side b)) few (single_radius-within points P b)
+  far_lose : (b : Square) → IsTreeCell lists.grid points cap b → sum_by (single_loss_in points P (side b)) (lists.entries X b) ≤ from_far
+  far_lose b in_tree = sum_by-entries apart points cap lists limited X b in_tree P (2 ^ 40) (single_loss_in points P (side b)) few (single_loss-within points P b)
 
   level_within : (n : ℕ) (b : Square) → b.level ≡ n → IsTreeCell lists.grid points cap b → local_radius points cap P lists b ≤ n * (from_pairs + from_far)
   level_within zero b e in_tree = let r = local_radius-root points cap P lists b e in omega (arith, r)
@@ -66,8 +66,8 @@ module _ (apart : EntriesShareNoSource) (points : List Point) (cap P : ℕ) (lis
       all_levels (local_radius points cap P lists b) b.level (total_weight points) (omega (arith, in_tree.level_in_grid, (within_widest lists.grid limited.known_grid).bits)) (level_within b.level b refl in_tree)
 
   -- what the W entries of a cell can lose together
-  pub multipoles_lose : (b : Square) → IsTreeCell lists.grid points cap b → sum_by (λ c. single_radius_in points P (side c) c) (lists.entries W b) ≤ 2 ^ 40 * total_weight points
-  multipoles_lose b in_tree = sum_by-entries apart points cap lists limited W b in_tree P (2 ^ 40) (λ c. single_radius_in points P (side c) c) few (λ c. single_radius-within points P c c)
+  pub multipoles_lose : (b : Square) → IsTreeCell lists.grid points cap b → sum_by (λ c. single_loss_in points P (side c) c) (lists.entries W b) ≤ 2 ^ 40 * total_weight points
+  multipoles_lose b in_tree = sum_by-entries apart points cap lists limited W b in_tree P (2 ^ 40) (λ c. single_loss_in points P (side c) c) few (λ c. single_loss-within points P c c)
 
 pub radius_sizes : EntriesShareNoSource → RadiusSizes
 radius_sizes apart points cap P lists order limited c in_tree =

@@ -9,7 +9,7 @@ use lib.Signed.{◌<ℤ◌, ◌≤ℤ◌}
 use Rattle.std.proofs.lemmas.Int.{ints, clamps}
 use Rattle.std.proofs.lemmas.Int.{unsigned_abs-mul}
 use Rattle.std.specs.Prelude.{unsigned_abs}
-use Rattle.exact_math.specs.Ends.{Ends, BoxEnds, point_ends, add_ends, neg_ends, sub_ends, scale_ends, quot_ends, EndsNarrow, BoxEndsNarrow}
+use Rattle.exact_math.specs.Ends.{Ends, BoxEnds, add_ends, neg_ends, sub_ends, scale_ends, quot_ends, EndsNarrow, BoxEndsNarrow}
 use Rattle.exact_math.specs.Gaussian.{Gaussian, norm_gaussian}
 use Rattle.exact_math.specs.Rounding.{floor_div, ceil_div}
 use Rattle.exact_math.proofs.GaussianSizes.{norm_count, norm_count-is}
@@ -22,7 +22,7 @@ use Rattle.kernel_table.specs.Kernel.{IsKernelDistance, kernel_power, kernel_ent
 use Rattle.kernel_table.proofs.PowersOfTwo.{power_positive, power_add, choose_le}
 
 -- ---- operations
-pub narrow-point : (n : ℤ) → EndsNarrow 0 (point_ends n)
+pub narrow-point : (n : ℤ) → EndsNarrow 0 (record { lo = n; hi = n })
 narrow-point n = record { ordered = omega (arith, ints); width = omega (arith, ints) }
 
 pub narrow-add : {i j : Ends} {a b : ℕ} → EndsNarrow a i → EndsNarrow b j → EndsNarrow (a + b) (add_ends i j)
@@ -143,7 +143,7 @@ module _ (e : Gaussian) (h : IsKernelDistance e) where
   norm_count>0 : 0 < norm_count e
   norm_count>0 = let k = norm_count≥4 e h in omega arith
 
-  start_width : (a : ℤ) → EndsNarrow 2 (quot_ends (point_ends a) (norm_gaussian e))
+  start_width : (a : ℤ) → EndsNarrow 2 (quot_ends (record { lo = a; hi = a }) (norm_gaussian e))
   start_width a = narrow-quot_norm e norm_count>0 (narrow-point a) (enough (norm_count e) norm_count>0)
     where
       enough : (n : ℕ) → 0 < n → 0 + 2 * (n - 1) < n * suc 2

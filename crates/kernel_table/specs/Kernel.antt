@@ -19,9 +19,7 @@ pub record IsKernelDistance (e : Gaussian) : Type 0 where
 -- ---- the rounded kernel
 -- 2^60 conj e / norm e, and then times 2 conj e / norm e each time, rounded outward: 2^(60 + n)/e^(n + 1)
 unfoldable pub kernel_power : Gaussian → ℕ → BoxEnds
-kernel_power e zero =
-    let g = conj (scale_gaussian (2 ^ 60) e) in
-    quot_box (point_box g.re g.im) (norm_gaussian e)
+kernel_power e zero = let g = conj (scale_gaussian (2 ^ 60) e) in quot_box (point_box g.re g.im) (norm_gaussian e)
 kernel_power e (suc n) = gquot_box (kernel_power e n) (conj (scale_gaussian 2 e)) (norm_gaussian e)
 
 -- (-1)^l b

@@ -6,10 +6,9 @@ use Rattle.complex_box.specs.Box.{GscaleFits}
 use Rattle.complex_box.proofs.Sizes.{box_wider, add_box_within, gscale_fits}
 use Rattle.exact_math.specs.Within.{GaussianWithin, GaussianBeyond}
 use Rattle.limits.specs.Limits.{widest_grid}
-use Rattle.row_recursions.specs.Rows.{ratio_box}
+use Rattle.row_recursions.specs.Rows.{ratio_box, far_powers}
 use Rattle.row_recursions.specs.Sizes.{RowWithin}
 use Rattle.row_recursions.proofs.RowSizes.{ratio_within, power_positive}
-use Rattle.local_expansion.specs.FarPowers.{far_powers}
 
 pub far_powers-zero : (b : BoxEnds) (m : ℕ) (zeta : Gaussian) → far_powers b m zeta 0 ≡ b
 unfolding far_powers

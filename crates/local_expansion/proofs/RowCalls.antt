@@ -15,7 +15,7 @@ use Rattle.points.specs.Points.{place, pole, dipole, strength}
 use Rattle.points.specs.declared.Point.{Point}
 use Rattle.truncation.specs.Entries.{local_cut}
 use Rattle.exact_math.specs.Within.{GaussianBeyond}
-use Rattle.row_recursions.specs.Cells.{side_of, centre_of, offset_from, far_coefficients_of}
+use Rattle.row_recursions.specs.Cells.{side_of, centre_of, offset_from, far_coefficients_in}
 use Rattle.row_recursions.specs.Fields.{HoldsField}
 use Rattle.row_recursions.specs.Rows.{RowsAdd}
 use Rattle.row_recursions.specs.Sizes.{RowWithin}
@@ -23,6 +23,7 @@ use Rattle.row_recursions.specs.Sources.{source_of}
 use Rattle.row_recursions.proofs.FieldLaws.{sum_of_fields, field_same}
 use Rattle.row_recursions.proofs.Points.{side_positive, strength_field}
 use Rattle.row_recursions.proofs.RowSizes.{far_norm_positive, far_source_within}
+use Rattle.cell_name.specs.Cell.{square}
 
 -- a row to which another was added
 pub field_added : (P s : ℕ) (b : Gaussian) (f g : Gaussian → ComplexRatio) (old part new : ℕ → BoxEnds) → 1 ≤ s → RowsAdd P old part new → HoldsField P s b f old → HoldsField P s b g part
@@ -35,14 +36,14 @@ module _ (P : ℕ) (c : Cell) (p : Point) (order : IsOrder P) (far : GaussianBey
   heavier l a b h = let m = mul-le-mul_right b h in omega arith
 
   -- its contribution
-  pub far_within : RowWithin P (2 ^ 40 * weight64 p) (far_coefficients_of c p)
+  pub far_within : RowWithin P (2 ^ 40 * weight64 p) (far_coefficients_in (square c) p)
   far_within l h =
       let few = order_bounds P order in
       box_wider _ (2 ^ 40 * weight64 p) _ (heavier l (abs_gaussian (pole p.kind)) (abs_gaussian (dipole p.kind)) (omega arith))
       (far_source_within (side_of c) (pole p.kind) (dipole p.kind) (offset_from c (place p)) l (side_positive c) far)
 
   -- it holds the cut term of the point's source
-  pub far_field : HoldsField P (side_of c) (centre_of c) (λ t. local_cut P (centre_of c) t (source_of p)) (far_coefficients_of c p)
+  pub far_field : HoldsField P (side_of c) (centre_of c) (λ t. local_cut P (centre_of c) t (source_of p)) (far_coefficients_in (square c) p)
   far_field =
       let apart = far_norm_positive (side_of c) (offset_from c (place p)) (side_positive c) far in
       strength_field P (side_of c) (centre_of c) (place p) (strength p.kind) (side_positive c) (omega (arith, ints))

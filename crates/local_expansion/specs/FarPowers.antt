@@ -1,13 +1,8 @@
--- Powers of a ratio m/zeta, each rounded from the one before.
-use Rattle.std.specs.Prelude.{ℕ, zero, suc, pos}
+-- The coefficients of a far pole and of a far dipole, by the powers of a ratio m/zeta.
+use Rattle.std.specs.Prelude.{ℕ, suc, pos}
 use Rattle.exact_math.specs.Ends.{BoxEnds, neg_box, scale_box}
 use Rattle.exact_math.specs.Gaussian.{Gaussian}
-use Rattle.row_recursions.specs.Rows.{ratio_box}
-
--- b, and then times m/zeta each time
-unfoldable pub far_powers : BoxEnds → ℕ → Gaussian → ℕ → BoxEnds
-far_powers b m zeta zero = b
-far_powers b m zeta (suc l) = ratio_box m zeta (far_powers b m zeta l)
+use Rattle.row_recursions.specs.Rows.{far_powers}
 
 -- the coefficients of a pole: less the power after each
 abbrev pub far_poles : BoxEnds → ℕ → Gaussian → ℕ → BoxEnds

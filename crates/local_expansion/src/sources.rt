@@ -5,10 +5,11 @@ ghost use Rattle.complex_box.specs.Box.{box_ends, number, BoxWithin};
 ghost use Rattle.limits.specs.Limits.{widest_grid};
 ghost use Rattle.points.specs.Limits.{InRange};
 ghost use Rattle.points.specs.Points.{place};
-ghost use Rattle.row_recursions.specs.Cells.{side_of, offset_from, far_coefficients_of};
+ghost use Rattle.row_recursions.specs.Cells.{side_of, offset_from, far_coefficients_in};
 ghost use Rattle.row_recursions.specs.Rows.{row_of, RowsAdd};
 ghost use Rattle.row_recursions.specs.Sizes.{RowWithin};
 ghost use Rattle.local_expansion.specs.FarPowers.{far_poles, far_dipoles};
+ghost use Rattle.cell_name.specs.Cell.{square};
 
 use cell_name::Cell;
 use complex_box::{CBox, Gauss};
@@ -59,7 +60,7 @@ pub(crate) fn add_far(into: &mut [CBox], cell: Cell, p: &Point)
     requires range { InRange cell.grid p.now }
     requires far { GaussianBeyond (3 * side_of cell) (offset_from cell (place p.now)) }
     ensures len { length into.new ≡ length into.old }
-    ensures adds { RowsAdd (length into.old) (row_of into.old) (far_coefficients_of cell p.now) (row_of into.new) }
+    ensures adds { RowsAdd (length into.old) (row_of into.old) (far_coefficients_in (square cell) p.now) (row_of into.new) }
 {
     let zeta = offset(cell, p.x, p.y);
     let s = side_bits(cell);

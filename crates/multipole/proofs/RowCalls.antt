@@ -16,7 +16,7 @@ use Rattle.points.specs.Points.{place, strength}
 use Rattle.points.specs.declared.Point.{Point}
 use Rattle.truncation.specs.Entries.{Source, multipole_cut}
 use Rattle.exact_math.specs.Within.{GaussianBeyond}
-use Rattle.row_recursions.specs.Cells.{side_of, centre_of, offset_from, moments_of}
+use Rattle.row_recursions.specs.Cells.{side_of, centre_of, offset_from, moments_in}
 use Rattle.row_recursions.specs.Contents.{AddsMomentsOf}
 use Rattle.row_recursions.specs.Moments.{HoldsMoments}
 use Rattle.row_recursions.specs.Rows.{RowsAdd, multipole_value}
@@ -28,24 +28,24 @@ use Rattle.row_recursions.proofs.RowSizes.{far_norm_positive}
 
 module _ (P : ℕ) (c : Cell) (p : Point) (order : IsOrder P) (inside : Holds (square c) p.x p.y) where
   -- the moments of the point
-  pub part_within : RowWithin P (2 ^ 40 * weight64 p) (moments_of c p)
+  pub part_within : RowWithin P (2 ^ 40 * weight64 p) (moments_in (square c) p)
   part_within k h = let few = order_bounds P order in moments_within c p k (omega arith) inside
 
   -- the sum fits
-  pub sum_fits : (old part : ℕ → BoxEnds) → InRange widest_grid p → RowWithin P (2 ^ 80) old → ((k : ℕ) → k < P → part k ≡ moments_of c p k) → (k : ℕ) → k < P → BoxEndsWithin (2 ^ 126) (add_box (old k) (part k))
+  pub sum_fits : (old part : ℕ → BoxEnds) → InRange widest_grid p → RowWithin P (2 ^ 80) old → ((k : ℕ) → k < P → part k ≡ moments_in (square c) p k) → (k : ℕ) → k < P → BoxEndsWithin (2 ^ 126) (add_box (old k) (part k))
   sum_fits old part range bounded is k h =
       let light = weight_bounded p range in
       box_wider (2 ^ 80 + 2 ^ 40 * weight64 p) (2 ^ 126) _ (omega arith)
       (add_box_within (2 ^ 80) (2 ^ 40 * weight64 p) (old k) (part k) (bounded k h) (subst (BoxEndsWithin (2 ^ 40 * weight64 p)) (sym (is k h)) (part_within k h)))
 
 -- the moments of a point are those of its source
-point_moments : (P : ℕ) (c : Cell) (p : Point) → HoldsMoments P (side_of c) (centre_of c) (source_of p ∷ []) (moments_of c p)
+point_moments : (P : ℕ) (c : Cell) (p : Point) → HoldsMoments P (side_of c) (centre_of c) (source_of p ∷ []) (moments_in (square c) p)
 point_moments P c p = strength_moments P (side_of c) (centre_of c) (place p) (strength p.kind) (side_positive c)
 
 -- a row with the point's moments added contains those of all
-pub added_moments : (P : ℕ) (c : Cell) (p : Point) (old new : ℕ → BoxEnds) → RowsAdd P old (moments_of c p) new → AddsMomentsOf P (side_of c) (centre_of c) (source_of p) old new
-added_moments P c p old new adds xs h = moments_same P (side_of c) (centre_of c) (xs ++ source_of p ∷ []) (λ k. add_box (old k) (moments_of c p k)) new adds
-    (sum_of_moments P (side_of c) (centre_of c) xs (source_of p ∷ []) old (moments_of c p) (side_positive c) h (point_moments P c p))
+pub added_moments : (P : ℕ) (c : Cell) (p : Point) (old new : ℕ → BoxEnds) → RowsAdd P old (moments_in (square c) p) new → AddsMomentsOf P (side_of c) (centre_of c) (source_of p) old new
+added_moments P c p old new adds xs h = moments_same P (side_of c) (centre_of c) (xs ++ source_of p ∷ []) (λ k. add_box (old k) (moments_in (square c) p k)) new adds
+    (sum_of_moments P (side_of c) (centre_of c) xs (source_of p ∷ []) old (moments_in (square c) p) (side_positive c) h (point_moments P c p))
 
 -- the value of a row contains the cut terms
 pub value_contains : (P : ℕ) (c : Cell) (t : Gaussian) (xs : List Source) (m : ℕ → BoxEnds) → GaussianBeyond (3 * side_of c) (offset_from c t) → HoldsMoments P (side_of c) (centre_of c) xs m

@@ -9,10 +9,10 @@ use Rattle.complex_box.specs.Box.{GscaleFits}
 use Rattle.limits.specs.Limits.{widest_grid}
 use Rattle.complex_box.proofs.Sizes.{gscale_fits}
 use Rattle.exact_math.specs.Within.{GaussianWithin}
-use Rattle.row_recursions.specs.Rows.{units_box, units_over, pole_moment, dipole_moment, source_moment}
+use Rattle.row_recursions.specs.Rows.{units_box, units_over, source_moment, powers}
 use Rattle.row_recursions.proofs.RowSizes.{box_gquot_within}
 use Rattle.complex_box.proofs.ZeroBoxes.{zero_scaled, zero_over, zero_turned, zero_right, zero_left}
-use Rattle.multipole.specs.Powers.{powers, slopes}
+use Rattle.multipole.specs.Powers.{slopes}
 
 -- ---- powers of two
 pub power_le : (m n : ℕ) → m ≤ n → 2 ^ m ≤ 2 ^ n
@@ -35,56 +35,46 @@ pub step_within : (m n : ℕ) (b : BoxEnds) (o : Gaussian) → 1 ≤ n → Gauss
 step_within m n b o h near w = box_gquot_within m (2 ^ (n - 1)) (2 ^ (n - 1)) (2 ^ n) b o (power_le 0 n (omega arith)) (two_halves n h) near.re near.im w
 
 -- ---- moments
-pub powers-zero : (b : BoxEnds) (o : Gaussian) (n : ℕ) → powers b o n 0 ≡ b
+pub powers-zero : (b : BoxEnds) (o : Gaussian) (m : ℕ) → powers b o m 0 ≡ b
 unfolding powers
-powers-zero b o n = refl
+powers-zero b o m = refl
 
-pub powers-next : (b : BoxEnds) (o : Gaussian) (n k : ℕ) → powers b o n (k + 1) ≡ gquot_box (powers b o n k) o (pos (2 ^ n))
+pub powers-next : (b : BoxEnds) (o : Gaussian) (m k : ℕ) → powers b o m (k + 1) ≡ gquot_box (powers b o m k) o (pos m)
 unfolding powers
-powers-next b o n k = ap (powers b o n) {x = k + 1} {y = suc k} (omega arith)
-
-pub powers-pole : (s n : ℕ) (a o : Gaussian) → 2 ^ n ≡ 2 * s → (k : ℕ) → powers (units_box a) o n k ≡ pole_moment s a o k
-unfolding powers pole_moment
-powers-pole s n a o e zero = refl
-powers-pole s n a o e (suc k) = ap₂ (λ b m. gquot_box b o (pos m)) (powers-pole s n a o e k) e
-
-pub powers-dipole : (s n : ℕ) (b o : Gaussian) → 2 ^ n ≡ 2 * s → (k : ℕ) → powers (units_over b s) o n k ≡ dipole_moment s b o k
-unfolding powers dipole_moment
-powers-dipole s n b o e zero = refl
-powers-dipole s n b o e (suc k) = ap₂ (λ x m. gquot_box x o (pos m)) (powers-dipole s n b o e k) e
+powers-next b o m k = ap (powers b o m) {x = k + 1} {y = suc k} (omega arith)
 
 -- ---- nothing
-no_pole : (s : ℕ) (o : Gaussian) → 1 ≤ s → (k : ℕ) → pole_moment s zero_gaussian o k ≡ zero_box
-unfolding pole_moment
+no_pole : (s : ℕ) (o : Gaussian) → 1 ≤ s → (k : ℕ) → powers (units_box zero_gaussian) o (2 * s) k ≡ zero_box
+unfolding powers
 no_pole s o h zero = refl
 no_pole s o h (suc k) = ap (λ b. gquot_box b o (pos (2 * s))) (no_pole s o h k) ∙ zero_turned o (pos (2 * s)) (omega (arith, ints))
 
-no_dipole : (s : ℕ) (o : Gaussian) → 1 ≤ s → (k : ℕ) → dipole_moment s zero_gaussian o k ≡ zero_box
-unfolding dipole_moment
+no_dipole : (s : ℕ) (o : Gaussian) → 1 ≤ s → (k : ℕ) → powers (units_over zero_gaussian s) o (2 * s) k ≡ zero_box
+unfolding powers
 no_dipole s o h zero = zero_over (pos s) (omega (arith, ints))
 no_dipole s o h (suc k) = ap (λ b. gquot_box b o (pos (2 * s))) (no_dipole s o h k) ∙ zero_turned o (pos (2 * s)) (omega (arith, ints))
 
 -- a pole alone
-pub pole_alone : (s : ℕ) (a o : Gaussian) → 1 ≤ s → (k : ℕ) → source_moment s a zero_gaussian o k ≡ pole_moment s a o k
-unfolding source_moment
+pub pole_alone : (s : ℕ) (a o : Gaussian) → 1 ≤ s → (k : ℕ) → source_moment s a zero_gaussian o k ≡ powers (units_box a) o (2 * s) k
+unfolding source_moment powers
 pole_alone s a o h zero = refl
-pole_alone s a o h (suc k) = ap (λ b. add_box (pole_moment s a o (suc k)) (scale_box b (pos (suc k)))) (no_dipole s o h k) ∙ ap (add_box (pole_moment s a o (suc k))) (zero_scaled (pos (suc k))) ∙ zero_right _
+pole_alone s a o h (suc k) = ap (λ b. add_box (powers (units_box a) o (2 * s) (suc k)) (scale_box b (pos (suc k)))) (no_dipole s o h k) ∙ ap (add_box (powers (units_box a) o (2 * s) (suc k))) (zero_scaled (pos (suc k))) ∙ zero_right _
 
 -- a dipole alone
 pub dipole_alone : (s n : ℕ) (b o : Gaussian) → 1 ≤ s → 2 ^ n ≡ 2 * s → (k : ℕ) → source_moment s zero_gaussian b o k ≡ slopes (units_over b s) o n k
-unfolding source_moment
+unfolding source_moment powers
 dipole_alone s n b o h e zero = no_pole s o h zero
 dipole_alone s n b o h e (suc k) =
-    ap (λ x. add_box x (scale_box (dipole_moment s b o k) (pos (suc k)))) (no_pole s o h (suc k)) ∙ zero_left _ ∙ ap (λ (b : BoxEnds). scale_box b (pos (suc k))) (sym (powers-dipole s n b o e k))
+    ap (λ x. add_box x (scale_box (powers (units_over b s) o (2 * s) k) (pos (suc k)))) (no_pole s o h (suc k)) ∙ zero_left _ ∙ ap (λ (b : BoxEnds). scale_box b (pos (suc k))) (sym (ap (λ m. powers (units_over b s) o m k) e))
 
 -- neither
 pub none_alone : (s : ℕ) (o : Gaussian) → 1 ≤ s → (k : ℕ) → source_moment s zero_gaussian zero_gaussian o k ≡ zero_box
 none_alone s o h k = pole_alone s zero_gaussian o h k ∙ no_pole s o h k
 
 -- the slope after k powers
-pub slopes-next : (b : BoxEnds) (o : Gaussian) (n k : ℕ) → 1 ≤ k → slopes b o n k ≡ scale_box (powers b o n (k - 1)) (pos k)
+pub slopes-next : (b : BoxEnds) (o : Gaussian) (n k : ℕ) → 1 ≤ k → slopes b o n k ≡ scale_box (powers b o (2 ^ n) (k - 1)) (pos k)
 slopes-next b o n zero h = absurd (omega arith)
-slopes-next b o n (suc k) h = ap (λ i. scale_box (powers b o n i) (pos (suc k))) {x = k} {y = suc k - 1} (omega arith)
+slopes-next b o n (suc k) h = ap (λ i. scale_box (powers b o (2 ^ n) i) (pos (suc k))) {x = k} {y = suc k - 1} (omega arith)
 
 -- ---- a place in a cell whose side is 2^n
 pub near_next : (n s : ℕ) (o x : Gaussian) → 2 ^ n ≡ s → x ≡ o → GaussianWithin s o → GaussianWithin (2 ^ (n + 1 - 1)) x
@@ -94,8 +84,8 @@ pub doubled_side : (n s : ℕ) → 2 ^ n ≡ s → 2 ^ (n + 1) ≡ 2 * s
 doubled_side n s e = let f : 2 ^ suc n ≡ 2 * 2 ^ n = omega arith in let g : 2 ^ (n + 1) ≡ 2 ^ suc n = ap (λ k. 2 ^ k) {x = n + 1} {y = suc n} (omega arith) in omega arith
 
 -- ---- what the rows hold, of a cell of side 2^n
-pub pole_moments : (s n : ℕ) (a o x : Gaussian) (first : BoxEnds) (k : ℕ) → 1 ≤ s → 2 ^ n ≡ s → x ≡ o → first ≡ units_box a → powers first x (n + 1) k ≡ source_moment s a zero_gaussian o k
-pole_moments s n a o x first k h e f g = ap₂ (λ b z. powers b z (n + 1) k) g f ∙ powers-pole s (n + 1) a o (doubled_side n s e) k ∙ sym (pole_alone s a o h k)
+pub pole_moments : (s n : ℕ) (a o x : Gaussian) (first : BoxEnds) (k : ℕ) → 1 ≤ s → 2 ^ n ≡ s → x ≡ o → first ≡ units_box a → powers first x (2 ^ (n + 1)) k ≡ source_moment s a zero_gaussian o k
+pole_moments s n a o x first k h e f g = ap₂ (λ b z. powers b z (2 ^ (n + 1)) k) g f ∙ ap (λ m. powers (units_box a) o m k) (doubled_side n s e) ∙ sym (pole_alone s a o h k)
 
 pub dipole_moments : (s n : ℕ) (b o x : Gaussian) (first : BoxEnds) (k : ℕ) → 1 ≤ s → 2 ^ n ≡ s → x ≡ o → first ≡ units_over b s → slopes first x (n + 1) k ≡ source_moment s zero_gaussian b o k
 dipole_moments s n b o x first k h e f g = ap₂ (λ c z. slopes c z (n + 1) k) g f ∙ sym (dipole_alone s (n + 1) b o h (doubled_side n s e) k)

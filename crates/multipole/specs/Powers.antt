@@ -1,14 +1,10 @@
--- Powers of a place in sides, each rounded from the one before.
+-- The slopes of a place in sides.
 use Rattle.std.specs.Prelude.{ℕ, zero, suc, ◌^◌, pos}
-use Rattle.exact_math.specs.Ends.{BoxEnds, zero_box, scale_box, gquot_box}
+use Rattle.exact_math.specs.Ends.{BoxEnds, zero_box, scale_box}
 use Rattle.exact_math.specs.Gaussian.{Gaussian}
+use Rattle.row_recursions.specs.Rows.{powers}
 
--- b, and then times o/2^n each time
-unfoldable pub powers : BoxEnds → Gaussian → ℕ → ℕ → BoxEnds
-powers b o n zero = b
-powers b o n (suc k) = gquot_box (powers b o n k) o (pos (2 ^ n))
-
--- nothing, and then k times the power before
+-- nothing, and then k times the power of o/2^n before
 abbrev pub slopes : BoxEnds → Gaussian → ℕ → ℕ → BoxEnds
 slopes b o n zero = zero_box
-slopes b o n (suc k) = scale_box (powers b o n k) (pos (suc k))
+slopes b o n (suc k) = scale_box (powers b o (2 ^ n) k) (pos (suc k))

@@ -15,7 +15,7 @@ ghost use Rattle.cell_name.specs.Square.{Holds};
 ghost use Rattle.limits.specs.Grid.{IsInGrid};
 ghost use Rattle.limits.specs.Limits.{widest_grid};
 ghost use Rattle.points.specs.Limits.{InRange, weight64};
-ghost use Rattle.row_recursions.specs.Cells.{side_of, centre_of, offset_from, moments_of};
+ghost use Rattle.row_recursions.specs.Cells.{side_of, centre_of, offset_from, moments_in};
 ghost use Rattle.row_recursions.specs.Contents.{AddsMomentsOf, IsValueOfMoments};
 ghost use Rattle.row_recursions.specs.Rows.{row_of, RowsAdd, HasPart, multipole_value};
 ghost use Rattle.row_recursions.specs.Sizes.{RowWithin};
@@ -40,7 +40,7 @@ pub fn add_source<const P: usize>(row: &mut [CBox], cell: Cell, p: &Point)
     requires inside { Holds (square cell) p.now.x p.now.y }
     requires size { RowWithin P (2 ^ 80) (row_of row.old) }
     ensures len { length row.new ≡ P }
-    ensures adds { RowsAdd P (row_of row.old) (moments_of cell p.now) (row_of row.new) }
+    ensures adds { RowsAdd P (row_of row.old) (moments_in (square cell) p.now) (row_of row.new) }
     ensures contains { AddsMomentsOf P (side_of cell) (centre_of cell) (source_of p.now) (row_of row.old) (row_of row.new) }
     ensures size { (n : ℕ) → RowWithin P n (row_of row.old) → RowWithin P (n + 2 ^ 40 * weight64 p.now) (row_of row.new) }
 {
@@ -56,9 +56,9 @@ pub fn take_source<const P: usize>(row: &mut [CBox], cell: Cell, p: &Point)
     requires len { length row.old ≡ P }
     requires range { InRange widest_grid p.now }
     requires inside { Holds (square cell) p.now.x p.now.y }
-    requires part { HasPart P (row_of row.old) (moments_of cell p.now) }
+    requires part { HasPart P (row_of row.old) (moments_in (square cell) p.now) }
     ensures len { length row.new ≡ P }
-    ensures adds { RowsAdd P (row_of row.new) (moments_of cell p.now) (row_of row.old) }
+    ensures adds { RowsAdd P (row_of row.new) (moments_in (square cell) p.now) (row_of row.old) }
     ensures size { (n : ℕ) → RowWithin P n (row_of row.old) → RowWithin P (n + 2 ^ 40 * weight64 p.now) (row_of row.new) }
 {
     let mut part = [CBox::zero(); P];

@@ -7,9 +7,9 @@ ghost use Rattle.cell_name.specs.Cell.{square};
 ghost use Rattle.cell_name.specs.Square.{Holds};
 ghost use Rattle.limits.specs.Limits.{widest_grid};
 ghost use Rattle.points.specs.Limits.{InRange};
-ghost use Rattle.row_recursions.specs.Cells.{moments_of};
-ghost use Rattle.row_recursions.specs.Rows.{row_of};
-ghost use Rattle.multipole.specs.Powers.{powers, slopes};
+ghost use Rattle.row_recursions.specs.Cells.{moments_in};
+ghost use Rattle.row_recursions.specs.Rows.{row_of, powers};
+ghost use Rattle.multipole.specs.Powers.{slopes};
 
 use cell_name::Cell;
 use complex_box::{CBox, Gauss, clear};
@@ -36,7 +36,7 @@ fn fill_powers(row: &mut [CBox], first: CBox, o: Gauss, shift: u32)
     requires near { GaussianWithin (2 ^ (shift - 1)) (number o) }
     requires size { BoxWithin (2 ^ 60) first }
     ensures len { length row.new ≡ length row.old }
-    ensures powers { (k : ℕ) → k < length row.old → row_of row.new k ≡ powers (box_ends first) (number o) shift k }
+    ensures powers { (k : ℕ) → k < length row.old → row_of row.new k ≡ powers (box_ends first) (number o) (2 ^ shift) k }
 {
     let mut power = first;
     for k in 0..row.len() {
@@ -69,7 +69,7 @@ pub(crate) fn fill_moments(row: &mut [CBox], cell: Cell, p: &Point)
     requires range { InRange widest_grid p.now }
     requires inside { Holds (square cell) p.now.x p.now.y }
     ensures len { length row.new ≡ length row.old }
-    ensures moments { (k : ℕ) → k < length row.old → row_of row.new k ≡ moments_of cell p.now k }
+    ensures moments { (k : ℕ) → k < length row.old → row_of row.new k ≡ moments_in (square cell) p.now k }
 {
     let o = offset(cell, p.x, p.y);
     let s = side_bits(cell);

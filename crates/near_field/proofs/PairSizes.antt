@@ -2,7 +2,7 @@
 use lib.Signed.{le_z}
 use Rattle.std.proofs.Common.{◌≡◌, ℕ, zero, suc, ◌+◌, ◌*◌, ◌≤◌, ◌^◌, arith, Bool, true, false, ℤ, pos, negsuc, neg_ℤ, ◌+ℤ◌, ◌-ℤ◌, ◌*ℤ◌, ◌≤ℤ◌, ◌<ℤ◌, unsigned_abs, refl, subst}
 use Rattle.std.proofs.lemmas.Int.{ints}
-use Rattle.exact_math.specs.Ends.{point_ends, EndsNarrow, BoxEndsWithin, BoxEndsNarrow, EndsWithin, zero_box}
+use Rattle.exact_math.specs.Ends.{EndsNarrow, BoxEndsWithin, BoxEndsNarrow, EndsWithin, zero_box}
 use Rattle.exact_math.specs.Gaussian.{Gaussian, gaussian, norm_gaussian, mul_gaussian}
 use Rattle.exact_math.specs.Ratio.{ComplexRatio}
 use Rattle.exact_math.specs.Rounding.{floor_div, ceil_div}
@@ -238,7 +238,7 @@ outward-narrow : (z : ComplexRatio) → pos 0 <ℤ z.denominator → BoxEndsNarr
 outward-narrow z h = record { re = rounded_narrow _ z.denominator h; im = rounded_narrow _ z.denominator h }
 
 zero-narrow : BoxEndsNarrow 1 zero_box
-zero-narrow = let w : EndsNarrow 1 (point_ends (pos 0)) = record { ordered = omega (arith, ints); width = omega (arith, ints) } in record { re = w; im = w }
+zero-narrow = let w : EndsNarrow 1 (record { lo = (pos 0); hi = (pos 0) }) = record { ordered = omega (arith, ints); width = omega (arith, ints) } in record { re = w; im = w }
 
 -- each part of the box of a pair is at most one unit wide
 pub pair_box-narrow : (t : Gaussian) (p : Point) → BoxEndsNarrow 1 (pair_box t p)

@@ -7,14 +7,10 @@ use Rattle.points.specs.declared.Point.{Point}
 use Rattle.points.specs.Points.{is_source}
 use Rattle.near_field.specs.Pair.{is_at, term_of}
 
--- a source at another place than t
+-- a source at another place than t; those at the place of t are left out
 abbrev pub acts_on : Gaussian → Point → Bool
 acts_on t p = is_source p.kind && not (is_at t p)
 
--- the sources that act on t, in the order of the list; those at the place of t are left out
-abbrev pub acting_on : Gaussian → List Point → List Point
-acting_on t points = filter (acts_on t) points
-
--- the sum of a/(t - z) over the charges and vortices and of b/(t - z)^2 over the dipoles that act on t, as a fraction of whole numbers
+-- the sum of a/(t - z) over the charges and vortices and of b/(t - z)^2 over the dipoles that act on t, in the order of the list, as a fraction of whole numbers
 abbrev pub direct_sum : Gaussian → List Point → ComplexRatio
-direct_sum t points = sum_terms (term_of t) (acting_on t points)
+direct_sum t points = sum_terms (term_of t) (filter (acts_on t) points)

@@ -13,13 +13,13 @@ use Rattle.quadtree.specs.declared.tree.Node.{Node}
 use Rattle.quadtree.specs.Families.{children_among, AreFamiliesTo}
 use Rattle.quadtree.specs.Nodes.{AreNodesTo, LeavesAreTo}
 use Rattle.quadtree.specs.Splitting.{squares_of, parents_of, IsParentNumber, HaveParents}
-use Rattle.quadtree.specs.Tree.{AreInGrid, AreTreeCells}
+use Rattle.quadtree.specs.Tree.{AreInGrid, AreExactly, IsTreeCell}
 use Rattle.quadtree.proofs.Families.{at_most_four}
 use Rattle.quadtree.proofs.Levels.{parent_at}
 use Rattle.quadtree.proofs.Whole.{AreParts, squares_of-cells}
 
 -- no run has more than four children
-pub four_of_runs : (grid : ℕ) (points : List Point) (cap : ℕ) (runs lent : List Run) → 0 < grid → AreInGrid grid points → AreTreeCells grid points cap (squares_of runs) → HaveParents (squares_of runs) runs → lent ≡ runs → (n : ℕ) → length (children_among (parents_of lent) n (length lent)) ≤ 4
+pub four_of_runs : (grid : ℕ) (points : List Point) (cap : ℕ) (runs lent : List Run) → 0 < grid → AreInGrid grid points → AreExactly (IsTreeCell grid points cap) (squares_of runs) → HaveParents (squares_of runs) runs → lent ≡ runs → (n : ℕ) → length (children_among (parents_of lent) n (length lent)) ≤ 4
 four_of_runs grid points cap runs lent positive inside t h e n =
     let P : List Run → Type 0 = λ l. length (children_among (parents_of l) n (length l)) ≤ 4 in
     let many : length (squares_of runs) ≡ length runs = length-map runs (λ (r : Run). square r.cell) in
@@ -44,7 +44,7 @@ pub record AreMade (grid : ℕ) (points : List Point) (cap : ℕ) (cells : List 
   pub capacity : IsCapacity cap
   pub lent_are : lent ≡ runs
   pub cells_of : cells ≡ map (λ r. r.cell) runs
-  pub cells_are : AreTreeCells grid points cap (squares_of runs)
+  pub cells_are : AreExactly (IsTreeCell grid points cap) (squares_of runs)
   pub parents_are : HaveParents (squares_of runs) runs
   pub families_are : AreFamiliesTo (parents_of lent) families (length lent)
   pub nodes_are : AreNodesTo points cap positions (squares_of runs) (parents_of runs) families nodes (length (squares_of runs))
@@ -57,7 +57,7 @@ parts_made grid points cap cells runs lent families nodes positions leaves h =
     let long : length cells ≡ length runs = ap length h.cells_of ∙ length-map runs (λ (r : Run). r.cell) in
     let many = length-map runs (λ (r : Run). square r.cell) in
     let named = length-map runs (λ (r : Run). r.parent) in
-    let C : List Square → Type 0 = λ l. AreTreeCells grid points cap l in
+    let C : List Square → Type 0 = λ l. AreExactly (IsTreeCell grid points cap) l in
     let N : List Square → Type 0 = λ l. AreNodesTo points cap positions l (parents_of runs) families nodes (length l) in
     let M : ℕ → Type 0 = λ n. AreNodesTo points cap positions (map square cells) (parents_of runs) families nodes n in
     let F : List Run → Type 0 = λ l. AreFamiliesTo (parents_of l) families (length l) in

@@ -16,7 +16,7 @@ use Rattle.quadtree.specs.declared.children.Children.{Children}
 use Rattle.quadtree.specs.Families.{children_among, HasNumbers, AreFamiliesTo}
 use Rattle.quadtree.specs.Fields.{numbers_of, no_children}
 use Rattle.quadtree.specs.Splitting.{IsParentNumber}
-use Rattle.quadtree.specs.Tree.{AreInGrid, AreTreeCells}
+use Rattle.quadtree.specs.Tree.{AreInGrid, AreExactly, IsTreeCell}
 use Rattle.quadtree.proofs.Distinct.{Contains-filter, length-le_from_different}
 use Rattle.exact_math.proofs.Lists.{AllPairs-map, AllPairs-range, image_of, range_below}
 use Rattle.quadtree.proofs.TreeNumbers.{level_of_others}
@@ -41,7 +41,7 @@ among parents n count k h =
     record { below = range_below count k kept.0; positive = ltb-true 0 k parts.0; parent_is = eqb-true (get_or parents k 0) n parts.1 }
 
 -- no cell has more than four: they are different quarters of it
-pub at_most_four : (grid : ℕ) (points : List Point) (cap : ℕ) (cells : List Square) (parents : List ℕ) → 0 < grid → AreInGrid grid points → AreTreeCells grid points cap cells → ((k : ℕ) → k < length cells → IsParentNumber cells (get_or cells k no_square) (get_or parents k 0)) → (n : ℕ) → length (children_among parents n (length cells)) ≤ 4
+pub at_most_four : (grid : ℕ) (points : List Point) (cap : ℕ) (cells : List Square) (parents : List ℕ) → 0 < grid → AreInGrid grid points → AreExactly (IsTreeCell grid points cap) cells → ((k : ℕ) → k < length cells → IsParentNumber cells (get_or cells k no_square) (get_or parents k 0)) → (n : ℕ) → length (children_among parents n (length cells)) ≤ 4
 at_most_four grid points cap cells parents positive inside t named n =
     let children : List ℕ = children_among parents n (length cells) in
     let cell : ℕ → Square = λ k. get_or cells k no_square in

@@ -12,7 +12,7 @@ use Rattle.cell_name.proofs.Order.{IsBefore-irrefl, IsBefore-asym}
 use Rattle.quadtree.specs.declared.split.Run.{Run}
 use Rattle.quadtree.specs.Faults.{IsCrowded, IsFirstCrowded, NoneIsCrowded, HasMoreCells}
 use Rattle.quadtree.specs.Splitting.{squares_of, IsRun, AreRuns, IsCrowdedRun, IsFirstCrowdedRun}
-use Rattle.quadtree.specs.Tree.{count_in, IsTreeCell, AreTreeCells}
+use Rattle.quadtree.specs.Tree.{count_in, IsTreeCell, AreExactly}
 use Rattle.quadtree.proofs.Counts.{count_in-parent}
 use Rattle.quadtree.proofs.Levels.{length-run}
 
@@ -20,7 +20,7 @@ use Rattle.quadtree.proofs.Levels.{length-run}
 pub crowded_in_tree : (grid : ℕ) (points : List Point) (cap : ℕ) (c : Square) → 0 < grid → cap ≤ most_at_a_place → IsCrowded grid points c → IsTreeCell grid points cap c
 crowded_in_tree grid points cap c positive le h =
     let more : count_in points c ≤ count_in points (parent c) = count_in-parent points c (omega (arith, h.last_level)) (omega (arith, h.last_level, h.of_grid)) in
-    record { of_grid = h.of_grid; level_in_grid = omega (arith, h.last_level); occupied = omega (arith, h.over); reached = inr (omega (arith, h.last_level), record { over_cap = omega (arith, h.over) }) }
+    record { of_grid = h.of_grid; level_in_grid = omega (arith, h.last_level); occupied = omega (arith, h.over); reached = inr (omega (arith, h.last_level), omega (arith, h.over)) }
 
 -- the run of a listed cell
 pub record IsRunOf (runs : List Run) (c : Square) : Type 0 where
@@ -51,7 +51,7 @@ crowded_run grid points xs run c r e h =
     let here : IsCrowded grid points (square run.cell) = subst P (sym e) h in
     record { last_level = here.last_level ∙ sym here.of_grid; over = omega (arith, here.over, length-run points xs run r) }
 
-pub none_crowded_is : (grid : ℕ) (points : List Point) (cap : ℕ) (xs : List ℕ) (runs : List Run) → 0 < grid → cap ≤ most_at_a_place → AreTreeCells grid points cap (squares_of runs) → AreRuns points xs runs → All (λ r. IsCrowdedRun r → ⊥) runs → NoneIsCrowded grid points
+pub none_crowded_is : (grid : ℕ) (points : List Point) (cap : ℕ) (xs : List ℕ) (runs : List Run) → 0 < grid → cap ≤ most_at_a_place → AreExactly (IsTreeCell grid points cap) (squares_of runs) → AreRuns points xs runs → All (λ r. IsCrowdedRun r → ⊥) runs → NoneIsCrowded grid points
 none_crowded_is grid points cap xs runs positive le cells are none c h =
     let o = run_of runs c (cells.whole c (crowded_in_tree grid points cap c positive le h)) in
     let P : Run → Type 0 = λ r. IsRun points xs r in
@@ -61,12 +61,12 @@ none_crowded_is grid points cap xs runs positive le cells are none c h =
     calm (crowded_run grid points xs o.run c r o.cell_is h)
 
 -- the grid of a run's cell
-grid_of_run : (grid : ℕ) (points : List Point) (cap : ℕ) (runs : List Run) (at : ℕ) (run : Run) → at < length runs → AreTreeCells grid points cap (squares_of runs) → (get_or runs at run).cell.grid ≡ grid
+grid_of_run : (grid : ℕ) (points : List Point) (cap : ℕ) (runs : List Run) (at : ℕ) (run : Run) → at < length runs → AreExactly (IsTreeCell grid points cap) (squares_of runs) → (get_or runs at run).cell.grid ≡ grid
 grid_of_run grid points cap runs at run inside cells =
     let P : Square → Type 0 = λ c. c.grid ≡ grid in
-    subst P (get_or-map (λ (q : Run). square q.cell) runs at run (square run.cell) inside) (cells.in_tree at (square run.cell) (omega (arith, inside, length-map runs (λ (q : Run). square q.cell)))).of_grid
+    subst P (get_or-map (λ (q : Run). square q.cell) runs at run (square run.cell) inside) (cells.each at (square run.cell) (omega (arith, inside, length-map runs (λ (q : Run). square q.cell)))).of_grid
 
-pub first_crowded_is : (grid : ℕ) (points : List Point) (cap : ℕ) (xs : List ℕ) (runs : List Run) (run : Run) → 0 < grid → cap ≤ most_at_a_place → AreTreeCells grid points cap (squares_of runs) → AreRuns points xs runs → IsFirstCrowdedRun runs run → IsFirstCrowded grid points (square run.cell) (run.to - run.from)
+pub first_crowded_is : (grid : ℕ) (points : List Point) (cap : ℕ) (xs : List ℕ) (runs : List Run) (run : Run) → 0 < grid → cap ≤ most_at_a_place → AreExactly (IsTreeCell grid points cap) (squares_of runs) → AreRuns points xs runs → IsFirstCrowdedRun runs run → IsFirstCrowded grid points (square run.cell) (run.to - run.from)
 first_crowded_is grid points cap xs runs run positive le cells are f =
     let P : Run → Type 0 = λ r. IsRun points xs r in
     let r : IsRun points xs run = subst P f.here (are.each f.at run f.inside) in
@@ -99,11 +99,11 @@ first_crowded_is grid points cap xs runs run positive le cells are f =
               IsBefore-irrefl d (square run.cell) (sym other ∙ ap (λ n. get_or (squares_of runs) n d) e ∙ mine) before
         ]
 
-pub has_more_cells : (grid : ℕ) (points : List Point) (cap : ℕ) (runs : List Run) → AreTreeCells grid points cap (squares_of runs) → most_cells grid < length runs → HasMoreCells grid points cap (most_cells grid)
+pub has_more_cells : (grid : ℕ) (points : List Point) (cap : ℕ) (runs : List Run) → AreExactly (IsTreeCell grid points cap) (squares_of runs) → most_cells grid < length runs → HasMoreCells grid points cap (most_cells grid)
 has_more_cells grid points cap runs cells lt =
     record {
       cells = squares_of runs;
-      in_tree = cells.in_tree;
+      in_tree = cells.each;
       different = λ i j d below inside e. IsBefore-irrefl (get_or (squares_of runs) i d) (get_or (squares_of runs) j d) e (cells.ascending i j d below inside);
       more = omega (arith, lt, length-map runs (λ (q : Run). square q.cell));
     }

@@ -6,7 +6,7 @@ use Rattle.points.specs.declared.Point.{Point}
 use Rattle.cell_name.proofs.Levels.{first_stop, above_le}
 use Rattle.cell_name.specs.Square.{Square, parent, square_at, IsInGrid, holds_test}
 use Rattle.cell_name.proofs.Cells.{Holds-square_at, parent-square_at, square_at-root}
-use Rattle.quadtree.specs.Tree.{count_in, IsSplit, IsTreeCell, IsLeaf}
+use Rattle.quadtree.specs.Tree.{count_in, IsTreeCell, IsLeaf}
 use Rattle.cell_name.proofs.HoldsTest.{test-from_Holds}
 use Rattle.quadtree.proofs.Counts.{count_by-listed, count_in-parent}
 
@@ -40,7 +40,7 @@ tree_at_next grid points cap p given level lt crowded =
       of_grid = refl;
       level_in_grid = omega arith;
       occupied = occupied grid points p given (suc level);
-      reached = inr (omega arith, let P : Square → Type 0 = λ c. IsSplit points cap c in subst P (sym e) (record { over_cap = crowded }));
+      reached = inr (omega arith, let P : Square → Type 0 = λ c. cap < count_in points c in subst P (sym e) crowded);
     }
 
 pub crowded_above : (grid : ℕ) (points : List Point) (cap : ℕ) (p : Point) (level : ℕ) → IsTreeCell grid points cap (cell_of grid p (suc level)) → cap < count_in points (cell_of grid p level)
@@ -48,7 +48,7 @@ crowded_above grid points cap p level h =
     let e : parent (cell_of grid p (suc level)) ≡ cell_of grid p level = rw add-one at (parent-square_at grid level p.x p.y (omega (arith, h.level_in_grid))) in
     elim h.reached [
       | inl is_root ↦ absurd (let z : suc level ≡ 0 = ap (λ (c : Square). c.level) is_root in omega arith)
-      | inr below ↦ let P : Square → Type 0 = λ c. cap < count_in points c in subst P e (below.1.over_cap)
+      | inr below ↦ let P : Square → Type 0 = λ c. cap < count_in points c in subst P e below.1
     ]
 
 -- the tree's cells of a point: down to a level `last`, and the leaf there

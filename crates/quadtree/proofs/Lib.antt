@@ -13,6 +13,7 @@ pub mod Levels
 pub mod Limits
 pub mod Members
 pub mod NodeSeen
+pub mod Occupants
 pub mod Parents
 pub mod Positions
 pub mod Pushed

@@ -7,7 +7,7 @@ use Rattle.std.proofs.lemmas.List.Elements.{All-contains}
 use Rattle.points.specs.declared.Point.{Point}
 use Rattle.cell_name.specs.Square.{Square, parent, square_at, IsInGrid, Holds, holds_test}
 use Rattle.cell_name.proofs.Cells.{square_at-unique, parent-square_at}
-use Rattle.quadtree.specs.Tree.{AreInGrid, count_in, IsSplit, IsTreeCell, IsLeaf}
+use Rattle.quadtree.specs.Tree.{AreInGrid, count_in, IsTreeCell, IsLeaf}
 use Rattle.cell_name.proofs.HoldsTest.{Holds-from_test}
 use Rattle.quadtree.proofs.LeafLevel.{cell_of, IsListed, InTreeAt, tree_above}
 
@@ -60,24 +60,24 @@ IsTreeCell-parent grid points cap c positive inside h lo =
     subst P (sym up) above
 
 -- a cell of the tree is a leaf or it is split and has room below
-pub leaf_or_split : (grid : ℕ) (points : List Point) (cap : ℕ) (c : Square) → IsTreeCell grid points cap c → IsLeaf grid points cap c ⊎ (IsSplit points cap c × (c.level < grid))
+pub leaf_or_split : (grid : ℕ) (points : List Point) (cap : ℕ) (c : Square) → IsTreeCell grid points cap c → IsLeaf grid points cap c ⊎ ((cap < count_in points c) × (c.level < grid))
 leaf_or_split grid points cap c h =
     elim (cases_lt cap (count_in points c)) [
       | inr few ↦ inl (record { in_tree = h; ends = inl few })
       | inl over ↦
           elim (cases_lt c.level grid) [
             | inr end ↦ inl (record { in_tree = h; ends = inr (omega (arith, h.level_in_grid, end)) })
-            | inl room ↦ inr (record { over_cap = over }, room)
+            | inl room ↦ inr (over, room)
           ]
     ]
 
 -- a cell below the root stands in the tree exactly where it has a point and its parent is split
-pub IsTreeCell-below : (grid : ℕ) (points : List Point) (cap : ℕ) (c : Square) → 0 < c.level → c.level ≤ grid → IsTreeCell grid points cap c → (1 ≤ count_in points c) × IsSplit points cap (parent c)
+pub IsTreeCell-below : (grid : ℕ) (points : List Point) (cap : ℕ) (c : Square) → 0 < c.level → c.level ≤ grid → IsTreeCell grid points cap c → (1 ≤ count_in points c) × (cap < count_in points (parent c))
 IsTreeCell-below grid points cap c lo hi h =
     elim h.reached [
       | inl is_root ↦ absurd (let z : c.level ≡ 0 = ap (λ (v : Square). v.level) is_root in omega arith)
       | inr below ↦ (h.occupied, below.1)
     ]
 
-pub IsTreeCell-from_below : (grid : ℕ) (points : List Point) (cap : ℕ) (c : Square) → c.grid ≡ grid → 0 < c.level → c.level ≤ grid → 1 ≤ count_in points c → IsSplit points cap (parent c) → IsTreeCell grid points cap c
+pub IsTreeCell-from_below : (grid : ℕ) (points : List Point) (cap : ℕ) (c : Square) → c.grid ≡ grid → 0 < c.level → c.level ≤ grid → 1 ≤ count_in points c → (cap < count_in points (parent c)) → IsTreeCell grid points cap c
 IsTreeCell-from_below grid points cap c same lo hi occupied split = record { of_grid = same; level_in_grid = hi; occupied = occupied; reached = inr (lo, split) }

@@ -10,8 +10,9 @@ use Rattle.points.specs.declared.Point.{Point}
 use Rattle.cell_name.specs.Square.{Square, Holds}
 use Rattle.quadtree.specs.Members.{holds_point, holds_position, members_of}
 use Rattle.quadtree.specs.Nodes.{is_target_at, is_source_at}
-use Rattle.quadtree.specs.Tree.{HasPoint, HasSource, HasTarget}
+use Rattle.quadtree.specs.Tree.{has_source, has_target}
 use Rattle.cell_name.proofs.HoldsTest.{Holds-from_test, test-from_Holds}
+use Rattle.quadtree.proofs.Occupants.{target_in, target_there, source_in, source_there}
 use Rattle.quadtree.proofs.Distinct.{Contains-filter, Contains-into_filter}
 
 -- the point at a position
@@ -45,33 +46,35 @@ Contains-members_of points c k p h =
     Contains-into_filter (λ j. holds_position c points j) (range_with_len 0 (length points)) k (k, inside, e) (ap (holds_point c) h.point_is ∙ test-from_Holds c p.x p.y h.held)
 
 -- a member is the position of a listed point
-has_point : (points : List Point) (c : Square) (k : ℕ) (p : Point) → IsMember points c k p → HasPoint points c p
-has_point points c k p h = let at = point_at points k p h.point_is in record { listed = (k, at.inside, at.here); held = h.held }
+member_listed : (points : List Point) (c : Square) (k : ℕ) (p : Point) → IsMember points c k p → Contains points p
+member_listed points c k p h = let at = point_at points k p h.point_is in (k, at.inside, at.here)
 
 -- and a listed point has a position
-member_of_listed : (points : List Point) (c : Square) (p : Point) → HasPoint points c p → (k : ℕ) × IsMember points c k p
-member_of_listed points c p h = (h.listed.0, record { point_is = slice_get-at points h.listed.0 p (record { inside = h.listed.1; here = h.listed.2 }); held = h.held })
+member_of_listed : (points : List Point) (c : Square) (p : Point) → Contains points p → Holds c p.x p.y → (k : ℕ) × IsMember points c k p
+member_of_listed points c p h held = (h.0, record { point_is = slice_get-at points h.0 p (record { inside = h.1; here = h.2 }); held = held })
 
-pub has_target_is : (points : List Point) (c : Square) (b : Bool) → b ≡ list_any (λ k. is_target_at (slice_get points k)) (members_of points c) → IsTrue b ↔ HasTarget points c
+pub has_target_is : (points : List Point) (c : Square) (b : Bool) → b ≡ list_any (λ k. is_target_at (slice_get points k)) (members_of points c) → IsTrue b ↔ IsTrue (has_target points c)
 has_target_is points c b e = (
   λ t.
       let found = Any-from_list_any (λ k. is_target_at (slice_get points k)) (members_of points c) (sym e ∙ t) in
       let m = member_point points c found.1 (found.0, found.2, found.3) in
-      record { target = m.0; here = has_point points c found.1 m.0 m.1; is_target = sym (ap is_target_at m.1.point_is) ∙ found.4 },
+      target_there points c (record { point = m.0; listed = member_listed points c found.1 m.0 m.1; held = m.1.held; passes = sym (ap is_target_at m.1.point_is) ∙ found.4 }),
   λ h.
-      let m = member_of_listed points c h.target h.here in
-      let at = Contains-members_of points c m.0 h.target m.1 in
-      e ∙ list_any-from_Any (λ k. is_target_at (slice_get points k)) (members_of points c) (at.0, m.0, at.1, at.2, ap is_target_at m.1.point_is ∙ h.is_target),
+      let o = target_in points c h in
+      let m = member_of_listed points c o.point o.listed o.held in
+      let at = Contains-members_of points c m.0 o.point m.1 in
+      e ∙ list_any-from_Any (λ k. is_target_at (slice_get points k)) (members_of points c) (at.0, m.0, at.1, at.2, ap is_target_at m.1.point_is ∙ o.passes),
 )
 
-pub has_source_is : (points : List Point) (c : Square) (b : Bool) → b ≡ list_any (λ k. is_source_at (slice_get points k)) (members_of points c) → IsTrue b ↔ HasSource points c
+pub has_source_is : (points : List Point) (c : Square) (b : Bool) → b ≡ list_any (λ k. is_source_at (slice_get points k)) (members_of points c) → IsTrue b ↔ IsTrue (has_source points c)
 has_source_is points c b e = (
   λ t.
       let found = Any-from_list_any (λ k. is_source_at (slice_get points k)) (members_of points c) (sym e ∙ t) in
       let m = member_point points c found.1 (found.0, found.2, found.3) in
-      record { source = m.0; here = has_point points c found.1 m.0 m.1; is_source = sym (ap is_source_at m.1.point_is) ∙ found.4 },
+      source_there points c (record { point = m.0; listed = member_listed points c found.1 m.0 m.1; held = m.1.held; passes = sym (ap is_source_at m.1.point_is) ∙ found.4 }),
   λ h.
-      let m = member_of_listed points c h.source h.here in
-      let at = Contains-members_of points c m.0 h.source m.1 in
-      e ∙ list_any-from_Any (λ k. is_source_at (slice_get points k)) (members_of points c) (at.0, m.0, at.1, at.2, ap is_source_at m.1.point_is ∙ h.is_source),
+      let o = source_in points c h in
+      let m = member_of_listed points c o.point o.listed o.held in
+      let at = Contains-members_of points c m.0 o.point m.1 in
+      e ∙ list_any-from_Any (λ k. is_source_at (slice_get points k)) (members_of points c) (at.0, m.0, at.1, at.2, ap is_source_at m.1.point_is ∙ o.passes),
 )

@@ -11,7 +11,7 @@ use Rattle.cell_name.specs.Square.{Square, root, parent}
 use Rattle.cell_name.proofs.Quarters.{IsQuarter, quarters_are, quarters_contain, quarters_differ}
 use Rattle.cell_name.specs.Quarters.{quarters}
 use Rattle.quadtree.specs.Splitting.{below, cells_of_level, IsCellOfLevel, AreCellsOfLevel}
-use Rattle.quadtree.specs.Tree.{AreInGrid, count_in, IsSplit}
+use Rattle.quadtree.specs.Tree.{AreInGrid, count_in}
 use Rattle.quadtree.proofs.Distinct.{Contains-filter, Contains-into_filter, Contains-flat_map, All-flat_map, different-flat_map}
 use Rattle.quadtree.proofs.Levels.{below-split, below-whole}
 use Rattle.quadtree.proofs.Parents.{IsTreeCell-parent}
@@ -26,7 +26,7 @@ test-has_point points c h = grind (arith, nat_tests)
 
 -- a cell that splitting another makes
 pub record IsBelow (points : List Point) (cap : ℕ) (c a : Square) : Type 0 where
-  pub split : IsSplit points cap c
+  pub split : cap < count_in points c
   pub quarter : IsQuarter c a
   pub occupied : 1 ≤ count_in points a
 
@@ -36,17 +36,17 @@ below_is points cap c a h =
       | inl over ↦
           let P : List Square → Type 0 = λ l. Contains l a in
           let kept = Contains-filter (λ q. ltb 0 (count_in points q)) (quarters c) a (subst P (below-split points cap c over) h) in
-          record { split = record { over_cap = over }; quarter = All-contains (IsQuarter c) (quarters c) a (quarters_are c) kept.0; occupied = has_point points a kept.1 }
+          record { split = over; quarter = All-contains (IsQuarter c) (quarters c) a (quarters_are c) kept.0; occupied = has_point points a kept.1 }
       | inr few ↦
           let P : List Square → Type 0 = λ l. Contains l a in
           let none : Contains [] a = subst P (below-whole points cap c few) h in
           absurd (omega (arith, none.1))
     ]
 
-pub below_has : (points : List Point) (cap : ℕ) (c : Square) → 0 < c.level → IsSplit points cap (parent c) → 1 ≤ count_in points c → Contains (below points cap (parent c)) c
+pub below_has : (points : List Point) (cap : ℕ) (c : Square) → 0 < c.level → (cap < count_in points (parent c)) → 1 ≤ count_in points c → Contains (below points cap (parent c)) c
 below_has points cap c lo split occupied =
     let P : List Square → Type 0 = λ l. Contains l c in
-    subst P (sym (below-split points cap (parent c) split.over_cap)) (Contains-into_filter (λ q. ltb 0 (count_in points q)) (quarters (parent c)) c (quarters_contain c lo) (test-has_point points c occupied))
+    subst P (sym (below-split points cap (parent c) split)) (Contains-into_filter (λ q. ltb 0 (count_in points q)) (quarters (parent c)) c (quarters_contain c lo) (test-has_point points c occupied))
 
 below_differ : (points : List Point) (cap : ℕ) (c : Square) → AllPairs (λ a b. a ≢ b) (below points cap c)
 below_differ points cap c =
@@ -59,7 +59,7 @@ below_differ points cap c =
 
 cell_below : (grid : ℕ) (points : List Point) (cap level : ℕ) (c a : Square) → suc level ≤ grid → IsCellOfLevel grid points cap level c → IsBelow points cap c a → IsCellOfLevel grid points cap (suc level) a
 cell_below grid points cap level c a le h b =
-    let P : Square → Type 0 = λ v. IsSplit points cap v in
+    let P : Square → Type 0 = λ v. cap < count_in points v in
     record {
       in_tree =
           record {

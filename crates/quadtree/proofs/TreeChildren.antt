@@ -13,7 +13,7 @@ use Rattle.cell_name.specs.Order.{IsBefore}
 use Rattle.cell_name.specs.Quarters.{quarters}
 use Rattle.cell_name.specs.Square.{Square, no_square, parent}
 use Rattle.quadtree.specs.Splitting.{below}
-use Rattle.quadtree.specs.Tree.{AreInGrid, count_in, IsSplit, IsTreeCell}
+use Rattle.quadtree.specs.Tree.{AreInGrid, count_in, IsTreeCell}
 use Rattle.quadtree.specs.TreeModel.{TreeModel, size, squares, square_of, node_of, is_child, children_of, IsTreeOf}
 use Rattle.quadtree.proofs.Ascending.{quarters_ascend, same_list}
 use Rattle.quadtree.proofs.Distinct.{Contains-filter, Contains-into_filter}
@@ -34,7 +34,7 @@ pub record IsChildOf (tree : TreeModel) (n c : ℕ) : Type 0 where
 
 -- the cell of a number is one of the tree
 pub tree_cell_at : (tree : TreeModel) (points : List Point) (cap n : ℕ) → IsTreeOf tree points cap → n < size tree → IsTreeCell tree.grid points cap (square_of tree n)
-tree_cell_at tree points cap n h lt = All-get_or (IsTreeCell tree.grid points cap) (squares tree) n no_square (omega (arith, length-map tree.cells square)) h.cells_are.in_tree
+tree_cell_at tree points cap n h lt = All-get_or (IsTreeCell tree.grid points cap) (squares tree) n no_square (omega (arith, length-map tree.cells square)) h.cells_are.each
 
 module _ (tree : TreeModel) (points : List Point) (cap : ℕ) (inside : AreInGrid tree.grid points) (h : IsTreeOf tree points cap) where
   positive : 0 < tree.grid
@@ -127,7 +127,7 @@ module _ (tree : TreeModel) (points : List Point) (cap : ℕ) (inside : AreInGri
       up s m =
           let b = below_is points cap (square_of tree n) s m in
           let here = tree_cell_at tree points cap n h lt in
-          let S : Square → Type 0 = λ v. IsSplit points cap v in
+          let S : Square → Type 0 = λ v. cap < count_in points v in
           let in_tree : IsTreeCell tree.grid points cap s = IsTreeCell-from_below tree.grid points cap s (b.quarter.of_grid ∙ here.of_grid) (omega (arith, b.quarter.level)) (omega (arith, b.quarter.level)) b.occupied (subst S (sym b.quarter.parent_is) b.split) in
           let k = h.cells_are.whole s in_tree in
           let in_range : k.0 < size tree = omega (arith, k.1, as_many) in

@@ -14,8 +14,8 @@ use Rattle.cell_name.specs.Cell.{square}
 use Rattle.cell_name.specs.Order.{IsBefore}
 use Rattle.cell_name.specs.Square.{Square, root, no_square}
 use Rattle.quadtree.specs.declared.split.Run.{Run}
-use Rattle.quadtree.specs.Splitting.{squares_of, occupied, below, cells_of_level, cells_to_level, IsRun, AreRuns, IsParentNumber, HaveParents, AreBelow, IsCellOfLevel, AreCellsOfLevel, IsCellToLevel, AreCellsToLevel, IsBuiltTo}
-use Rattle.quadtree.specs.Tree.{AreInGrid, count_in, IsTreeCell, AreTreeCells}
+use Rattle.quadtree.specs.Splitting.{squares_of, occupied, below, cells_of_level, cells_to_level, IsRun, AreRuns, IsParentNumber, HaveParents, AreBelow, IsCellOfLevel, AreCellsOfLevel, IsCellToLevel, IsBuiltTo}
+use Rattle.quadtree.specs.Tree.{AreInGrid, count_in, IsTreeCell, AreExactly}
 use Rattle.quadtree.proofs.Distinct.{AllPairs-append}
 use Rattle.quadtree.proofs.Sorted.{run_cmp, cells_moved, ascending_from_sort}
 use Rattle.quadtree.proofs.TreeCells.{cells_below, cells_of_level_are, cells_of_level_whole, cells_of_level_differ}
@@ -53,7 +53,7 @@ ascending_one grid points = AllPairs-filter IsBefore (λ c. ltb 0 (count_in poin
 
 pub built_root : (grid : ℕ) (points : List Point) (cap : ℕ) (xs : List ℕ) (runs : List Run) → 0 < grid → AreInGrid grid points → squares_of runs ≡ occupied points (root grid ∷ []) → AreRuns points xs runs → HaveParents (squares_of runs) runs → IsBuiltTo grid points cap 0 0 xs runs
 built_root grid points cap xs runs positive inside e are parents =
-    let P : List Square → Type 0 = λ l. AreCellsToLevel grid points cap 0 l in
+    let P : List Square → Type 0 = λ l. AreExactly (IsCellToLevel grid points cap 0) l in
     let Q : List Square → Type 0 = λ l. AreCellsOfLevel grid points cap 0 l in
     record {
       cells =
@@ -74,7 +74,7 @@ built_root grid points cap xs runs positive inside e are parents =
     }
 
 -- the cells of one more level
-one_level_more : (grid : ℕ) (points : List Point) (cap level : ℕ) (cells next : List Square) → AreCellsToLevel grid points cap level cells → AreCellsOfLevel grid points cap (suc level) next → AllPairs IsBefore next → AreCellsToLevel grid points cap (suc level) (cells ++ next)
+one_level_more : (grid : ℕ) (points : List Point) (cap level : ℕ) (cells next : List Square) → AreExactly (IsCellToLevel grid points cap level) cells → AreCellsOfLevel grid points cap (suc level) next → AllPairs IsBefore next → AreExactly (IsCellToLevel grid points cap (suc level)) (cells ++ next)
 one_level_more grid points cap level cells next h n up =
     record {
       each =
@@ -108,7 +108,7 @@ built_more grid points cap level start xs ys runs found next now positive inside
     let Q : List Square → Type 0 = λ l. AreCellsOfLevel grid points cap (suc level) l in
     let made : AreCellsOfLevel grid points cap (suc level) (squares_of found) = subst Q (sym found_are) (cells_below grid points cap level (drop start cells) positive inside (omega arith) h.last) in
     let level_is : AreCellsOfLevel grid points cap (suc level) fresh = cells_moved grid points cap (suc level) (squares_of found) fresh (IsPermutation-map (λ (r : Run). square r.cell) found next moved) made in
-    let S : List Square → Type 0 = λ l. AreCellsToLevel grid points cap (suc level) l in
+    let S : List Square → Type 0 = λ l. AreExactly (IsCellToLevel grid points cap (suc level)) l in
     let D : List Square → Type 0 = λ l. AreCellsOfLevel grid points cap (suc level) (drop (length runs) l) in
     let H : List Square → Type 0 = λ l. HaveParents l (runs ++ next) in
     let long : length runs ≡ length cells = sym (length-map runs (λ (r : Run). square r.cell)) in
@@ -130,10 +130,10 @@ built_more grid points cap level start xs ys runs found next now positive inside
     rw add-one (subst T (sym appended) built)
 
 -- the whole tree
-pub tree_built : (grid : ℕ) (points : List Point) (cap start : ℕ) (xs : List ℕ) (runs : List Run) → IsBuiltTo grid points cap grid start xs runs → AreTreeCells grid points cap (squares_of runs)
+pub tree_built : (grid : ℕ) (points : List Point) (cap start : ℕ) (xs : List ℕ) (runs : List Run) → IsBuiltTo grid points cap grid start xs runs → AreExactly (IsTreeCell grid points cap) (squares_of runs)
 tree_built grid points cap start xs runs h =
     record {
-      in_tree = All-weaker (IsCellToLevel grid points cap grid) (IsTreeCell grid points cap) (λ c k. k.in_tree) (squares_of runs) h.cells.each;
+      each = All-weaker (IsCellToLevel grid points cap grid) (IsTreeCell grid points cap) (λ c k. k.in_tree) (squares_of runs) h.cells.each;
       whole = λ c k. h.cells.whole c (record { in_tree = k; level_at_most = k.level_in_grid });
       ascending = h.cells.ascending;
     }

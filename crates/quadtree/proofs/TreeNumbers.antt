@@ -7,7 +7,7 @@ use Rattle.points.specs.declared.Point.{Point}
 use Rattle.cell_name.specs.Order.{IsBefore}
 use Rattle.cell_name.specs.Square.{Square, root, no_square}
 use Rattle.cell_name.proofs.Order.{IsBefore-irrefl}
-use Rattle.quadtree.specs.Tree.{AreInGrid, IsTreeCell, AreTreeCells}
+use Rattle.quadtree.specs.Tree.{AreInGrid, IsTreeCell, AreExactly}
 use Rattle.quadtree.proofs.LeafLevel.{cell_of, leaf_level_exists}
 use Rattle.quadtree.proofs.Parents.{cell_of_point}
 
@@ -28,10 +28,10 @@ root_of_level : (grid : ℕ) (points : List Point) (cap : ℕ) (c : Square) → 
 root_of_level grid points cap c h e = elim h.reached [ inl is_root ↦ is_root | inr below ↦ absurd (omega (arith, below.0)) ]
 
 -- the first cell is the root, and no other is of level 0
-pub level_of_first : (grid : ℕ) (points : List Point) (cap : ℕ) (cells : List Square) → 0 < grid → AreInGrid grid points → AreTreeCells grid points cap cells → 0 < length cells → (get_or cells 0 no_square).level ≡ 0
+pub level_of_first : (grid : ℕ) (points : List Point) (cap : ℕ) (cells : List Square) → 0 < grid → AreInGrid grid points → AreExactly (IsTreeCell grid points cap) cells → 0 < length cells → (get_or cells 0 no_square).level ≡ 0
 level_of_first grid points cap cells positive inside t some =
     let first : Square = get_or cells 0 no_square in
-    let in_tree : IsTreeCell grid points cap first = t.in_tree 0 no_square some in
+    let in_tree : IsTreeCell grid points cap first = t.each 0 no_square some in
     let o = cell_of_point grid points first in_tree.of_grid inside in_tree.occupied in
     let level = leaf_level_exists grid points cap o.point positive o.given in
     let top : Square = cell_of grid o.point 0 in
@@ -50,12 +50,12 @@ level_of_first grid points cap cells positive inside t some =
     no_higher : (c d : Square) → d.level ≡ 0 → IsBefore c d → c.level ≡ 0
     no_higher c d e b = elim b.before [ inl lt ↦ absurd (omega arith) | inr rest ↦ rest.0 ∙ e ]
 
-pub level_of_others : (grid : ℕ) (points : List Point) (cap : ℕ) (cells : List Square) → 0 < grid → AreInGrid grid points → AreTreeCells grid points cap cells → (n : ℕ) → n < length cells → 0 < n → 0 < (get_or cells n no_square).level
+pub level_of_others : (grid : ℕ) (points : List Point) (cap : ℕ) (cells : List Square) → 0 < grid → AreInGrid grid points → AreExactly (IsTreeCell grid points cap) cells → (n : ℕ) → n < length cells → 0 < n → 0 < (get_or cells n no_square).level
 level_of_others grid points cap cells positive inside t n lt lo =
     elim (cases_lt 0 (get_or cells n no_square).level) [
       | inl deep ↦ deep
       | inr none ↦
-          let here : get_or cells n no_square ≡ root grid = root_of_level grid points cap (get_or cells n no_square) (t.in_tree n no_square lt) (omega arith) in
-          let first : get_or cells 0 no_square ≡ root grid = root_of_level grid points cap (get_or cells 0 no_square) (t.in_tree 0 no_square (omega arith)) (level_of_first grid points cap cells positive inside t (omega arith)) in
+          let here : get_or cells n no_square ≡ root grid = root_of_level grid points cap (get_or cells n no_square) (t.each n no_square lt) (omega arith) in
+          let first : get_or cells 0 no_square ≡ root grid = root_of_level grid points cap (get_or cells 0 no_square) (t.each 0 no_square (omega arith)) (level_of_first grid points cap cells positive inside t (omega arith)) in
           absurd (let e : n ≡ 0 = number_unique cells n 0 t.ascending lt (omega arith) (here ∙ sym first) in omega arith)
     ]

@@ -22,7 +22,7 @@ use Rattle.quadtree.specs.Fields.{node_model, numbers_of, tree_of, IsRange, AreF
 use Rattle.quadtree.specs.Members.{members_of}
 use Rattle.quadtree.specs.Nodes.{AreNodesTo, IsInLeaf, LeavesAreApart, LeavesAreTo, blank_node}
 use Rattle.quadtree.specs.Splitting.{squares_of, IsParentNumber}
-use Rattle.quadtree.specs.Tree.{AreInGrid, IsTreeCell, IsLeaf, HasSource, HasTarget, AreTreeCells}
+use Rattle.quadtree.specs.Tree.{AreInGrid, IsTreeCell, IsLeaf, has_target, has_source, AreExactly}
 use Rattle.quadtree.specs.TreeModel.{NodeModel, TreeModel, squares, node_of, no_node, is_child, children_of, HasParent, IsNode, IsLeafOf, IsTreeOf}
 use Rattle.quadtree.proofs.Families.{at_most_four}
 use Rattle.quadtree.proofs.Distinct.{length-le_from_different}
@@ -58,11 +58,11 @@ same_point : (o : Option Point) (p q : Point) → o ≡ Some p → o ≡ Some q 
 same_point o p q e f = cc
 
 -- ---- cells with what is kept of each
-module _ (grid : ℕ) (points : List Point) (cap : ℕ) (positions : List ℕ) (cells : List Square) (parents : List ℕ) (families : List Children) (nodes : List Node) (positive : 0 < grid) (inside : AreInGrid grid points) (t : AreTreeCells grid points cap cells) (a : AreNodesTo points cap positions cells parents families nodes (length cells)) where
+module _ (grid : ℕ) (points : List Point) (cap : ℕ) (positions : List ℕ) (cells : List Square) (parents : List ℕ) (families : List Children) (nodes : List Node) (positive : 0 < grid) (inside : AreInGrid grid points) (t : AreExactly (IsTreeCell grid points cap) cells) (a : AreNodesTo points cap positions cells parents families nodes (length cells)) where
   -- a leaf by its own grid is one of the tree's
   own : (n : ℕ) → n < length cells → IsLeaf (get_or cells n no_square).grid points cap (get_or cells n no_square) ↔ IsLeaf grid points cap (get_or cells n no_square)
   own n lt =
-      let same : (get_or cells n no_square).grid ≡ grid = (t.in_tree n no_square lt).of_grid in
+      let same : (get_or cells n no_square).grid ≡ grid = (t.each n no_square lt).of_grid in
       let P : ℕ → Type 0 = λ g. IsLeaf g points cap (get_or cells n no_square) in
       (subst P same, subst P (sym same))
 
@@ -119,7 +119,7 @@ pub record AreParts (grid : ℕ) (points : List Point) (cap : ℕ) (cells : List
   pub few_points : length points ≤ most_points grid
   pub few_cells : length cells ≤ most_cells grid
   pub capacity : IsCapacity cap
-  pub cells_are : AreTreeCells grid points cap (map square cells)
+  pub cells_are : AreExactly (IsTreeCell grid points cap) (map square cells)
   pub as_many_parents : length parents ≡ length cells
   pub parents_are : (n : ℕ) → n < length cells → IsParentNumber (map square cells) (get_or (map square cells) n no_square) (get_or parents n 0)
   pub families_are : AreFamiliesTo parents families (length cells)
@@ -168,11 +168,11 @@ module _ (grid : ℕ) (points : List Point) (cap : ℕ) (cells : List Cell) (par
       let node : Node = get_or nodes n blank_node in
       let right = h.nodes_are.each n lt in
       let c : Square = get_or (map square cells) n no_square in
-      let same : c.grid ≡ grid = (h.cells_are.in_tree n no_square (omega (arith, as_many_squares))).of_grid in
+      let same : c.grid ≡ grid = (h.cells_are.each n no_square (omega (arith, as_many_squares))).of_grid in
       let G : ℕ → Type 0 = λ g. IsTrue node.is_leaf ↔ IsLeaf g points cap c in
       let L : NodeModel → Type 0 = λ v. IsTrue v.is_leaf ↔ IsLeaf grid points cap c in
-      let S : NodeModel → Type 0 = λ v. IsTrue v.has_source ↔ HasSource points c in
-      let T : NodeModel → Type 0 = λ v. IsTrue v.has_target ↔ HasTarget points c in
+      let S : NodeModel → Type 0 = λ v. IsTrue v.has_source ↔ IsTrue (has_source points c) in
+      let T : NodeModel → Type 0 = λ v. IsTrue v.has_target ↔ IsTrue (has_target points c) in
       record {
         parent_is = has_parent n lt;
         count_is = ap (λ (v : NodeModel). v.count) (sym (shows n lt)) ∙ sym (length-between positions node.from node.to right.range.in_range) ∙ ap length right.members_are ∙ length-members points c;

@@ -7,7 +7,7 @@ use Rattle.quadtree.specs.declared.children.Children.{Children}
 use Rattle.quadtree.specs.declared.tree.Node.{Node}
 use Rattle.quadtree.specs.Fields.{IsRange, no_children}
 use Rattle.quadtree.specs.Members.{members_of}
-use Rattle.quadtree.specs.Tree.{IsLeaf, HasSource, HasTarget}
+use Rattle.quadtree.specs.Tree.{IsLeaf, has_target, has_source}
 
 -- whether a point is there and is a target, or a source
 abbrev pub is_target_at : Option Point → Bool
@@ -23,8 +23,8 @@ pub record IsNodeOf (points : List Point) (cap : ℕ) (positions : List ℕ) (c 
   pub range : IsRange positions node
   pub members_are : slice_range positions node.from node.to ≡ members_of points c
   pub leaf : IsTrue node.is_leaf ↔ IsLeaf c.grid points cap c
-  pub source : IsTrue node.has_source ↔ HasSource points c
-  pub target : IsTrue node.has_target ↔ HasTarget points c
+  pub source : IsTrue node.has_source ↔ IsTrue (has_source points c)
+  pub target : IsTrue node.has_target ↔ IsTrue (has_target points c)
   pub parent_is : node.parent ≡ parent
   pub children_are : node.children ≡ children
 

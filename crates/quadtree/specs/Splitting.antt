@@ -5,12 +5,11 @@ use Rattle.limits.specs.Limits.{most_at_a_place}
 use Rattle.points.specs.declared.Point.{Point}
 use Rattle.cell_name.specs.declared.cell.Cell.{Cell}
 use Rattle.cell_name.specs.Cell.{square}
-use Rattle.cell_name.specs.Order.{IsBefore}
 use Rattle.cell_name.specs.Quarters.{quarters}
 use Rattle.cell_name.specs.Square.{Square, root, no_square, parent}
 use Rattle.quadtree.specs.declared.split.Run.{Run}
 use Rattle.quadtree.specs.Members.{members_of}
-use Rattle.quadtree.specs.Tree.{count_in, is_over, IsTreeCell}
+use Rattle.quadtree.specs.Tree.{count_in, is_over, IsTreeCell, AreExactly}
 
 -- the cells of a list that have a point
 abbrev pub occupied : List Point → List Square → List Square
@@ -97,15 +96,9 @@ pub record IsCellToLevel (grid : ℕ) (points : List Point) (cap level : ℕ) (c
   pub in_tree : IsTreeCell grid points cap c
   pub level_at_most : c.level ≤ level
 
--- exactly the cells down to a level, ascending
-pub record AreCellsToLevel (grid : ℕ) (points : List Point) (cap level : ℕ) (cells : List Square) : Type 0 where
-  pub each : All (IsCellToLevel grid points cap level) cells
-  pub whole : (c : Square) → IsCellToLevel grid points cap level c → Contains cells c
-  pub ascending : AllPairs IsBefore cells
-
 -- the tree on a grid is built down to a level, whose cells are those from `start` on
 pub record IsBuiltTo (grid : ℕ) (points : List Point) (cap level start : ℕ) (positions : List ℕ) (runs : List Run) : Type 0 where
-  pub cells : AreCellsToLevel grid points cap level (squares_of runs)
+  pub cells : AreExactly (IsCellToLevel grid points cap level) (squares_of runs)
   pub start_inside : start ≤ length runs
   pub last : AreCellsOfLevel grid points cap level (drop start (squares_of runs))
   pub runs_are : AreRuns points positions runs

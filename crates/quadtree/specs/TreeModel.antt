@@ -8,7 +8,7 @@ use Rattle.cell_name.specs.declared.cell.Cell.{Cell}
 use Rattle.cell_name.specs.Cell.{square}
 use Rattle.cell_name.specs.Square.{Square, no_square, parent, Holds}
 use Rattle.quadtree.specs.Members.{members_of}
-use Rattle.quadtree.specs.Tree.{AreInGrid, count_in, AreTreeCells, IsLeaf, HasSource, HasTarget}
+use Rattle.quadtree.specs.Tree.{AreInGrid, count_in, IsLeaf, has_target, has_source, AreExactly, IsTreeCell}
 
 -- What is kept of a cell: its parent's number, how many points it has, what kind of cell it is, the positions of its points, and the numbers of its children.
 pub record NodeModel : Type 0 where
@@ -70,8 +70,8 @@ pub record IsNode (tree : TreeModel) (points : List Point) (cap n : ℕ) : Type 
   pub parent_is : HasParent tree n
   pub count_is : (node_of tree n).count ≡ count_in points (square_of tree n)
   pub leaf : IsTrue (node_of tree n).is_leaf ↔ IsLeaf tree.grid points cap (square_of tree n)
-  pub source : IsTrue (node_of tree n).has_source ↔ HasSource points (square_of tree n)
-  pub target : IsTrue (node_of tree n).has_target ↔ HasTarget points (square_of tree n)
+  pub source : IsTrue (node_of tree n).has_source ↔ IsTrue (has_source points (square_of tree n))
+  pub target : IsTrue (node_of tree n).has_target ↔ IsTrue (has_target points (square_of tree n))
   pub members_are : (node_of tree n).members ≡ members_of points (square_of tree n)
   pub children_are : (node_of tree n).children ≡ children_of tree n
 
@@ -84,7 +84,7 @@ pub record IsLeafOf (tree : TreeModel) (points : List Point) (cap n : ℕ) (p : 
 -- the tree of a list of points and a capacity: its cells, what is kept of each, and the leaf of each point
 pub record IsTreeOf (tree : TreeModel) (points : List Point) (cap : ℕ) : Type 0 where
   pub known_grid : IsGrid tree.grid
-  pub cells_are : AreTreeCells tree.grid points cap (squares tree)
+  pub cells_are : AreExactly (IsTreeCell tree.grid points cap) (squares tree)
   pub few : size tree ≤ most_cells tree.grid
   pub as_many_nodes : length tree.nodes ≡ size tree
   pub nodes_are : (n : ℕ) → n < size tree → IsNode tree points cap n

@@ -6,7 +6,7 @@ ghost use Rattle.limits.specs.Limits.{IsGrid, grid_of, most_points, most_cells};
 ghost use Rattle.points.specs.Limits.{WithinLimits};
 ghost use Rattle.quadtree.specs.Faults.{NoneIsCrowded, HasTree, IsFaultOf};
 ghost use Rattle.quadtree.specs.Splitting.{squares_of, AreRuns, HaveParents, IsCrowdedRun, IsFirstCrowdedRun};
-ghost use Rattle.quadtree.specs.Tree.{AreInGrid, AreTreeCells};
+ghost use Rattle.quadtree.specs.Tree.{AreInGrid, AreExactly, IsTreeCell};
 ghost use Rattle.quadtree.specs.TreeModel.{IsTreeOf};
 
 use crate::children::children_of;
@@ -39,7 +39,7 @@ fn accepted(alloc: Global, points: &[Point], cap: u32, grid: u8) -> Result<Split
     requires in_grid { AreInGrid grid points.now }
     requires few { length points.now ≤ most_points grid }
     requires cap { cap ≤ 1024 }
-    ensures cells { IfOk result (λ s. AreTreeCells grid points.now cap (squares_of s.runs.items)) }
+    ensures cells { IfOk result (λ s. AreExactly (IsTreeCell grid points.now cap) (squares_of s.runs.items)) }
     ensures runs { IfOk result (λ s. AreRuns points.now s.positions.items s.runs.items) }
     ensures parents { IfOk result (λ s. HaveParents (squares_of s.runs.items) s.runs.items) }
     ensures few { IfOk result (λ s. length s.runs.items ≤ most_cells grid) }
@@ -78,7 +78,7 @@ fn assembled(
     requires known_grid { IsGrid grid }
     requires in_grid { AreInGrid grid points.now }
     requires few_points { length points.now ≤ most_points grid }
-    requires cells { AreTreeCells grid points.now cap (squares_of splits.runs.items) }
+    requires cells { AreExactly (IsTreeCell grid points.now cap) (squares_of splits.runs.items) }
     requires few_cells { length splits.runs.items ≤ most_cells grid }
     requires runs { AreRuns points.now splits.positions.items splits.runs.items }
     requires parents { HaveParents (squares_of splits.runs.items) splits.runs.items }

@@ -7,7 +7,7 @@ ghost use Rattle.cell_name.specs.Square.{root, child};
 ghost use Rattle.limits.specs.Limits.{IsGrid, widest_grid, most_points};
 ghost use Rattle.quadtree.specs.Divided.{HasRoom};
 ghost use Rattle.quadtree.specs.Splitting.{squares_of, occupied, below_from, quarters_of, added_run, AddsCells, AreRuns, AreBelow, HaveParents};
-ghost use Rattle.quadtree.specs.Tree.{AreInGrid, AreTreeCells};
+ghost use Rattle.quadtree.specs.Tree.{AreInGrid, AreExactly, IsTreeCell};
 
 use crate::divide::Parts;
 use cell_name::{Cell, Quadrant};
@@ -161,7 +161,7 @@ impl Splits {
         requires known_grid { IsGrid grid }
         requires in_grid { AreInGrid grid points.now }
         requires few { length points.now ≤ most_points widest_grid }
-        ensures cells { IfOk result (λ s. AreTreeCells grid points.now cap (squares_of s.runs.items)) }
+        ensures cells { IfOk result (λ s. AreExactly (IsTreeCell grid points.now cap) (squares_of s.runs.items)) }
         ensures runs { IfOk result (λ s. AreRuns points.now s.positions.items s.runs.items) }
         ensures parents { IfOk result (λ s. HaveParents (squares_of s.runs.items) s.runs.items) }
     {

@@ -58,7 +58,7 @@ module _ (P : ℕ) (b : BoardParts) (is : IsBoard P b) where
         let list = is.basis_is.lists_are.each b.basis.points b.basis.cap (inside P b.basis is.basis_is) is.basis_is.is_tree V n lt in
         let entry = (list.exact m (All-contains (λ c. c < size b.basis.tree) (list_at b.basis.lists.v n) m list.numbers h)).0 h in
         let root : (square_of b.basis.tree n).level ≡ 0 = ap (λ j. (square_of b.basis.tree j).level) e ∙ first_level b.basis.tree (some_tree b.basis.points b.basis.tree (tree_of_basis P b.basis is.basis_is)) (omega arith) in
-        omega (arith, entry.pair.come_apart.below_root, root)
+        omega (arith, entry.pair.2.below_root, root)
 
     pub far_stand : n < size b.basis.tree → AreMultipolePlaces P b.basis.points b.basis.tree b.up (list_at b.basis.lists.v n)
     far_stand lt = ⊎_elim

@@ -9,7 +9,7 @@ use Rattle.cell_lists.specs.EntryLists.{lists_of}
 use Rattle.cell_lists.specs.ListAt.{list_at}
 use Rattle.downward_rows.proofs.Trees.{target_of_parent}
 use Rattle.exact_math.proofs.Lists.{All-from_members}
-use Rattle.field_basis.proofs.Positions.{has_target}
+use Rattle.field_basis.proofs.Positions.{target_has_leaf}
 use Rattle.field_basis.proofs.Sizes.{inside}
 use Rattle.field_basis.proofs.Trees.{some_tree, tree_of_basis}
 use Rattle.field_basis.specs.Basis.{target_leaf}
@@ -73,7 +73,7 @@ module _ (P : ℕ) (b : BoardParts) (is : IsBoard P b) where
     leaf_comes : ComesBefore b (turn_of b (Value k)) (Local (target_leaf b.basis k))
     leaf_comes =
         let leaf = leaf_is P b.basis is.basis_is k lt in
-        let target = has_target b.basis.points b.basis.cap b.basis.tree is.basis_is.is_tree (get_or b.basis.targets k 0) (position P b.basis is.basis_is k lt) in
+        let target = target_has_leaf b.basis.points b.basis.cap b.basis.tree is.basis_is.is_tree (get_or b.basis.targets k 0) (position P b.basis is.basis_is k lt) in
         ((leaf.in_range, (is.basis_is.is_tree.nodes_are (target_leaf b.basis k) leaf.in_range).target.1 target), omega (arith, leaf.in_range))
 
     value_before : All (ComesBefore b (turn_of b (Value k))) (needs b (Value k))

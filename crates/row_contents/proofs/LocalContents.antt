@@ -12,16 +12,16 @@ use Rattle.cell_name.specs.Square.{Square, side, parent, ancestor, holds_test}
 use Rattle.cell_name.proofs.Cells.{Touches-sym}
 use Rattle.cell_name.proofs.Distances.{same_side}
 use Rattle.cell_name.proofs.HoldsTest.{Holds-from_test}
-use Rattle.cell_lists.specs.Entries.{IsEntry, IsVPair, IsWPair}
-use Rattle.letters.specs.declared.Letter.TheVariants.{V, X}
+use Rattle.cell_lists.specs.Entries.{IsEntry, IsPair}
+use Rattle.letters.specs.declared.Letter.TheVariants.{V, X, W}
 use Rattle.kernel_table.specs.Kernel.{kernel_entry}
 use Rattle.points.specs.Points.{is_source, place, strength}
 use Rattle.points.specs.declared.Point.{Point}
-use Rattle.quadtree.specs.Tree.{AreInGrid, IsTreeCell}
+use Rattle.quadtree.specs.Tree.{AreInGrid, IsTreeCell, is_source_in}
 use Rattle.quadtree.proofs.Distinct.{Contains-filter}
 use Rattle.quadtree.proofs.Parents.{IsTreeCell-parent}
 use Rattle.row_recursions.specs.Fields.{HoldsField}
-use Rattle.row_recursions.specs.Geometry.{doubled_centre, sides_between}
+use Rattle.row_recursions.specs.Geometry.{doubled_centre}
 use Rattle.row_recursions.specs.Moments.{HoldsMoments}
 use Rattle.row_recursions.specs.Rows.{converted, shifted_down}
 use Rattle.row_recursions.specs.Sources.{source_of}
@@ -30,11 +30,11 @@ use Rattle.row_recursions.proofs.DownLaws.{field_down}
 use Rattle.row_recursions.proofs.FieldLaws.{no_field, sum_of_fields}
 use Rattle.row_recursions.proofs.Geometry.{far_places, pairs_of_cells}
 use Rattle.row_recursions.proofs.Points.{strength_field}
-use Rattle.soundness.specs.Computed.{total_row, far_coefficients_in}
+use Rattle.soundness.specs.Computed.{total_row}
 use Rattle.soundness.specs.Squares.{offset, quadrant, IsQuarterOf, IsFarFrom}
 use Rattle.soundness.proofs.Places.{side_positive, side_of-quarter, centre_of-quarter, norm_beyond}
 use Rattle.truncation.specs.Entries.{local_cut}
-use Rattle.tree_field.specs.Field.{is_source_in, sources_in, multipole_row, converted_rows, far_rows, local_row}
+use Rattle.tree_field.specs.Field.{sources_in, multipole_row, local_row}
 use Rattle.tree_field.specs.Lists.{TreeLists, AreTreeLists}
 use Rattle.tree_field.proofs.LocalRows.{empty_from, local_row-root, local_row-below}
 use Rattle.exact_math.proofs.Lists.{All-from_members}
@@ -43,6 +43,9 @@ use Rattle.row_contents.specs.Fields.{sources_of, pair_terms, far_terms, entry_t
 use Rattle.row_contents.proofs.Ancestors.{ancestor-self, ancestor-parent, sum_complex-same}
 use Rattle.row_contents.proofs.HeldFields.{HoldsField-same, HoldsField-list}
 use Rattle.row_contents.proofs.MultipoleContents.{multipole_rows_held}
+use Rattle.row_recursions.specs.Cells.{far_coefficients_in}
+use Rattle.soundness.specs.Steps.{v_rows, x_rows}
+use Rattle.cell_name.specs.Apart.{sides_between}
 
 -- a row that holds a field in a cell
 abbrev Held : ℕ → Square → (Gaussian → ComplexRatio) → (ℕ → BoxEnds) → Type 0
@@ -57,25 +60,25 @@ far_point P b p far = strength_field P (side b) (doubled_centre b) (place p) (st
 
 module _ (grid : ℕ) (points : List Point) (cap P : ℕ) (positive : 0 < grid) (inside : AreInGrid grid points) where
   -- ---- one entry
-  pair_held : (b c : Square) → IsVPair grid points cap b c → Held P b (λ t. pair_terms points P b c t) (converted P (kernel_entry (sides_between b c)) (multipole_row points cap c))
+  pair_held : (b c : Square) → IsPair grid points cap V b c → Held P b (λ t. pair_terms points P b c t) (converted P (kernel_entry (sides_between b c)) (multipole_row points cap c))
   pair_held b c h =
-      let grids : b.grid ≡ c.grid = h.first_in_tree.of_grid ∙ sym h.second_in_tree.of_grid in
-      let a = h.come_apart in
+      let grids : b.grid ≡ c.grid = h.0.of_grid ∙ sym h.1.of_grid in
+      let a = h.2 in
       field_converted P (side b) (sides_between b c) (doubled_centre b) (doubled_centre c) (sources_of points c) (multipole_row points cap c) (side_positive b)
       (norm_beyond 2 (sides_between b c) (omega arith) (pairs_of_cells b c grids a.same_level a.apart a.parents_touch).kernel.apart)
-      (subst (λ s. HoldsMoments P s (doubled_centre c) (sources_of points c) (multipole_row points cap c)) (sym (same_side b c grids a.same_level)) (multipole_rows_held grid points cap P c positive inside h.second_in_tree))
+      (subst (λ s. HoldsMoments P s (doubled_centre c) (sources_of points c) (multipole_row points cap c)) (sym (same_side b c grids a.same_level)) (multipole_rows_held grid points cap P c positive inside h.1))
 
   -- the sources of the leaf c are far from a cell b that comes apart from it
-  far_sources : (b c : Square) → IsWPair grid points cap c b → All (λ p. IsFarFrom b (place p)) (sources_in points c)
+  far_sources : (b c : Square) → IsPair grid points cap W c b → All (λ p. IsFarFrom b (place p)) (sources_in points c)
   far_sources b c h = All-from_members (λ p. IsFarFrom b (place p)) (sources_in points c) (λ p member.
       let kept = Contains-filter (is_source_in c) points p member in
       let held = Holds-from_test c p.x p.y (and_parts (is_source p.kind) (holds_test c p.x p.y) kept.1).1 in
-      let tb = h.second_in_tree in
-      let tc = h.first_leaf.in_tree in
-      let a = h.comes_apart in
+      let tb = h.1 in
+      let tc = h.0.in_tree in
+      let a = h.2 in
       far_places c b p.x p.y (tc.of_grid ∙ sym tb.of_grid) (omega (arith, a.deeper)) (omega (arith, tb.level_in_grid, tb.of_grid)) (λ w. a.apart (Touches-sym c b w)) held)
 
-  far_held : (b c : Square) → IsWPair grid points cap c b → Held P b (λ t. far_terms points P b c t) (total_row (far_coefficients_in b) (sources_in points c))
+  far_held : (b c : Square) → IsPair grid points cap W c b → Held P b (λ t. far_terms points P b c t) (total_row (far_coefficients_in b) (sources_in points c))
   far_held b c h =
       HoldsField-same P (side b) (doubled_centre b) _ _ (total_row (far_coefficients_in b) (sources_in points c)) (total_row (far_coefficients_in b) (sources_in points c))
       (λ t. sym (fold-map (λ s x. s +ᶜ local_cut P (doubled_centre b) t x) source_of zero_complex (sources_in points c))) (λ l. refl)
@@ -84,26 +87,26 @@ module _ (grid : ℕ) (points : List Point) (cap P : ℕ) (positive : 0 < grid) 
 
   module _ (lists : TreeLists) (are : AreTreeLists grid points cap lists) where
     -- ---- the entries of one cell
-    entries_held : (b : Square) → IsTreeCell grid points cap b → Held P b (λ t. entry_terms points P lists b t) (λ l. add_box (converted_rows points cap P lists b l) (far_rows points cap P lists b l))
+    entries_held : (b : Square) → IsTreeCell grid points cap b → Held P b (λ t. entry_terms points P lists b t) (λ l. add_box (v_rows (λ c. c) (multipole_row points cap) P b (lists.entries V b) l) (x_rows (λ p. p) (sources_in points) b (lists.entries X b) l))
     entries_held b tb = sum_of_fields P (side b) (doubled_centre b) (λ t. sum_terms (λ c. pair_terms points P b c t) (lists.entries V b)) (λ t. sum_terms (λ c. far_terms points P b c t) (lists.entries X b))
-        (converted_rows points cap P lists b) (far_rows points cap P lists b) (side_positive b)
+        (v_rows (λ c. c) (multipole_row points cap) P b (lists.entries V b)) (x_rows (λ p. p) (sources_in points) b (lists.entries X b)) (side_positive b)
         (HoldsField-list P (side b) (doubled_centre b) (side_positive b) (λ c t. pair_terms points P b c t) (λ c. converted P (kernel_entry (sides_between b c)) (multipole_row points cap c)) (lists.entries V b)
-        (λ k d lt. pair_held b _ ((are.entries_are V b tb).entries k d lt).pair))
+        (λ k d lt. pair_held b _ ((are.entries_are V b tb).each k d lt).pair))
         (HoldsField-list P (side b) (doubled_centre b) (side_positive b) (λ c t. far_terms points P b c t) (λ c. total_row (far_coefficients_in b) (sources_in points c)) (lists.entries X b)
-        (λ k d lt. far_held b _ ((are.entries_are X b tb).entries k d lt).pair))
+        (λ k d lt. far_held b _ ((are.entries_are X b tb).each k d lt).pair))
 
     -- the root has none
     root_V : (b : Square) → IsTreeCell grid points cap b → b.level ≡ 0 → lists.entries V b ≡ []
-    root_V b tb e = empty_from (lists.entries V b) (λ c h. let p = (All-contains (IsEntry grid points cap V b) (lists.entries V b) c (are.entries_are V b tb).entries h).pair in no c p)
+    root_V b tb e = empty_from (lists.entries V b) (λ c h. let p = (All-contains (IsEntry grid points cap V b) (lists.entries V b) c (are.entries_are V b tb).each h).pair in no c p)
       where
-        no : (c : Square) → IsVPair grid points cap b c → ⊥
-        no c p = omega (arith, p.come_apart.below_root)
+        no : (c : Square) → IsPair grid points cap V b c → ⊥
+        no c p = omega (arith, p.2.below_root)
 
     root_X : (b : Square) → IsTreeCell grid points cap b → b.level ≡ 0 → lists.entries X b ≡ []
-    root_X b tb e = empty_from (lists.entries X b) (λ c h. let p = (All-contains (IsEntry grid points cap X b) (lists.entries X b) c (are.entries_are X b tb).entries h).pair in no c p)
+    root_X b tb e = empty_from (lists.entries X b) (λ c h. let p = (All-contains (IsEntry grid points cap X b) (lists.entries X b) c (are.entries_are X b tb).each h).pair in no c p)
       where
-        no : (c : Square) → IsWPair grid points cap c b → ⊥
-        no c p = omega (arith, p.comes_apart.deeper)
+        no : (c : Square) → IsPair grid points cap W c b → ⊥
+        no c p = omega (arith, p.2.deeper)
 
     -- ---- from the root down
     brought_down : (b : Square) (f : Gaussian → ComplexRatio) → IsTreeCell grid points cap b → 0 < b.level → Held P (parent b) f (local_row points cap P lists (parent b)) → Held P b f (shifted_down P (local_row points cap P lists (parent b)) (quadrant b))
@@ -126,7 +129,7 @@ module _ (grid : ℕ) (points : List Point) (cap P : ℕ) (positive : 0 < grid) 
             ∙ ap₂ (λ vs xs. zero_complex +ᶜ (sum_terms (λ c. pair_terms points P b c t) vs +ᶜ sum_terms (λ c. far_terms points P b c t) xs)) (root_V b tb (sym e)) (root_X b tb (sym e)))
     held_at (suc level) b e tb = HoldsField-same P (side b) (doubled_centre b) _ (field_to (suc level) b) _ (local_row points cap P lists b) sums (λ l. sym (local_row-below points cap P lists b (omega arith) l))
         (sum_of_fields P (side b) (doubled_centre b) (field_to level (parent b)) (λ t. entry_terms points P lists b t) (shifted_down P (local_row points cap P lists (parent b)) (quadrant b))
-        (λ l. add_box (converted_rows points cap P lists b l) (far_rows points cap P lists b l)) (side_positive b)
+        (λ l. add_box (v_rows (λ c. c) (multipole_row points cap) P b (lists.entries V b) l) (x_rows (λ p. p) (sources_in points) b (lists.entries X b) l)) (side_positive b)
         (brought_down b (field_to level (parent b)) tb (omega arith) (held_at level (parent b) (omega arith) (IsTreeCell-parent grid points cap b positive inside tb (omega arith))))
         (entries_held b tb))
       where

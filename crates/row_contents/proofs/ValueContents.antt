@@ -24,9 +24,9 @@ local_values_held grid points cap P lists b t positive inside are tb =
 
 pub multipole_values_held : MultipoleValuesHold
 multipole_values_held grid points cap P b c t positive inside entry held =
-    let tb = entry.pair.first_leaf.in_tree in
-    let tc = entry.pair.second_in_tree in
-    let a = entry.pair.comes_apart in
+    let tb = entry.pair.0.in_tree in
+    let tc = entry.pair.1 in
+    let a = entry.pair.2 in
     let far = far_places b c t.re t.im (tb.of_grid ∙ sym tc.of_grid) (omega (arith, a.deeper)) (omega (arith, tc.level_in_grid, tc.of_grid)) (λ w. a.apart (Touches-sym b c w)) held in
     multipole_values P (side c) (doubled_centre c) t (sources_of points c) (multipole_row points cap c) (side_positive c)
     (norm_beyond (3 * side c) (offset c t) (far_positive c) far) (multipole_rows_held grid points cap P c positive inside tc)
@@ -34,4 +34,4 @@ multipole_values_held grid points cap P b c t positive inside entry held =
 pub multipole_sums_held : MultipoleSumsHold
 multipole_sums_held grid points cap P lists b t positive inside are tb held =
     BoxEndsContain-sum (pos (2 ^ 40)) (λ c. multipole_value P (multipole_row points cap c) (side c) (offset c t)) (λ c. multipole_terms points P c t) (lists.entries W b)
-    (λ k d lt. multipole_values_held grid points cap P b _ t positive inside ((are.entries_are W b tb).entries k d lt) held)
+    (λ k d lt. multipole_values_held grid points cap P b _ t positive inside ((are.entries_are W b tb).each k d lt) held)

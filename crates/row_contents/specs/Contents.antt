@@ -12,11 +12,12 @@ use Rattle.quadtree.specs.Tree.{AreInGrid, IsTreeCell}
 use Rattle.row_recursions.specs.Fields.{HoldsField}
 use Rattle.row_recursions.specs.Geometry.{doubled_centre}
 use Rattle.row_recursions.specs.Moments.{HoldsMoments}
-use Rattle.row_recursions.specs.Rows.{multipole_value}
+use Rattle.row_recursions.specs.Rows.{multipole_value, local_value}
 use Rattle.soundness.specs.Squares.{offset}
-use Rattle.tree_field.specs.Field.{multipole_row, local_row, local_value_at, multipole_values_at}
+use Rattle.tree_field.specs.Field.{multipole_row, local_row}
 use Rattle.tree_field.specs.Lists.{TreeLists, AreTreeLists}
 use Rattle.row_contents.specs.Fields.{sources_of, multipole_terms, local_field}
+use Rattle.soundness.specs.Steps.{w_values}
 
 -- the row of each cell of the tree: the moments of the sources in the cell
 abbrev pub MultipoleRowsHold : Type 0
@@ -31,7 +32,7 @@ LocalRowsHold = (grid : ℕ) (points : List Point) (cap P : ℕ) (lists : TreeLi
 -- the value of a local row at any place: that of its field
 abbrev pub LocalValuesHold : Type 0
 LocalValuesHold = (grid : ℕ) (points : List Point) (cap P : ℕ) (lists : TreeLists) (b : Square) (t : Gaussian) → 0 < grid → AreInGrid grid points → AreTreeLists grid points cap lists → IsTreeCell grid points cap b
-    → BoxEndsContain unit (local_value_at points cap P lists b t) (local_field points P lists b t)
+    → BoxEndsContain unit (local_value P (local_row points cap P lists b) (side b) (offset b t)) (local_field points P lists b t)
 
 -- the value of the multipole row of a W entry at a place in the leaf: the cut terms of the sources of its cell
 abbrev pub MultipoleValuesHold : Type 0
@@ -41,4 +42,4 @@ MultipoleValuesHold = (grid : ℕ) (points : List Point) (cap P : ℕ) (b c : Sq
 -- the values of all W entries of the leaf together
 abbrev pub MultipoleSumsHold : Type 0
 MultipoleSumsHold = (grid : ℕ) (points : List Point) (cap P : ℕ) (lists : TreeLists) (b : Square) (t : Gaussian) → 0 < grid → AreInGrid grid points → AreTreeLists grid points cap lists → IsTreeCell grid points cap b → Holds b t.re t.im
-    → BoxEndsContain unit (multipole_values_at points cap P lists b t) (sum_terms (λ c. multipole_terms points P c t) (lists.entries W b))
+    → BoxEndsContain unit (w_values (λ c. c) (multipole_row points cap) P t (lists.entries W b)) (sum_terms (λ c. multipole_terms points P c t) (lists.entries W b))

@@ -6,11 +6,12 @@ use Rattle.exact_math.specs.Sums.{sum_complex, sum_terms}
 use Rattle.cell_name.specs.Square.{Square, side, ancestor}
 use Rattle.letters.specs.declared.Letter.TheVariants.{V, X}
 use Rattle.points.specs.declared.Point.{Point}
-use Rattle.row_recursions.specs.Geometry.{doubled_centre, sides_between}
+use Rattle.row_recursions.specs.Geometry.{doubled_centre}
 use Rattle.row_recursions.specs.Sources.{source_of}
 use Rattle.tree_field.specs.Field.{sources_in}
 use Rattle.tree_field.specs.Lists.{TreeLists}
 use Rattle.truncation.specs.Entries.{Source, pair_cut, multipole_cut, local_cut}
+use Rattle.cell_name.specs.Apart.{sides_between}
 
 -- the sources in a cell, as poles and dipoles
 abbrev pub sources_of : List Point → Square → List Source

@@ -7,7 +7,7 @@ use Rattle.exact_math.specs.Gaussian.{Gaussian}
 use Rattle.exact_math.proofs.BoxEnclosures.{EnclosesBox, EnclosesBox-add, EnclosesBox-gquot}
 use Rattle.exact_math.proofs.Gaussians.{value}
 use Rattle.exact_math.proofs.QuadraticExtension.{Pair, pow_slope}
-use Rattle.row_recursions.specs.Rows.{units_box, units_over, pole_moment, dipole_moment, source_moment, shifted_up}
+use Rattle.row_recursions.specs.Rows.{units_box, units_over, source_moment, shifted_up, powers}
 use Rattle.row_recursions.proofs.BoxSums.{units, EnclosesBox-scale, EnclosesBox-units}
 use Rattle.row_recursions.proofs.LinearFunctionals.{LinearFunctional, function_ring, sources}
 use Rattle.row_recursions.proofs.Sides.{dual_complex, place, sides, sides-doubled, reciprocal, parent_offset, place-parent, EnclosesBox-units_over}
@@ -17,15 +17,15 @@ module _ (s : ℕ) (a b o : Gaussian) (s>0 : 0 < s) where
   abbrev x : ℂ
   x = sides s o
 
-  pole_holds : (k : ℕ) → EnclosesBox (pole_moment s a o k) (units *ℂ value a *ℂ pow complex_rationals x k)
-  unfolding pole_moment
+  pole_holds : (k : ℕ) → EnclosesBox (powers (units_box a) o (2 * s) k) (units *ℂ value a *ℂ pow complex_rationals x k)
+  unfolding powers
   pole_holds zero = subst (EnclosesBox (units_box a)) (sym (complex_rationals.mul_one _)) (EnclosesBox-units a)
   pole_holds (suc k) = EnclosesBox-gquot o (pos (2 * s)) (omega (arith, ints)) (pole_holds k)
       (combine complex_rationals (units *ℂ value a *ℂ pow complex_rationals x k) (sides-doubled s o s>0)
       (ring5 complex_rationals (of_int_ℂ (pos (2 * s))) x (value o) (units *ℂ value a) (pow complex_rationals x k) (λ s x o a p. search quotes depth 12) tt))
 
-  dipole_holds : (k : ℕ) → EnclosesBox (dipole_moment s b o k) (units *ℂ value b *ℂ reciprocal s *ℂ pow complex_rationals x k)
-  unfolding dipole_moment
+  dipole_holds : (k : ℕ) → EnclosesBox (powers (units_over b s) o (2 * s) k) (units *ℂ value b *ℂ reciprocal s *ℂ pow complex_rationals x k)
+  unfolding powers
   dipole_holds zero = subst (EnclosesBox (units_over b s)) (sym (complex_rationals.mul_one _)) (EnclosesBox-units_over b s s>0)
   dipole_holds (suc k) = EnclosesBox-gquot o (pos (2 * s)) (omega (arith, ints)) (dipole_holds k)
       (combine complex_rationals (units *ℂ value b *ℂ reciprocal s *ℂ pow complex_rationals x k) (sides-doubled s o s>0)
@@ -36,10 +36,10 @@ module _ (s : ℕ) (a b o : Gaussian) (s>0 : 0 < s) where
   exact_moment k = units *ℂ value a *ℂ pow complex_rationals (sides s o) k +ℂ units *ℂ value b *ℂ (reciprocal s *ℂ pow_slope complex_rationals (sides s o) k)
 
   pub source_moment_holds : (k : ℕ) → EnclosesBox (source_moment s a b o k) (exact_moment k)
-  unfolding source_moment
-  source_moment_holds zero = subst (EnclosesBox (pole_moment s a o zero))
+  unfolding source_moment powers
+  source_moment_holds zero = subst (EnclosesBox (powers (units_box a) o (2 * s) zero))
       (ring4 complex_rationals (units *ℂ value a) (units *ℂ value b) (reciprocal s) x (λ a b r x. search quotes depth 12) tt) (pole_holds zero)
-  source_moment_holds (suc k) = subst (EnclosesBox (add_box (pole_moment s a o (suc k)) (scale_box (dipole_moment s b o k) (pos (suc k)))))
+  source_moment_holds (suc k) = subst (EnclosesBox (add_box (powers (units_box a) o (2 * s) (suc k)) (scale_box (powers (units_over b s) o (2 * s) k) (pos (suc k)))))
       (ring6 complex_rationals (units *ℂ value a) (units *ℂ value b) (reciprocal s) x (pow complex_rationals x k) (of_int_ℂ (pos (suc k))) (λ a b r x p n. search quotes depth 12) tt)
       (EnclosesBox-add (pole_holds (suc k)) (EnclosesBox-scale (pos (suc k)) (dipole_holds k)))
 

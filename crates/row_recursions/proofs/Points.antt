@@ -26,7 +26,7 @@ use Rattle.exact_math.proofs.WholeSizes.{unsigned_abs-within}
 use Rattle.truncation.specs.Entries.{weight, local_cut}
 use Rattle.truncation.specs.Places.{doubled_offset}
 use Rattle.complex_box.proofs.Sizes.{box_wider}
-use Rattle.row_recursions.specs.Cells.{side_of, centre_of, offset_from, moments_of}
+use Rattle.row_recursions.specs.Cells.{side_of, centre_of, offset_from, moments_in}
 use Rattle.row_recursions.specs.Moments.{HoldsMoments}
 use Rattle.row_recursions.specs.Rows.{units_box, source_moment, far_source}
 use Rattle.row_recursions.specs.Sources.{source_at, source_of}
@@ -48,7 +48,7 @@ strength_field P s b z (Pole re im) h apart = field_of_source P s b (source_at z
 strength_field P s b z (Dipole re im) h apart = field_of_source P s b (source_at z (Dipole re im)) h apart
 strength_field P s b z Nothing h apart = field_of_source P s b (source_at z Nothing) h apart
 
--- a point weighs what its source does, and up to order 32 no more than at 32
+-- a point weighs what its source does
 pub weight-source_of : (P : ℕ) (p : Point) → weight P (source_of p) ≡ weight_at P (pole p.kind) (dipole p.kind)
 weight-source_of P p = by (place p) (strength p.kind)
   where
@@ -57,8 +57,9 @@ weight-source_of P p = by (place p) (strength p.kind)
     by z (Dipole re im) = refl
     by z Nothing = refl
 
-pub weight-le-weight64 : (P : ℕ) (p : Point) → P ≤ 32 → weight P (source_of p) ≤ weight64 p
-weight-le-weight64 P p few = let e = weight-source_of P p in let h = weight_at-le P 32 (pole p.kind) (dipole p.kind) few in omega (arith, e, h)
+-- and up to order 32 no more than at 32
+pub weight-le-weight64 : (P : ℕ) (p : Point) → P ≤ 32 → weight_at P (pole p.kind) (dipole p.kind) ≤ weight64 p
+weight-le-weight64 P p few = weight_at-le P 32 (pole p.kind) (dipole p.kind) few
 
 -- a coordinate fits an i64
 pub grid_fits : (x y : ℤ) → IsInGrid widest_grid x y → SFits w64 x × SFits w64 y
@@ -111,16 +112,16 @@ pub weight_bounded : (p : Point) → InRange widest_grid p → weight64 p ≤ 2 
 weight_bounded p h = weight_bounded_at (strength p.kind) h.strength
 
 -- what adds nothing weighs nothing
-pub source_weight-nothing : (P : ℕ) (p : Point) → is_source p.kind ≡ false → weight P (source_of p) ≡ 0
-source_weight-nothing P p = by (place p) (strength p.kind)
+pub weight-nothing : (P : ℕ) (p : Point) → is_source p.kind ≡ false → weight_at P (pole p.kind) (dipole p.kind) ≡ 0
+weight-nothing P p = by (strength p.kind)
   where
-    by : (z : Gaussian) (a : Strength) → acts a ≡ false → weight P (source_at z a) ≡ 0
-    by z (Pole re im) e = absurd (false≢true (sym e))
-    by z (Dipole re im) e = absurd (false≢true (sym e))
-    by z Nothing e = omega arith
+    by : (a : Strength) → acts a ≡ false → weight_at P (pole_part a) (dipole_part a) ≡ 0
+    by (Pole re im) e = absurd (false≢true (sym e))
+    by (Dipole re im) e = absurd (false≢true (sym e))
+    by Nothing e = omega arith
 
 -- each moment of a point in the cell is at most 2^40 times its weight
-pub moments_within : (c : Cell) (p : Point) (k : ℕ) → k ≤ 64 → Holds (square c) p.x p.y → BoxEndsWithin (2 ^ 40 * weight64 p) (moments_of c p k)
+pub moments_within : (c : Cell) (p : Point) (k : ℕ) → k ≤ 64 → Holds (square c) p.x p.y → BoxEndsWithin (2 ^ 40 * weight64 p) (moments_in (square c) p k)
 moments_within c p k few h = box_wider _ (2 ^ 40 * weight64 p) _ (heavier k (abs_gaussian (pole p.kind)) (abs_gaussian (dipole p.kind)) few)
     (source_moment_within (side_of c) (pole p.kind) (dipole p.kind) (offset_from c (place p)) k (side_positive c) (offset_within c p.x p.y h))
   where

@@ -16,7 +16,7 @@ use Rattle.exact_math.proofs.Integers.{square_nonneg}
 use Rattle.exact_math.proofs.WholeSizes.{within-mul, within-neg, within-floor, within-ceil, within-size}
 use Rattle.fixed_interval.proofs.Sizes.{ends_wider, add_within, sub_within, scale_within}
 use Rattle.complex_box.proofs.Sizes.{box_wider, add_box_within, neg_box_within, scale_box_within, zero_within}
-use Rattle.row_recursions.specs.Rows.{RowsAdd, units_box, units_over, ratio_box, pole_moment, dipole_moment, source_moment, up_round, shifted_up, far_pole, far_dipole, far_source, down_round, shifted_down, local_round, local_value, multipole_round, multipole_value}
+use Rattle.row_recursions.specs.Rows.{RowsAdd, units_box, units_over, ratio_box, source_moment, up_round, shifted_up, far_source, down_round, shifted_down, local_round, local_value, multipole_round, multipole_value, powers, far_powers}
 use Rattle.row_recursions.specs.Sizes.{RowWithin, MomentSizes, UpSizes, FarSizes, DownSizes, LocalValueSizes, MultipoleValueSizes}
 
 -- ---- boxes
@@ -71,15 +71,15 @@ units_over_within b s h = box_quot_within (2 ^ 40 * abs_gaussian b) s (units_box
 
 -- ---- moments
 module _ (s : ℕ) (o : Gaussian) (s≥1 : 1 ≤ s) (near : GaussianWithin s o) where
-  pub pole_moment_within : (a : Gaussian) (k : ℕ) → BoxEndsWithin (2 ^ 40 * abs_gaussian a) (pole_moment s a o k)
-  unfolding pole_moment
+  pub pole_moment_within : (a : Gaussian) (k : ℕ) → BoxEndsWithin (2 ^ 40 * abs_gaussian a) (powers (units_box a) o (2 * s) k)
+  unfolding powers
   pole_moment_within a zero = units_within a
-  pole_moment_within a (suc k) = box_gquot_within (2 ^ 40 * abs_gaussian a) s s (2 * s) (pole_moment s a o k) o (omega arith) (omega arith) near.re near.im (pole_moment_within a k)
+  pole_moment_within a (suc k) = box_gquot_within (2 ^ 40 * abs_gaussian a) s s (2 * s) (powers (units_box a) o (2 * s) k) o (omega arith) (omega arith) near.re near.im (pole_moment_within a k)
 
-  pub dipole_moment_within : (b : Gaussian) (k : ℕ) → BoxEndsWithin (2 ^ 40 * abs_gaussian b) (dipole_moment s b o k)
-  unfolding dipole_moment
+  pub dipole_moment_within : (b : Gaussian) (k : ℕ) → BoxEndsWithin (2 ^ 40 * abs_gaussian b) (powers (units_over b s) o (2 * s) k)
+  unfolding powers
   dipole_moment_within b zero = units_over_within b s s≥1
-  dipole_moment_within b (suc k) = box_gquot_within (2 ^ 40 * abs_gaussian b) s s (2 * s) (dipole_moment s b o k) o (omega arith) (omega arith) near.re near.im (dipole_moment_within b k)
+  dipole_moment_within b (suc k) = box_gquot_within (2 ^ 40 * abs_gaussian b) s s (2 * s) (powers (units_over b s) o (2 * s) k) o (omega arith) (omega arith) near.re near.im (dipole_moment_within b k)
 
 number_within : (k : ℕ) → Within k (pos k)
 number_within k = record { above = omega (arith, ints); below = omega (arith, ints) }
@@ -88,11 +88,11 @@ gathered : (u a k b : ℕ) → u * a + u * b * k ≡ u * (a + k * b)
 gathered u a k b = omega arith
 
 pub source_moment_within : MomentSizes
-unfolding source_moment
-source_moment_within s a b o zero h near = box_wider (2 ^ 40 * abs_gaussian a) (2 ^ 40 * (abs_gaussian a + 0 * abs_gaussian b)) (pole_moment s a o zero) (omega arith) (pole_moment_within s o h near a zero)
+unfolding source_moment powers
+source_moment_within s a b o zero h near = box_wider (2 ^ 40 * abs_gaussian a) (2 ^ 40 * (abs_gaussian a + 0 * abs_gaussian b)) (powers (units_box a) o (2 * s) zero) (omega arith) (pole_moment_within s o h near a zero)
 source_moment_within s a b o (suc k) h near = subst (λ n. BoxEndsWithin n (source_moment s a b o (suc k))) (gathered (2 ^ 40) (abs_gaussian a) (suc k) (abs_gaussian b))
-    (add_box_within (2 ^ 40 * abs_gaussian a) (2 ^ 40 * abs_gaussian b * suc k) (pole_moment s a o (suc k)) (scale_box (dipole_moment s b o k) (pos (suc k))) (pole_moment_within s o h near a (suc k))
-    (scale_box_within (suc k) (2 ^ 40 * abs_gaussian b) (pos (suc k)) (dipole_moment s b o k) (number_within (suc k)) (dipole_moment_within s o h near b k)))
+    (add_box_within (2 ^ 40 * abs_gaussian a) (2 ^ 40 * abs_gaussian b * suc k) (powers (units_box a) o (2 * s) (suc k)) (scale_box (powers (units_over b s) o (2 * s) k) (pos (suc k))) (pole_moment_within s o h near a (suc k))
+    (scale_box_within (suc k) (2 ^ 40 * abs_gaussian b) (pos (suc k)) (powers (units_over b s) o (2 * s) k) (number_within (suc k)) (dipole_moment_within s o h near b k)))
 
 -- ---- shifts
 module _ (P n : ℕ) (q : Gaussian) (m : ℕ → BoxEnds) (unit : GaussianWithin 1 q) (bounded : RowWithin P n m) where
@@ -191,15 +191,15 @@ ratio_shrinks n s g b h far w = subst (λ d. BoxEndsWithin (5 * n) (gquot_box b 
     spread n x y d h = let m = mul-le-mul_left n h in omega arith
 
 module _ (s : ℕ) (zeta : Gaussian) (s≥1 : 1 ≤ s) (far : GaussianBeyond (3 * s) zeta) where
-  pub far_pole_within : (a : Gaussian) (l : ℕ) → BoxEndsWithin (2 ^ 40 * abs_gaussian a) (far_pole s a zeta l)
-  unfolding far_pole
+  pub far_pole_within : (a : Gaussian) (l : ℕ) → BoxEndsWithin (2 ^ 40 * abs_gaussian a) (far_powers (units_box a) (2 * s) zeta (suc l))
+  unfolding far_powers
   far_pole_within a zero = ratio_within (2 ^ 40 * abs_gaussian a) s zeta (units_box a) s≥1 far (units_within a)
-  far_pole_within a (suc l) = ratio_within (2 ^ 40 * abs_gaussian a) s zeta (far_pole s a zeta l) s≥1 far (far_pole_within a l)
+  far_pole_within a (suc l) = ratio_within (2 ^ 40 * abs_gaussian a) s zeta (far_powers (units_box a) (2 * s) zeta (suc l)) s≥1 far (far_pole_within a l)
 
-  pub far_dipole_within : (b : Gaussian) (l : ℕ) → BoxEndsWithin (2 ^ 40 * abs_gaussian b) (far_dipole s b zeta l)
-  unfolding far_dipole
+  pub far_dipole_within : (b : Gaussian) (l : ℕ) → BoxEndsWithin (2 ^ 40 * abs_gaussian b) (far_powers (units_over b s) (2 * s) zeta (suc l))
+  unfolding far_powers
   far_dipole_within b zero = ratio_within (2 ^ 40 * abs_gaussian b) s zeta (units_over b s) s≥1 far (units_over_within b s s≥1)
-  far_dipole_within b (suc l) = ratio_within (2 ^ 40 * abs_gaussian b) s zeta (far_dipole s b zeta l) s≥1 far (far_dipole_within b l)
+  far_dipole_within b (suc l) = ratio_within (2 ^ 40 * abs_gaussian b) s zeta (far_powers (units_over b s) (2 * s) zeta (suc l)) s≥1 far (far_dipole_within b l)
 
   pub multipole_round_within : (P n : ℕ) (m : ℕ → BoxEnds) → RowWithin P n m → (k : ℕ) → k ≤ P → BoxEndsWithin (k * n) (multipole_round P m s zeta k)
   unfolding multipole_round
@@ -217,8 +217,8 @@ module _ (s : ℕ) (zeta : Gaussian) (s≥1 : 1 ≤ s) (far : GaussianBeyond (3 
 pub far_source_within : FarSizes
 unfolding far_source
 far_source_within s a b zeta l h far = subst (λ n. BoxEndsWithin n (far_source s a b zeta l)) (gathered (2 ^ 40) (abs_gaussian a) (suc l) (abs_gaussian b))
-    (add_box_within (2 ^ 40 * abs_gaussian a) (2 ^ 40 * abs_gaussian b * suc l) _ _ (neg_box_within (2 ^ 40 * abs_gaussian a) (far_pole s a zeta l) (far_pole_within s zeta h far a l))
-    (scale_box_within (suc l) (2 ^ 40 * abs_gaussian b) (pos (suc l)) (far_dipole s b zeta (suc l)) (number_within (suc l)) (far_dipole_within s zeta h far b (suc l))))
+    (add_box_within (2 ^ 40 * abs_gaussian a) (2 ^ 40 * abs_gaussian b * suc l) _ _ (neg_box_within (2 ^ 40 * abs_gaussian a) (far_powers (units_box a) (2 * s) zeta (suc l)) (far_pole_within s zeta h far a l))
+    (scale_box_within (suc l) (2 ^ 40 * abs_gaussian b) (pos (suc l)) (far_powers (units_over b s) (2 * s) zeta (suc (suc l))) (number_within (suc l)) (far_dipole_within s zeta h far b (suc l))))
 
 -- ---- values
 over_side : (s n : ℕ) (b : BoxEnds) → 1 ≤ s → BoxEndsWithin n b → BoxEndsWithin n (quot_box b (pos s))

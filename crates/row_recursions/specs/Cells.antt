@@ -3,7 +3,7 @@ use Rattle.std.specs.Prelude.{ℕ, Bool, cond, ℤ, pos, negsuc}
 use Rattle.exact_math.specs.Ends.{BoxEnds}
 use Rattle.exact_math.specs.Gaussian.{Gaussian, gaussian}
 use Rattle.cell_name.specs.Cell.{square}
-use Rattle.cell_name.specs.Square.{side}
+use Rattle.cell_name.specs.Square.{Square, side}
 use Rattle.cell_name.specs.declared.cell.Cell.{Cell}
 use Rattle.cell_name.specs.declared.cell.Quadrant.{Quadrant}
 use Rattle.points.specs.declared.Point.{Point}
@@ -31,9 +31,9 @@ abbrev pub offset_from : Cell → Gaussian → Gaussian
 offset_from c z = offset (square c) z
 
 -- what a point in the cell adds to its multipole row
-abbrev pub moments_of : Cell → Point → ℕ → BoxEnds
-moments_of c p k = source_moment (side_of c) (pole p.kind) (dipole p.kind) (offset_from c (place p)) k
+abbrev pub moments_in : Square → Point → ℕ → BoxEnds
+moments_in c p k = source_moment (side c) (pole p.kind) (dipole p.kind) (offset c (place p)) k
 
 -- what a point far from the cell adds to its local row
-abbrev pub far_coefficients_of : Cell → Point → ℕ → BoxEnds
-far_coefficients_of c p l = far_source (side_of c) (pole p.kind) (dipole p.kind) (offset_from c (place p)) l
+abbrev pub far_coefficients_in : Square → Point → ℕ → BoxEnds
+far_coefficients_in c p l = far_source (side c) (pole p.kind) (dipole p.kind) (offset c (place p)) l

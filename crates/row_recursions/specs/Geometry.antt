@@ -2,9 +2,8 @@
 use Rattle.std.specs.Prelude.{ℕ, ◌*◌, ◌≤◌, ◌<◌, ◌≡◌, ℤ, pos, ◌-ℤ◌}
 use Rattle.exact_math.specs.Gaussian.{Gaussian, gaussian, add_gaussian, sub_gaussian, scale_gaussian}
 use Rattle.exact_math.specs.Within.{GaussianWithin, GaussianBeyond}
-use Rattle.truncation.specs.Places.{doubled_offset}
-use Rattle.cell_name.specs.Apart.{columns_between, rows_between}
-use Rattle.cell_name.specs.Square.{Square, side, doubled_centre_x, doubled_centre_y, Holds, Touches, parent, child}
+use Rattle.cell_name.specs.Apart.{sides_between}
+use Rattle.cell_name.specs.Square.{Square, side, doubled_centre_x, doubled_centre_y, offset_x, offset_y, Holds, Touches, parent, child}
 use Rattle.kernel_table.specs.Kernel.{IsKernelDistance}
 
 -- twice the centre of a cell
@@ -13,11 +12,7 @@ doubled_centre c = gaussian (doubled_centre_x c) (doubled_centre_y c)
 
 -- the doubled offset of a place from the centre
 abbrev pub offset : Square → Gaussian → Gaussian
-offset c z = doubled_offset z (doubled_centre c)
-
--- how many sides the centre of b lies from that of c, for cells of one level
-abbrev pub sides_between : Square → Square → Gaussian
-sides_between b c = gaussian (columns_between b c) (rows_between b c)
+offset c z = gaussian (offset_x c z.re) (offset_y c z.im)
 
 -- 1 or -1 for the east or the west half, and for the north or the south half
 abbrev pub quarter_sign : ℕ → ℤ

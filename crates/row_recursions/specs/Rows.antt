@@ -43,20 +43,15 @@ sum_boxes zero f = zero_box
 sum_boxes (suc n) f = add_box (sum_boxes n f) (f n)
 
 -- ---- moments of a source with the offset o
--- 2^40 a, then times o/(2 s) each time
-unfoldable pub pole_moment : ℕ → Gaussian → Gaussian → ℕ → BoxEnds
-pole_moment s a o zero = units_box a
-pole_moment s a o (suc k) = gquot_box (pole_moment s a o k) o (pos (2 * s))
+-- a first box, and then times o/m each time
+unfoldable pub powers : BoxEnds → Gaussian → ℕ → ℕ → BoxEnds
+powers first o m zero = first
+powers first o m (suc k) = gquot_box (powers first o m k) o (pos m)
 
--- 2^40 b/s, then times o/(2 s) each time
-unfoldable pub dipole_moment : ℕ → Gaussian → Gaussian → ℕ → BoxEnds
-dipole_moment s b o zero = units_over b s
-dipole_moment s b o (suc k) = gquot_box (dipole_moment s b o k) o (pos (2 * s))
-
--- of a pole a and a dipole b at one place: the pole's, and k times the dipole's before
+-- of a pole a and a dipole b at one place: the powers of o/(2 s) from 2^40 a on, and k times the power before from 2^40 b/s on
 unfoldable pub source_moment : ℕ → Gaussian → Gaussian → Gaussian → ℕ → BoxEnds
-source_moment s a b o zero = pole_moment s a o zero
-source_moment s a b o (suc k) = add_box (pole_moment s a o (suc k)) (scale_box (dipole_moment s b o k) (pos (suc k)))
+source_moment s a b o zero = units_box a
+source_moment s a b o (suc k) = add_box (powers (units_box a) o (2 * s) (suc k)) (scale_box (powers (units_over b s) o (2 * s) k) (pos (suc k)))
 
 -- ---- the shift up
 -- after r rounds, each a quarter of twice the next coefficient and q times this one
@@ -73,19 +68,15 @@ shifted_up m q k = up_round m q k 0
 unfoldable pub converted : ℕ → (ℕ → ℕ → BoxEnds) → (ℕ → BoxEnds) → ℕ → BoxEnds
 converted P kernel m l = quot_box (sum_boxes P (λ k. times_box (kernel k l) (m k))) unit
 
--- of a source with the offset zeta: 2^40 a times 2 s/zeta, and again each time
-unfoldable pub far_pole : ℕ → Gaussian → Gaussian → ℕ → BoxEnds
-far_pole s a zeta zero = ratio_box (2 * s) zeta (units_box a)
-far_pole s a zeta (suc l) = ratio_box (2 * s) zeta (far_pole s a zeta l)
+-- a first box, and then times m/zeta each time
+unfoldable pub far_powers : BoxEnds → ℕ → Gaussian → ℕ → BoxEnds
+far_powers first m zeta zero = first
+far_powers first m zeta (suc l) = ratio_box m zeta (far_powers first m zeta l)
 
--- 2^40 b/s times 2 s/zeta, and again each time
-unfoldable pub far_dipole : ℕ → Gaussian → Gaussian → ℕ → BoxEnds
-far_dipole s b zeta zero = ratio_box (2 * s) zeta (units_over b s)
-far_dipole s b zeta (suc l) = ratio_box (2 * s) zeta (far_dipole s b zeta l)
-
--- less the pole's, and l + 1 times the dipole's after
+-- of a source with the offset zeta, by the powers of 2 s/zeta: less the power l + 1 from 2^40 a on, and l + 1 times the power l + 2 from 2^40 b/s on
 unfoldable pub far_source : ℕ → Gaussian → Gaussian → Gaussian → ℕ → BoxEnds
-far_source s a b zeta l = add_box (neg_box (far_pole s a zeta l)) (scale_box (far_dipole s b zeta (suc l)) (pos (suc l)))
+far_source s a b zeta l =
+    add_box (neg_box (far_powers (units_box a) (2 * s) zeta (suc l))) (scale_box (far_powers (units_over b s) (2 * s) zeta (suc (suc l))) (pos (suc l)))
 
 -- ---- the shift down, with Horner's scheme from the last coefficient on
 -- after n rounds, the last of which took in the coefficient P - n

@@ -10,7 +10,7 @@ use Rattle.field_basis.proofs.Sizes.{some_lists}
 use Rattle.field_basis.specs.FieldPlaces.{AreAllMultipolePlaces, IsLocalPlace, HasNoRow}
 use Rattle.places.specs.Place.{place_at}
 use Rattle.quadtree.proofs.Ascending.{same_list}
-use Rattle.quadtree.specs.Tree.{HasTarget, IsTreeCell, AreTreeCells}
+use Rattle.quadtree.specs.Tree.{IsTreeCell, has_target, AreExactly}
 use Rattle.quadtree.specs.TreeModel.{squares, size, square_of, node_of}
 use Rattle.row_board.proofs.FullBoard.{holds_field}
 use Rattle.row_board.specs.Board.{IsBoard}
@@ -29,16 +29,16 @@ module _ (P : ℕ) (b : BoardParts) (f : FieldParts) (is : IsBoard P b) (full : 
   whole = holds_field P b is full
 
   -- ---- one tree
-  cells_of_field : AreTreeCells b.basis.tree.grid b.basis.points b.basis.cap (squares f.basis.tree)
-  cells_of_field = subst (λ grid. AreTreeCells grid b.basis.points b.basis.cap (squares f.basis.tree)) grids solved.is_tree.cells_are
+  cells_of_field : AreExactly (IsTreeCell b.basis.tree.grid b.basis.points b.basis.cap) (squares f.basis.tree)
+  cells_of_field = subst (λ grid. AreExactly (IsTreeCell grid b.basis.points b.basis.cap) (squares f.basis.tree)) grids solved.is_tree.cells_are
 
   same_cells : squares b.basis.tree ≡ squares f.basis.tree
   same_cells =
       let these = is.basis_is.is_tree.cells_are in
       let others = cells_of_field in
       same_list (squares b.basis.tree) (squares f.basis.tree) these.ascending others.ascending
-      (λ c h. others.whole c (All-contains (IsTreeCell b.basis.tree.grid b.basis.points b.basis.cap) (squares b.basis.tree) c these.in_tree h))
-      (λ c h. these.whole c (All-contains (IsTreeCell b.basis.tree.grid b.basis.points b.basis.cap) (squares f.basis.tree) c others.in_tree h))
+      (λ c h. others.whole c (All-contains (IsTreeCell b.basis.tree.grid b.basis.points b.basis.cap) (squares b.basis.tree) c these.each h))
+      (λ c h. these.whole c (All-contains (IsTreeCell b.basis.tree.grid b.basis.points b.basis.cap) (squares f.basis.tree) c others.each h))
 
   same_square : (n : ℕ) → square_of b.basis.tree n ≡ square_of f.basis.tree n
   same_square n = ap (λ cells. slice_index_or cells n no_square) same_cells
@@ -72,16 +72,16 @@ module _ (P : ℕ) (b : BoardParts) (f : FieldParts) (is : IsBoard P b) (full : 
     there = solved.local_are.each n (same_number n lt)
 
     -- a target in the cell of the one tree is one in the cell of the other
-    target_there : HasTarget b.basis.points (square_of b.basis.tree n) → HasTarget f.basis.points (square_of f.basis.tree n)
-    target_there t = subst (λ c. HasTarget f.basis.points c) (same_square n) (subst (λ points. HasTarget points (square_of b.basis.tree n)) (sym solved.points_are) t)
+    target_there : IsTrue (has_target b.basis.points (square_of b.basis.tree n)) → IsTrue (has_target f.basis.points (square_of f.basis.tree n))
+    target_there t = subst (λ c. IsTrue (has_target f.basis.points c)) (same_square n) (subst (λ points. IsTrue (has_target points (square_of b.basis.tree n))) (sym solved.points_are) t)
 
-    target_back : HasTarget f.basis.points (square_of f.basis.tree n) → HasTarget b.basis.points (square_of b.basis.tree n)
-    target_back t = subst (λ c. HasTarget b.basis.points c) (sym (same_square n)) (subst (λ points. HasTarget points (square_of f.basis.tree n)) solved.points_are t)
+    target_back : IsTrue (has_target f.basis.points (square_of f.basis.tree n)) → IsTrue (has_target b.basis.points (square_of b.basis.tree n))
+    target_back t = subst (λ c. IsTrue (has_target b.basis.points c)) (sym (same_square n)) (subst (λ points. IsTrue (has_target points (square_of f.basis.tree n))) solved.points_are t)
 
     abbrev AreSame : Type 0
     AreSame = AreSameRows P (row_of (place_at b.local n).row) (row_of (place_at f.local n).row) × ((place_at b.local n).radius ≡ (place_at f.local n).radius)
 
-    with_target : HasTarget b.basis.points (square_of b.basis.tree n) → AreSame
+    with_target : IsTrue (has_target b.basis.points (square_of b.basis.tree n)) → AreSame
     with_target t =
         let lists = some_lists P b.basis is.basis_is in
         let ours = here.with_target t lists.0 lists.1 in
@@ -97,7 +97,7 @@ module _ (P : ℕ) (b : BoardParts) (f : FieldParts) (is : IsBoard P b) (full : 
               ∙ sym theirs.radius_is,
         )
 
-    without_target : (HasTarget b.basis.points (square_of b.basis.tree n) → ⊥) → AreSame
+    without_target : (IsTrue (has_target b.basis.points (square_of b.basis.tree n)) → ⊥) → AreSame
     without_target none =
         let ours : HasNoRow P (place_at b.local n) = here.without none in
         let theirs : HasNoRow P (place_at f.local n) = there.without (λ t. none (target_back t)) in

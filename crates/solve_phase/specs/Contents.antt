@@ -4,7 +4,6 @@ use Rattle.cell_name.specs.Square.{Square, side}
 use Rattle.complex_box.specs.declared.CBox.{CBox}
 use Rattle.places.specs.Place.{place_at}
 use Rattle.points.specs.declared.Point.{Point}
-use Rattle.quadtree.specs.Tree.{HasTarget}
 use Rattle.quadtree.specs.TreeModel.{size, square_of}
 use Rattle.row_contents.specs.Fields.{sources_of, local_field}
 use Rattle.row_recursions.specs.Fields.{HoldsField}
@@ -13,6 +12,7 @@ use Rattle.row_recursions.specs.Moments.{HoldsMoments}
 use Rattle.row_recursions.specs.Rows.{row_of}
 use Rattle.tree_field.specs.Lists.{TreeLists, OfTreeLists}
 use Rattle.solve_phase.specs.Parts.{FieldParts}
+use Rattle.quadtree.specs.Tree.{has_target}
 
 -- the first P boxes contain the moments of the sources in the cell c about its centre
 abbrev pub ContainsMoments : ℕ → List Point → Square → List CBox → Type 0
@@ -26,4 +26,4 @@ ContainsField P points lists c row = HoldsField P (side c) (doubled_centre c) (l
 pub record RowsContain (points : List Point) (P : ℕ) (f : FieldParts) : Type 0 where
   pub moments : (n : ℕ) → n < size f.basis.tree → ContainsMoments P points (square_of f.basis.tree n) (place_at f.up n).row
   pub fields : OfTreeLists f.basis.tree.grid points f.basis.cap (λ lists.
-      (n : ℕ) → n < size f.basis.tree → HasTarget points (square_of f.basis.tree n) → ContainsField P points lists (square_of f.basis.tree n) (place_at f.local n).row)
+      (n : ℕ) → n < size f.basis.tree → IsTrue (has_target points (square_of f.basis.tree n)) → ContainsField P points lists (square_of f.basis.tree n) (place_at f.local n).row)

@@ -1,6 +1,6 @@
 -- What the rows and values of one entry hold, and how near the terms of its sources are to their cut terms.
 use Rattle.std.proofs.Common.{◌≡◌, sym, ap, subst, ◌∙◌, ℕ, ◌*◌, ◌^◌, ◌≤◌, arith, List, get_or}
-use Rattle.std.specs.Prelude.{pos, All, sum_by}
+use Rattle.std.specs.Prelude.{pos, All}
 use Rattle.std.proofs.lemmas.List.Elements.{All-map}
 use Rattle.exact_math.specs.Ends.{BoxEnds}
 use Rattle.exact_math.specs.Gaussian.{Gaussian}
@@ -22,24 +22,22 @@ use Rattle.row_recursions.proofs.BoxSums.{units}
 use Rattle.row_recursions.proofs.ConvertLaws.{field_converted}
 use Rattle.row_recursions.proofs.MomentLaws.{multipole_values}
 use Rattle.row_recursions.proofs.Points.{strength_field}
-use Rattle.truncation.specs.Entries.{weight, pair_cut, multipole_cut, local_cut}
+use Rattle.truncation.specs.Entries.{pair_cut, multipole_cut, local_cut}
 use Rattle.exact_math.specs.Within.{GaussianWithin, GaussianBeyond}
 use Rattle.truncation.specs.Places.{doubled_offset}
-use Rattle.truncation.specs.Tails.{pair_tail, single_tail, pair_radius, single_radius}
+use Rattle.truncation.specs.Tails.{pair_tail, single_tail, pair_loss, single_loss}
 use Rattle.truncation.proofs.EntryBounds.{pair_entries, multipole_entries, local_entries}
 use Rattle.soundness.specs.Squares.{doubled_centre, offset, sides_between, IsIn, IsFarFrom, CellsAreApart}
 use Rattle.soundness.specs.Accounts.{LeafSource}
-use Rattle.soundness.specs.Computed.{total_row, far_coefficients_in}
+use Rattle.soundness.specs.Computed.{point_of, total_row}
+use Rattle.soundness.specs.Steps.{weight_of}
 use Rattle.soundness.proofs.Boxes.{IsNear}
 use Rattle.soundness.proofs.Fields.{Local, Local-field, Local-same, Local-total}
 use Rattle.soundness.proofs.Losses.{entry_near}
 use Rattle.soundness.proofs.Multipoles.{HoldsIn}
 use Rattle.soundness.proofs.Places.{side_positive, sides_of-apart, centres_of-apart, norm_beyond}
 use Rattle.soundness.proofs.Terms.{source_in, sources_in, term_in_units}
-
--- the total weight of sources
-abbrev weight_of : ℕ → List LeafSource → ℕ
-weight_of P xs = sum_by (λ x. weight P (source_in x)) xs
+use Rattle.row_recursions.specs.Cells.{far_coefficients_in}
 
 -- ---- the cut terms of an entry's sources at t, in units: of two cells that are apart, of a far target, and of far sources
 abbrev pub pair_sum : ℕ → Square → Square → List LeafSource → Gaussian → ℂ
@@ -85,21 +83,21 @@ multipole_held P c xs m t h held =
 
 -- ---- how near the cut terms are
 pub pair_near : (P : ℕ) (b c : Square) (t : Gaussian) (xs : List LeafSource) → 1 ≤ P → CellsAreApart b c → IsIn b t → All (λ x. IsIn c (place x.point)) xs
-    → IsNear (pair_radius P (weight_of P xs) (side b)) (sum_list complex_rationals (term_in_units t) xs) (pair_sum P b c xs t)
+    → IsNear (pair_loss P (weight_of point_of P xs) (side b)) (sum_list complex_rationals (term_in_units t) xs) (pair_sum P b c xs t)
 pair_near P b c t xs order h target sources =
     entry_near P t (pair_cut P (side b) (sides_between b c) (doubled_centre b) (doubled_centre c) t) (pair_tail P) (side b) (λ x. GaussianWithin (side b) (doubled_offset x.place (doubled_centre c)))
     (λ ys each. pair_entries P (side b) (sides_between b c) (doubled_centre b) (doubled_centre c) t order (side_positive b) h.apart (centres_of-apart b c h) target ys each) (side_positive b) xs
     (λ k d l. subst (λ s. GaussianWithin s (offset c (place (get_or xs k d).point))) (sym (sides_of-apart b c h)) (sources k d l))
 
 pub multipole_near : (P : ℕ) (c : Square) (t : Gaussian) (xs : List LeafSource) → 2 ≤ P → IsFarFrom c t → All (λ x. IsIn c (place x.point)) xs
-    → IsNear (single_radius P (weight_of P xs) (side c)) (sum_list complex_rationals (term_in_units t) xs) (multipole_sum P c xs t)
+    → IsNear (single_loss P (weight_of point_of P xs) (side c)) (sum_list complex_rationals (term_in_units t) xs) (multipole_sum P c xs t)
 multipole_near P c t xs order far sources =
     entry_near P t (multipole_cut P (doubled_centre c) t) (single_tail P) (side c) (λ x. GaussianWithin (side c) (doubled_offset x.place (doubled_centre c)))
     (λ ys each. multipole_entries P (side c) (doubled_centre c) t order (side_positive c) far ys each) (side_positive c) xs
     sources
 
 pub far_near : (P : ℕ) (b : Square) (t : Gaussian) (xs : List LeafSource) → 2 ≤ P → IsIn b t → All (λ x. IsFarFrom b (place x.point)) xs
-    → IsNear (single_radius P (weight_of P xs) (side b)) (sum_list complex_rationals (term_in_units t) xs) (far_sum P b xs t)
+    → IsNear (single_loss P (weight_of point_of P xs) (side b)) (sum_list complex_rationals (term_in_units t) xs) (far_sum P b xs t)
 far_near P b t xs order near far =
     entry_near P t (local_cut P (doubled_centre b) t) (single_tail P) (side b) (λ x. GaussianBeyond (3 * side b) (doubled_offset x.place (doubled_centre b)))
     (λ ys each. local_entries P (side b) (doubled_centre b) t order (side_positive b) near ys each) (side_positive b) xs

@@ -11,7 +11,7 @@ use Rattle.letters.specs.declared.Entry.{Entry}
 use Rattle.letters.specs.declared.Letter.TheVariants.{U}
 use Rattle.points.specs.declared.Kind.TheVariants.{Charge}
 use Rattle.row_recursions.proofs.Worked.{box}
-use Rattle.row_recursions.specs.Rows.{source_moment, pole_moment, dipole_moment, local_value, local_round}
+use Rattle.row_recursions.specs.Rows.{source_moment, local_value, local_round, powers}
 use Rattle.soundness.specs.Accounts.{LeafSource, LeafTarget, Accounting, under, is_leaf, accounts}
 use Rattle.soundness.specs.Computed.{leaf_row, local_row, local_radius, target_box}
 use Rattle.soundness.specs.Rules.{RowInside, SourceStands, TargetStands, Apart, IsTiled, LocalHolds, BoxHolds, Rules}
@@ -66,7 +66,7 @@ below_four P a b c d (suc (suc (suc zero))) l = d
 below_four P a b c d (suc (suc (suc (suc k)))) l = absurd (omega arith)
 
 leaf_row_inside : RowInside 4 (leaf_row presented 0) given_row
-unfolding under source_moment pole_moment dipole_moment
+unfolding under source_moment powers
 leaf_row_inside = below_four (λ k. BoxEndsInside (leaf_row presented 0 k) (given_row k)) (BoxEndsInside-same refl) (BoxEndsInside-same refl) (BoxEndsInside-same refl) (BoxEndsInside-same refl)
 
 local_row_inside : RowInside 4 (local_row 4 presented 0) (λ k. zero_box)

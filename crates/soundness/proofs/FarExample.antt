@@ -17,12 +17,13 @@ use Rattle.points.specs.Points.{place}
 use Rattle.row_recursions.specs.Rows.{shifted_up}
 use Rattle.soundness.specs.Squares.{quadrant, IsQuarterOf, IsFarFrom, CellsAreApart}
 use Rattle.soundness.specs.Accounts.{LeafSource, LeafTarget, Accounting, under, is_leaf, has_target_under, accounts}
-use Rattle.soundness.specs.Computed.{total_row, moments_in, leaf_row, shifted_rows, local_row, local_radius, target_box}
+use Rattle.soundness.specs.Computed.{total_row, leaf_row, shifted_rows, local_row, local_radius, target_box}
 use Rattle.soundness.specs.Rules.{RowInside, SourceStands, TargetStands, Apart, IsTiled, BoxHolds, Rules}
 use Rattle.soundness.specs.Soundness.{BoxesContain}
 use Rattle.soundness.proofs.Example.{only}
 use Rattle.soundness.proofs.Inside.{BoxEndsInside-same, RowInside-same}
 use Rattle.soundness.proofs.Targets.{boxes_contain}
+use Rattle.row_recursions.specs.Cells.{moments_in}
 
 -- ---- sources, nodes and entries
 abbrev source : ℤ → ℤ → Kind → ℕ → LeafSource

@@ -21,12 +21,13 @@ use Rattle.row_recursions.proofs.MomentLaws.{exact_of, Stands-moment, moments_up
 use Rattle.row_recursions.proofs.Points.{strength_moments}
 use Rattle.soundness.specs.Squares.{doubled_centre, quadrant, IsQuarterOf}
 use Rattle.soundness.specs.Accounts.{LeafSource, Accounting, is_child, is_leaf, children, sources_under}
-use Rattle.soundness.specs.Computed.{total_row, moments_in, shifted_rows}
+use Rattle.soundness.specs.Computed.{total_row, shifted_rows}
 use Rattle.soundness.specs.Rules.{RowInside, Rules}
 use Rattle.soundness.proofs.Boxes.{EnclosesBox-total}
 use Rattle.soundness.proofs.Nodes.{sum-children}
 use Rattle.soundness.proofs.Places.{side_positive, side_of-quarter, centre_of-quarter}
 use Rattle.soundness.proofs.Terms.{source_in, sources_in}
+use Rattle.row_recursions.specs.Cells.{moments_in}
 
 -- the row of a cell contains the moments of these sources
 abbrev pub HoldsIn : ℕ → Square → List LeafSource → (ℕ → BoxEnds) → Type 0

@@ -17,9 +17,9 @@ use Rattle.points.specs.Points.{place}
 use Rattle.row_recursions.specs.Rows.{converted}
 use Rattle.soundness.specs.Squares.{sides_between, IsIn, IsFarFrom}
 use Rattle.soundness.specs.Accounts.{LeafSource, Accounting, is_letter, under, sources_under, entries_of}
-use Rattle.soundness.specs.Computed.{total_row, far_coefficients_in, weight_of_entry, brought_down, converted_rows, far_rows, local_row, local_radius}
+use Rattle.soundness.specs.Computed.{total_row, weight_of_entry, brought_down, converted_rows, far_rows, local_row, local_radius}
 use Rattle.soundness.specs.Rules.{RowInside, Apart, Rules}
-use Rattle.soundness.specs.Steps.{v_loss, x_loss, v_losses, x_losses}
+use Rattle.truncation.specs.Tails.{pair_loss, single_loss}
 use Rattle.soundness.proofs.Boxes.{IsNear, IsNear-wider, IsNear-add, IsNear-sum}
 use Rattle.soundness.proofs.Choices.{zero_left}
 use Rattle.soundness.proofs.Entries.{pair_sum, far_sum, pair_row, far_row, pair_near, far_near}
@@ -28,6 +28,7 @@ use Rattle.soundness.proofs.Multipoles.{multipoles_held}
 use Rattle.soundness.proofs.Nodes.{strong, under-le, under-up, sum-path, sum-root}
 use Rattle.soundness.proofs.Places.{IsIn-above}
 use Rattle.soundness.proofs.Terms.{term_in_units}
+use Rattle.row_recursions.specs.Cells.{far_coefficients_in}
 
 pub letter_is : (a b : Letter) → is_letter a b ≡ true → a ≡ b
 letter_is U U e = refl
@@ -165,23 +166,23 @@ module _ (P : ℕ) (A : Accounting) (order : 2 ≤ P) (rules : Rules P A) where
 
     -- how near the cut terms of the entries on one node are
     pairs_near : (n : ℕ) → under A.parent leaf n ≡ true
-        → IsNear (v_losses P (weight_of_entry P A) (side (A.cell n)) (entries_of A V n)) (sum_list complex_rationals (terms_of t) (entries_of A V n)) (sum_list complex_rationals (pair_cuts t) (entries_of A V n))
-    pairs_near n h = IsNear-sum (terms_of t) (pair_cuts t) (λ e. v_loss P (weight_of_entry P A e) (side (A.cell n))) (entries_of A V n) (λ k d i. one (get_or (entries_of A V n) k d) (entries_on V n k d i))
+        → IsNear (sum_by (λ e. pair_loss P (weight_of_entry P A e) (side (A.cell n))) (entries_of A V n)) (sum_list complex_rationals (terms_of t) (entries_of A V n)) (sum_list complex_rationals (pair_cuts t) (entries_of A V n))
+    pairs_near n h = IsNear-sum (terms_of t) (pair_cuts t) (λ e. pair_loss P (weight_of_entry P A e) (side (A.cell n))) (entries_of A V n) (λ k d i. one (get_or (entries_of A V n) k d) (entries_on V n k d i))
       where
-        one : (e : Entry) → IsOn A V n e → IsNear (v_loss P (weight_of_entry P A e) (side (A.cell n))) (terms_of t e) (pair_cuts t e)
-        one e g = subst (λ m. IsNear (v_loss P (weight_of_entry P A e) (side (A.cell n))) (terms_of t e) (pair_sum P (A.cell m) (A.cell e.c) (sources_under A e.c) t)) g.node
+        one : (e : Entry) → IsOn A V n e → IsNear (pair_loss P (weight_of_entry P A e) (side (A.cell n))) (terms_of t e) (pair_cuts t e)
+        one e g = subst (λ m. IsNear (pair_loss P (weight_of_entry P A e) (side (A.cell n))) (terms_of t e) (pair_sum P (A.cell m) (A.cell e.c) (sources_under A e.c) t)) g.node
             (pair_near P (A.cell n) (A.cell e.c) t (sources_under A e.c) (omega arith) g.apart (target_held n h) (sources_held e.c))
 
     far_ones_near : (n : ℕ) → under A.parent leaf n ≡ true
-        → IsNear (x_losses P (weight_of_entry P A) (side (A.cell n)) (entries_of A X n)) (sum_list complex_rationals (terms_of t) (entries_of A X n)) (sum_list complex_rationals (far_cuts t) (entries_of A X n))
-    far_ones_near n h = IsNear-sum (terms_of t) (far_cuts t) (λ e. x_loss P (weight_of_entry P A e) (side (A.cell n))) (entries_of A X n) (λ k d i. one (get_or (entries_of A X n) k d) (entries_on X n k d i))
+        → IsNear (sum_by (λ e. single_loss P (weight_of_entry P A e) (side (A.cell n))) (entries_of A X n)) (sum_list complex_rationals (terms_of t) (entries_of A X n)) (sum_list complex_rationals (far_cuts t) (entries_of A X n))
+    far_ones_near n h = IsNear-sum (terms_of t) (far_cuts t) (λ e. single_loss P (weight_of_entry P A e) (side (A.cell n))) (entries_of A X n) (λ k d i. one (get_or (entries_of A X n) k d) (entries_on X n k d i))
       where
-        one : (e : Entry) → IsOn A X n e → IsNear (x_loss P (weight_of_entry P A e) (side (A.cell n))) (terms_of t e) (far_cuts t e)
-        one e g = subst (λ m. IsNear (x_loss P (weight_of_entry P A e) (side (A.cell n))) (terms_of t e) (far_sum P (A.cell m) (sources_under A e.c) t)) g.node
+        one : (e : Entry) → IsOn A X n e → IsNear (single_loss P (weight_of_entry P A e) (side (A.cell n))) (terms_of t e) (far_cuts t e)
+        one e g = subst (λ m. IsNear (single_loss P (weight_of_entry P A e) (side (A.cell n))) (terms_of t e) (far_sum P (A.cell m) (sources_under A e.c) t)) g.node
             (far_near P (A.cell n) t (sources_under A e.c) order (target_held n h) (far_sources n e.c g.apart))
 
     abbrev node_radius : ℕ → ℕ
-    node_radius n = v_losses P (weight_of_entry P A) (side (A.cell n)) (entries_of A V n) + x_losses P (weight_of_entry P A) (side (A.cell n)) (entries_of A X n)
+    node_radius n = sum_by (λ e. pair_loss P (weight_of_entry P A e) (side (A.cell n))) (entries_of A V n) + sum_by (λ e. single_loss P (weight_of_entry P A e) (side (A.cell n))) (entries_of A X n)
 
     node_near : (n : ℕ) → under A.parent leaf n ≡ true → IsNear (node_radius n) (on_node (terms_of t) (terms_of t) n) (on_node (pair_cuts t) (far_cuts t) n)
     node_near n h = IsNear-add _ _ _ _ (pairs_near n h) (far_ones_near n h)

@@ -10,7 +10,7 @@ use Rattle.exact_math.specs.Sums.{sum_terms}
 use Rattle.cell_name.specs.Cell.{square, half_number}
 use Rattle.cell_name.specs.declared.cell.Cell.{Cell}
 use Rattle.cell_name.specs.declared.cell.Quadrant.{Quadrant}
-use Rattle.near_field.specs.DirectSum.{acts_on, acting_on, direct_sum}
+use Rattle.near_field.specs.DirectSum.{acts_on, direct_sum}
 use Rattle.points.specs.Points.{is_source}
 use Rattle.near_field.specs.Pair.{is_at, term_of}
 use Rattle.points.specs.declared.Point.{Point}
@@ -69,7 +69,7 @@ count_one p xs k l here alone = sym (number-is p xs) ∙ one_passes p xs k l her
 abbrev pub is_leaf_source : LeafSource → Bool
 is_leaf_source x = is_source x.point.kind
 
-acting-sources : (t : Gaussian) (xs : List LeafSource) → acting_on t (points_of (filter is_leaf_source xs)) ≡ acting_on t (points_of xs)
+acting-sources : (t : Gaussian) (xs : List LeafSource) → filter (acts_on t) (points_of (filter is_leaf_source xs)) ≡ filter (acts_on t) (points_of xs)
 acting-sources t [] = refl
 acting-sources t (x ∷ xs) = by (is_leaf_source x) refl (acting-sources t xs)
   where
@@ -79,14 +79,14 @@ acting-sources t (x ∷ xs) = by (is_leaf_source x) refl (acting-sources t xs)
     all : List Point
     all = points_of xs
 
-    by : (s : Bool) → is_leaf_source x ≡ s → acting_on t some ≡ acting_on t all
-        → acting_on t (points_of (cond (is_leaf_source x) (x ∷ filter is_leaf_source xs) (filter is_leaf_source xs))) ≡ cond (acts_on t x.point) (x.point ∷ acting_on t all) (acting_on t all)
+    by : (s : Bool) → is_leaf_source x ≡ s → filter (acts_on t) some ≡ filter (acts_on t) all
+        → filter (acts_on t) (points_of (cond (is_leaf_source x) (x ∷ filter is_leaf_source xs) (filter is_leaf_source xs))) ≡ cond (acts_on t x.point) (x.point ∷ filter (acts_on t) all) (filter (acts_on t) all)
     by true e h =
-        ap (λ s. acting_on t (points_of (cond s (x ∷ filter is_leaf_source xs) (filter is_leaf_source xs)))) e
+        ap (λ s. filter (acts_on t) (points_of (cond s (x ∷ filter is_leaf_source xs) (filter is_leaf_source xs)))) e
         ∙ ap (λ r. cond (acts_on t x.point) (x.point ∷ r) r) h
     by false e h =
-        ap (λ s. acting_on t (points_of (cond s (x ∷ filter is_leaf_source xs) (filter is_leaf_source xs)))) e
-        ∙ h ∙ sym (ap (λ s. cond (s && not (is_at t x.point)) (x.point ∷ acting_on t all) (acting_on t all)) e)
+        ap (λ s. filter (acts_on t) (points_of (cond s (x ∷ filter is_leaf_source xs) (filter is_leaf_source xs)))) e
+        ∙ h ∙ sym (ap (λ s. cond (s && not (is_at t x.point)) (x.point ∷ filter (acts_on t) all) (filter (acts_on t) all)) e)
 
 pub direct_sum-sources : (t : Gaussian) (xs : List LeafSource) → direct_sum t (points_of (filter is_leaf_source xs)) ≡ direct_sum t (points_of xs)
 direct_sum-sources t xs = ap (λ ps. sum_terms (term_of t) ps) (acting-sources t xs)

@@ -17,10 +17,10 @@ use Rattle.near_field.specs.Pair.{pair_box}
 use Rattle.row_recursions.specs.Rows.{multipole_value}
 use Rattle.soundness.specs.Squares.{offset, IsIn, IsFarFrom}
 use Rattle.soundness.specs.Accounts.{LeafTarget, Accounting, is_letter, under, sources_under, entries_of, reaches, accounts, points_of}
-use Rattle.soundness.specs.Computed.{total_box, cell_of, weight_of_entry, local_row, local_radius, local_at, multipoles_at, pairs_at, target_radius}
+use Rattle.soundness.specs.Computed.{total_box, weight_of_entry, local_row, local_radius, local_at, multipoles_at, pairs_at, target_radius}
 use Rattle.soundness.specs.Rules.{RowInside, IsTiled, LocalHolds, Rules}
 use Rattle.soundness.specs.Soundness.{RulesImplyContainment}
-use Rattle.soundness.specs.Steps.{w_loss, w_losses}
+use Rattle.truncation.specs.Tails.{single_loss}
 use Rattle.soundness.proofs.Boxes.{slack, IsNear, IsNear-add, IsNear-sum, EnclosesBox-total, EnclosesBox-widen}
 use Rattle.soundness.proofs.Choices.{when, sum_list-filter_and, sum_list-once}
 use Rattle.soundness.proofs.Entries.{multipole_sum, multipole_held, multipole_near}
@@ -84,10 +84,10 @@ module _ (P : ℕ) (A : Accounting) (order : 2 ≤ P) (rules : Rules P A) (t : G
         one : (e : Entry) → IsOn A W leaf e → EnclosesBox (multipole_value P (A.multipole e.c) (side (A.cell e.c)) (offset (A.cell e.c) t)) (multipole_cuts e)
         one e h = multipole_held P (A.cell e.c) (sources_under A e.c) (A.multipole e.c) t (far e h) (multipoles_held P A rules e.c h.in_range)
 
-    values_near : IsNear (w_losses P (weight_of_entry P A) (cell_of A) (entries_of A W leaf)) (sum_of (entries_of A W leaf)) (sum_list complex_rationals multipole_cuts (entries_of A W leaf))
-    values_near = IsNear-sum terms multipole_cuts (λ e. w_loss P (weight_of_entry P A e) (A.cell e.c)) (entries_of A W leaf) (λ k d i. one (get_or (entries_of A W leaf) k d) (entries_on P A order rules W leaf k d i))
+    values_near : IsNear (sum_by (λ e. single_loss P (weight_of_entry P A e) (side (A.cell e.c))) (entries_of A W leaf)) (sum_of (entries_of A W leaf)) (sum_list complex_rationals multipole_cuts (entries_of A W leaf))
+    values_near = IsNear-sum terms multipole_cuts (λ e. single_loss P (weight_of_entry P A e) (side (A.cell e.c))) (entries_of A W leaf) (λ k d i. one (get_or (entries_of A W leaf) k d) (entries_on P A order rules W leaf k d i))
       where
-        one : (e : Entry) → IsOn A W leaf e → IsNear (w_loss P (weight_of_entry P A e) (A.cell e.c)) (terms e) (multipole_cuts e)
+        one : (e : Entry) → IsOn A W leaf e → IsNear (single_loss P (weight_of_entry P A e) (side (A.cell e.c))) (terms e) (multipole_cuts e)
         one e h = multipole_near P (A.cell e.c) t (sources_under A e.c) order (far e h) (sources_held P A order rules e.c)
 
     -- ---- all together

@@ -17,7 +17,7 @@ use Rattle.exact_math.proofs.Gaussians.{value}
 use Rattle.exact_math.proofs.DirectTerms.{pole-value}
 use Rattle.exact_math.proofs.Fractions.{complex_value, Stands, Stands-itself, Stands-zero, Stands-sum_terms}
 use Rattle.exact_math.proofs.BoxEnclosures.{EnclosesBox, EnclosesBox-zero, enclosed_from_contained}
-use Rattle.near_field.specs.DirectSum.{acts_on, acting_on, direct_sum}
+use Rattle.near_field.specs.DirectSum.{acts_on, direct_sum}
 use Rattle.points.specs.Points.{place, strength}
 use Rattle.points.specs.Strength.{acts}
 use Rattle.near_field.specs.Pair.{is_at, strength_term, term_of, outward, pair_box}
@@ -73,7 +73,7 @@ pub direct_sum-stands : (t : Gaussian) (points : List Point) → Stands (direct_
 direct_sum-stands t points = subst (Stands (direct_sum t points))
     (sum_list-filter complex_rationals (acts_on t) (λ p. complex_value (term_of t p)) points
     ∙ sum_list-congruence complex_rationals _ _ points (λ p. acting_value (strength p.kind) (is_at t p) _))
-    (Stands-sum_terms (term_of t) (λ p. complex_value (term_of t p)) (acting_on t points) (λ k d l. acting (get_or (acting_on t points) k d) (filter_passes (acts_on t) points k d l)))
+    (Stands-sum_terms (term_of t) (λ p. complex_value (term_of t p)) (filter (acts_on t) points) (λ k d l. acting (get_or (filter (acts_on t) points) k d) (filter_passes (acts_on t) points k d l)))
   where
     acting : (p : Point) → acts_on t p ≡ true → Stands (term_of t p) (complex_value (term_of t p))
     acting p e = Stands-itself (term_of t p) (term_denominator (strength p.kind) _ (distance_positive t p (acts-apart t p e)))

@@ -1,14 +1,17 @@
 -- What the method computes at a node from what is given at others, at order P.
-use Rattle.std.specs.Prelude.{ℕ, zero, suc, ◌+◌, List}
-use Rattle.exact_math.specs.Ends.{BoxEnds, zero_box}
+use Rattle.std.specs.Prelude.{ℕ, zero, suc, ◌+◌, pos, List, sum_by}
+use Rattle.exact_math.specs.Ends.{BoxEnds, zero_box, add_box, widen_box}
 use Rattle.exact_math.specs.Gaussian.{Gaussian}
 use Rattle.cell_name.specs.Square.{Square, side}
 use Rattle.letters.specs.declared.Entry.{Entry}
 use Rattle.letters.specs.declared.Letter.TheVariants.{U, V, W, X}
 use Rattle.points.specs.declared.Point.{Point}
+use Rattle.row_recursions.specs.Rows.{shifted_down, local_value}
+use Rattle.truncation.specs.Tails.{single_loss}
+use Rattle.soundness.specs.Squares.{offset, quadrant}
 use Rattle.soundness.specs.Accounts.{LeafSource, LeafTarget, Accounting, children, sources_under, entries_of}
-pub use Rattle.soundness.specs.Steps.{total_box, total_row, moments_in, far_coefficients_in}
-use Rattle.soundness.specs.Steps.{moments_of, weight_of, child_rows, v_rows, x_rows, w_values, u_pairs, v_losses, x_losses, w_losses, from_parent, local_row_of, radius_of, value_in, box_of}
+pub use Rattle.soundness.specs.Steps.{total_box, total_row}
+use Rattle.soundness.specs.Steps.{moments_of, weight_of, child_rows, v_rows, x_rows, w_values, u_pairs, radius_of}
 
 -- the point of a source
 abbrev pub point_of : LeafSource → Point
@@ -36,7 +39,7 @@ module _ (P : ℕ) (A : Accounting) where
   -- ---- local rows: the parent's brought down, the V entries converted, and the sources of the X entries
   abbrev pub brought_down : ℕ → ℕ → BoxEnds
   brought_down zero k = zero_box
-  brought_down (suc n) k = from_parent P (A.cell (suc n)) (A.local (A.parent (suc n))) k
+  brought_down (suc n) k = shifted_down P (A.local (A.parent (suc n))) (quadrant (A.cell (suc n))) k
 
   abbrev pub converted_rows : ℕ → ℕ → BoxEnds
   converted_rows n = v_rows (cell_of A) (row_of_entry A) P (A.cell n) (entries_of A V n)
@@ -45,7 +48,7 @@ module _ (P : ℕ) (A : Accounting) where
   far_rows n = x_rows point_of (sources_of_entry A) (A.cell n) (entries_of A X n)
 
   abbrev pub local_row : ℕ → ℕ → BoxEnds
-  local_row n k = local_row_of (brought_down n) (converted_rows n) (far_rows n) k
+  local_row n k = add_box (brought_down n k) (add_box (converted_rows n k) (far_rows n k))
 
   -- ---- radii: what the entries can lose, in units of 2^-40
   abbrev pub weight_under : ℕ → ℕ
@@ -59,11 +62,11 @@ module _ (P : ℕ) (A : Accounting) where
   radius_above (suc n) = A.radius (A.parent (suc n))
 
   abbrev pub local_radius : ℕ → ℕ
-  local_radius n = radius_of (radius_above n) (v_losses P weight_of_entry (side (A.cell n)) (entries_of A V n)) (x_losses P weight_of_entry (side (A.cell n)) (entries_of A X n))
+  local_radius n = radius_of P weight_of_entry (side (A.cell n)) (radius_above n) (entries_of A V n) (entries_of A X n)
 
   -- ---- the box of a target: the value of its leaf's local row, those of the W entries, and the pairs of the U entries
   abbrev pub local_at : ℕ → Gaussian → BoxEnds
-  local_at n t = value_in P (A.cell n) (A.local n) t
+  local_at n t = local_value P (A.local n) (side (A.cell n)) (offset (A.cell n) t)
 
   abbrev pub multipoles_at : ℕ → Gaussian → BoxEnds
   multipoles_at n t = w_values (cell_of A) (row_of_entry A) P t (entries_of A W n)
@@ -72,8 +75,8 @@ module _ (P : ℕ) (A : Accounting) where
   pairs_at n t = u_pairs point_of (sources_of_entry A) t (entries_of A U n)
 
   abbrev pub target_radius : ℕ → ℕ
-  target_radius n = A.radius n + w_losses P weight_of_entry (cell_of A) (entries_of A W n)
+  target_radius n = A.radius n + sum_by (λ e. single_loss P (weight_of_entry e) (side (A.cell e.c))) (entries_of A W n)
 
   -- widened by what all its entries can lose
   abbrev pub target_box : LeafTarget → BoxEnds
-  target_box t = box_of (local_at t.leaf t.place) (multipoles_at t.leaf t.place) (pairs_at t.leaf t.place) (target_radius t.leaf)
+  target_box t = widen_box (add_box (local_at t.leaf t.place) (add_box (multipoles_at t.leaf t.place) (pairs_at t.leaf t.place))) (pos (target_radius t.leaf))

@@ -4,7 +4,8 @@ use Rattle.exact_math.specs.Gaussian.{Gaussian, gaussian}
 use Rattle.cell_name.specs.Square.{Square, side, parent}
 use Rattle.exact_math.specs.Within.{GaussianWithin, GaussianBeyond}
 use Rattle.row_recursions.specs.Cells.{sign}
-pub use Rattle.row_recursions.specs.Geometry.{doubled_centre, offset, sides_between}
+pub use Rattle.row_recursions.specs.Geometry.{doubled_centre, offset}
+pub use Rattle.cell_name.specs.Apart.{sides_between}
 
 -- the quadrant of a cell in its parent: 1 for the right and for the top half, -1 for the other
 abbrev pub quadrant : Square → Gaussian

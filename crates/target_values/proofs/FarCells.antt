@@ -16,9 +16,9 @@ pub far_from : (P : ℕ) (b : BasisModel) → IsBasis P b → (n : ℕ) → n < 
     → GaussianBeyond (3 * side (square_of b.tree (get_or items i 0))) (offset (square_of b.tree (get_or items i 0)) (gaussian x y))
 far_from P b is n lt items are i l x y held =
     let e = entry_at P b is W n lt items are i l in
-    let first = e.pair.first_leaf.in_tree in
-    let second = e.pair.second_in_tree in
-    let a = e.pair.comes_apart in
+    let first = e.pair.0.in_tree in
+    let second = e.pair.1 in
+    let a = e.pair.2 in
     let from : Square = square_of b.tree n in
     let to : Square = square_of b.tree (get_or items i 0) in
     far_places from to x y (first.of_grid ∙ sym second.of_grid) (omega (arith, a.deeper)) (omega (arith, second.level_in_grid, second.of_grid)) (λ w. a.apart (Touches-sym from to w)) held

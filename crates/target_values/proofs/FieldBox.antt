@@ -12,7 +12,7 @@ use Rattle.cell_lists.specs.EntryLists.{lists_of}
 use Rattle.cell_lists.specs.ListAt.{list_at}
 use Rattle.complex_box.specs.Box.{box_ends, BoxContains, BoxWithin}
 use Rattle.complex_box.specs.declared.CBox.{CBox}
-use Rattle.field_basis.proofs.Positions.{IsTargetPosition, position_at, leaf_at_position, has_target, targets_at}
+use Rattle.field_basis.proofs.Positions.{IsTargetPosition, position_at, leaf_at_position, target_has_leaf, targets_at}
 use Rattle.field_basis.specs.Basis.{BasisModel, IsBasis, target_of, target_place, target_leaf}
 use Rattle.field_basis.specs.FieldPlaces.{HasLocalRow, IsLocalPlace, IsMultipolePlace, IsTargetBox}
 use Rattle.field_basis.specs.Targets.{no_point, point_at}
@@ -33,7 +33,7 @@ use Rattle.row_recursions.specs.Rows.{row_of, local_value, multipole_value}
 use Rattle.row_recursions.specs.Sizes.{RowWithin}
 use Rattle.soundness.specs.Computed.{total_box}
 use Rattle.soundness.specs.Squares.{offset}
-use Rattle.tree_field.specs.Field.{sources_in, multipole_row, local_row, single_radius_in, multipole_values_at, pairs_at, leaf_at, box_in, target_box, targets}
+use Rattle.tree_field.specs.Field.{sources_in, multipole_row, local_row, single_loss_in, leaf_at, box_in, target_box, targets}
 use Rattle.tree_field.specs.Lists.{TreeLists, AreTreeLists}
 use Rattle.tree_field.proofs.Program.{lists_of_tree, leaves_of_tree}
 use Rattle.soundness.proofs.Sums.{total_box-map, sum_by-map}
@@ -41,6 +41,7 @@ use Rattle.tree_field.proofs.Whole.{field_contains}
 use Rattle.field_basis.proofs.Sizes.{inside, some_lists, limited, tree_cell_of_lists, multipole_within, local_within}
 use Rattle.target_values.proofs.SameValues.{local_value-same}
 use Rattle.target_values.specs.Values.{value_of_cell, loss_of_cell, pairs_of_cell}
+use Rattle.soundness.specs.Steps.{w_values, u_pairs}
 
 module _ (P : ℕ) (b : BasisModel) (is : IsBasis P b) where
   -- ---- how large rows are
@@ -52,19 +53,19 @@ module _ (P : ℕ) (b : BasisModel) (is : IsBasis P b) where
     entries_same : (letter : Letter) → lists.entries letter (square_of b.tree n) ≡ map (square_of b.tree) (list_at (lists_of b.lists letter) n)
     entries_same letter = (lists_of_tree b.tree b.lists b.points b.cap lists (inside P b is) is.is_tree is.lists_are are).entries letter n lt
 
-    pairs_same : (z : Gaussian) → total_box (pairs_of_cell b z) (list_at b.lists.u n) ≡ pairs_at b.points b.cap P lists (square_of b.tree n) z
+    pairs_same : (z : Gaussian) → total_box (pairs_of_cell b z) (list_at b.lists.u n) ≡ u_pairs (λ p. p) (sources_in b.points) z (lists.entries U (square_of b.tree n))
     pairs_same z =
         let f : Square → BoxEnds = λ c. total_box (pair_box z) (sources_in b.points c) in
         sym (ap (total_box f) (entries_same U) ∙ total_box-map f (square_of b.tree) (list_at b.lists.u n))
 
-    values_same : (z : Gaussian) → total_box (value_of_cell P b z) (list_at b.lists.w n) ≡ multipole_values_at b.points b.cap P lists (square_of b.tree n) z
+    values_same : (z : Gaussian) → total_box (value_of_cell P b z) (list_at b.lists.w n) ≡ w_values (λ c. c) (multipole_row b.points b.cap) P z (lists.entries W (square_of b.tree n))
     values_same z =
         let f : Square → BoxEnds = λ c. multipole_value P (multipole_row b.points b.cap c) (side c) (offset c z) in
         sym (ap (total_box f) (entries_same W) ∙ total_box-map f (square_of b.tree) (list_at b.lists.w n))
 
-    losses_same : sum_by (loss_of_cell P b) (list_at b.lists.w n) ≡ sum_by (λ c. single_radius_in b.points P (side c) c) (lists.entries W (square_of b.tree n))
+    losses_same : sum_by (loss_of_cell P b) (list_at b.lists.w n) ≡ sum_by (λ c. single_loss_in b.points P (side c) c) (lists.entries W (square_of b.tree n))
     losses_same =
-        let f : Square → ℕ = λ c. single_radius_in b.points P (side c) c in
+        let f : Square → ℕ = λ c. single_loss_in b.points P (side c) c in
         sym (ap (sum_by f) (entries_same W) ∙ sum_by-map f (square_of b.tree) (list_at b.lists.w n))
 
     -- no source stands in two entries
@@ -115,7 +116,7 @@ module _ (P : ℕ) (b : BasisModel) (is : IsBasis P b) where
 
     module _ (place : PlaceModel) (here : IsLocalPlace P b (target_leaf b k) place) where
       row_here : (lists : TreeLists) → AreTreeLists b.tree.grid b.points b.cap lists → HasLocalRow P b lists (target_leaf b k) place
-      row_here lists are = here.with_target (has_target b.points b.cap b.tree is.is_tree (get_or b.targets k 0) position) lists are
+      row_here lists are = here.with_target (target_has_leaf b.points b.cap b.tree is.is_tree (get_or b.targets k 0) position) lists are
 
       pub local_small : RowWithin P (most_local widest_grid) (row_of place.row)
       local_small i l = subst (BoxEndsWithin (most_local widest_grid)) (sym ((row_here (some_lists P b is).0 (some_lists P b is).1).row_is i l)) (local_within P b is (target_leaf b k) leaf_is.in_range i l)

@@ -2,7 +2,7 @@
 use Rattle.std.proofs.Common.{ℕ, ◌≡◌, ◌+◌, ◌^◌, ◌<◌, ◌≤◌, ℤ, pos, ◌+ℤ◌, unsigned_abs, to_z, of_z, get_or, sym, ap, ap₂, ◌∙◌, subst, arith}
 use Rattle.std.specs.Int.{w128}
 use Rattle.std.proofs.lemmas.Int.{ints}
-use Rattle.truncation.specs.Tails.{single_radius}
+use Rattle.truncation.specs.Tails.{single_loss}
 use Rattle.cell_name.specs.Square.{Square, side}
 use Rattle.field_basis.specs.Basis.{BasisModel, IsBasis}
 use Rattle.field_basis.specs.Weights.{IsWeight}
@@ -21,5 +21,5 @@ module _ (P : ℕ) (b : BasisModel) (is : IsBasis P b) (n : ℕ) (lt : n < size 
   pub weight_small : IsWeight w
   weight_small = subst IsWeight (sym here) (is.weights_small n (pos 0) (omega (arith, is.weight_each, lt)))
 
-  pub loss_is : (s : ℤ) (q : Square) → s ≡ pos (side q) → q ≡ square_of b.tree n → single_radius P (unsigned_abs w) (unsigned_abs s) ≡ loss_of_cell P b n
-  loss_is s q e same = ap₂ (λ w s. single_radius P (unsigned_abs w) (unsigned_abs s)) (here ∙ is.weights_are.each n lt) (e ∙ ap (λ (q : Square). pos (side q)) same)
+  pub loss_is : (s : ℤ) (q : Square) → s ≡ pos (side q) → q ≡ square_of b.tree n → single_loss P (unsigned_abs w) (unsigned_abs s) ≡ loss_of_cell P b n
+  loss_is s q e same = ap₂ (λ w s. single_loss P (unsigned_abs w) (unsigned_abs s)) (here ∙ is.weights_are.each n lt) (e ∙ ap (λ (q : Square). pos (side q)) same)

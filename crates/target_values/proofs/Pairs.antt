@@ -16,7 +16,7 @@ use Rattle.points.specs.declared.Point.{Point}
 use Rattle.quadtree.specs.TreeModel.{IsTreeOf, size, squares, square_of, node_of, leaf_of}
 use Rattle.tree_field.specs.Field.{sources_in}
 use Rattle.tree_field.specs.Lists.{TreeLists, AreTreeLists}
-use Rattle.tree_field.specs.Work.{targets_in, pairs_between, pairs}
+use Rattle.tree_field.specs.Work.{pairs_between, pairs}
 use Rattle.tree_field.proofs.Leaves.{only_leaf}
 use Rattle.exact_math.proofs.Lists.{All-from_members, AllPairs-both, AllPairs-range, Contains-range, filter-filter, range_below}
 use Rattle.tree_field.proofs.Program.{nodes_of_tree, leaves_of_tree}
@@ -29,6 +29,7 @@ use Rattle.field_basis.proofs.Positions.{targets_at, IsTargetPosition, positions
 use Rattle.field_basis.proofs.Sizes.{inside}
 use Rattle.target_values.proofs.Sums.{sum_by-exchange, sum_by-filter, sum_by-one}
 use Rattle.target_values.specs.Values.{count_of_cell}
+use Rattle.quadtree.specs.Tree.{is_target_in}
 
 no_members : (xs : List ℕ) → ((x : ℕ) → Contains xs x → ⊥) → xs ≡ []
 no_members [] none = refl
@@ -57,13 +58,13 @@ module _ (P : ℕ) (b : BasisModel) (stands : IsBasis P b) where
       let f : Point → ℕ = λ t. sum_by (count_of_cell b (place t)) (list_at b.lists.u n) in
       let held : Point → Bool = λ t. holds_test s t.x t.y in
       let below = (are.each b.points b.cap (inside P b stands) h U n lt).numbers in
-      let in_turn : sum_by (λ m. pairs_between b.points s (square_of b.tree m)) us ≡ sum_by (λ t. sum_by (λ m. count_apart (place t) (sources_in b.points (square_of b.tree m))) us) (targets_in b.points s) =
-      sum_by-exchange (λ m t. count_apart (place t) (sources_in b.points (square_of b.tree m))) us (targets_in b.points s) in
-      let listed : sum_by (λ t. sum_by (λ m. count_apart (place t) (sources_in b.points (square_of b.tree m))) us) (targets_in b.points s) ≡ sum_by f (targets_in b.points s) =
-      sum_by-same (λ t. sum_by (λ m. count_apart (place t) (sources_in b.points (square_of b.tree m))) us) f (targets_in b.points s) (λ k d l.
-      sum_by-same (λ m. count_apart (place (get_or (targets_in b.points s) k d)) (sources_in b.points (square_of b.tree m))) (λ m. count_apart (place (get_or (targets_in b.points s) k d)) (sources_at b.points (node_of b.tree m).members)) us
-      (λ i e j. ap (count_apart (place (get_or (targets_in b.points s) k d))) (sym ((nodes_of_tree b.tree b.points b.cap (inside P b stands) h (get_or us i e) (below i e j)).members no_point)))) in
-      let among : targets_in b.points s ≡ filter held (map (point_at b.points) (target_positions b.points)) = sym (ap (filter held) (targets_at b.points) ∙ filter-filter held (λ p. not (is_source p.kind)) b.points) in
+      let in_turn : sum_by (λ m. pairs_between b.points s (square_of b.tree m)) us ≡ sum_by (λ t. sum_by (λ m. count_apart (place t) (sources_in b.points (square_of b.tree m))) us) (filter (is_target_in s) b.points) =
+      sum_by-exchange (λ m t. count_apart (place t) (sources_in b.points (square_of b.tree m))) us (filter (is_target_in s) b.points) in
+      let listed : sum_by (λ t. sum_by (λ m. count_apart (place t) (sources_in b.points (square_of b.tree m))) us) (filter (is_target_in s) b.points) ≡ sum_by f (filter (is_target_in s) b.points) =
+      sum_by-same (λ t. sum_by (λ m. count_apart (place t) (sources_in b.points (square_of b.tree m))) us) f (filter (is_target_in s) b.points) (λ k d l.
+      sum_by-same (λ m. count_apart (place (get_or (filter (is_target_in s) b.points) k d)) (sources_in b.points (square_of b.tree m))) (λ m. count_apart (place (get_or (filter (is_target_in s) b.points) k d)) (sources_at b.points (node_of b.tree m).members)) us
+      (λ i e j. ap (count_apart (place (get_or (filter (is_target_in s) b.points) k d))) (sym ((nodes_of_tree b.tree b.points b.cap (inside P b stands) h (get_or us i e) (below i e j)).members no_point)))) in
+      let among : filter (is_target_in s) b.points ≡ filter held (map (point_at b.points) (target_positions b.points)) = sym (ap (filter held) (targets_at b.points) ∙ filter-filter held (λ p. not (is_source p.kind)) b.points) in
       in_turn ∙ listed ∙ ap (sum_by f) among ∙ sum_by-filter held f (map (point_at b.points) (target_positions b.points)) ∙ sum_by-map (λ t. cond (held t) (f t) 0) (point_at b.points) (target_positions b.points)
 
   -- only leaves have U entries
@@ -76,7 +77,7 @@ module _ (P : ℕ) (b : BasisModel) (stands : IsBasis P b) where
           let p : Point = point_at b.points k in
           let e = (l.exact c (numbers_below c m)).0 m in
           let here = Contains-get_or b.points k no_point is.inside in
-          let leaf = only_leaf b.tree.grid b.points b.cap (squares b.tree) (grid_positive b.tree.grid h.known_grid) (inside P b stands) h.cells_are p here (square_of b.tree n) e.pair.first_leaf (Holds-from_test (square_of b.tree n) p.x p.y held) in
+          let leaf = only_leaf b.tree.grid b.points b.cap (squares b.tree) (grid_positive b.tree.grid h.known_grid) (inside P b stands) h.cells_are p here (square_of b.tree n) e.pair.0 (Holds-from_test (square_of b.tree n) p.x p.y held) in
           ne (same_number b.tree h.cells_are.ascending n (leaf_of b.tree k) lt (leaf_at_position b.tree b.points b.cap h k no_point is.inside).in_range
           (leaf ∙ leaves_of_tree b.tree b.points b.cap (inside P b stands) h k p (slice_get-get_or b.points k no_point is.inside)))))
         where

@@ -11,12 +11,12 @@ use Rattle.letters.specs.declared.Letter.{Letter}
 use Rattle.letters.specs.declared.Letter.TheVariants.{U, V, W, X}
 use Rattle.points.specs.Points.{is_source}
 use Rattle.points.specs.declared.Point.{Point}
-use Rattle.quadtree.specs.Tree.{AreInGrid, IsTreeCell}
+use Rattle.quadtree.specs.Tree.{AreInGrid, IsTreeCell, is_source_in}
 use Rattle.soundness.specs.Accounts.{LeafSource, Accounting, under, is_letter, sources_under, entries_of}
 use Rattle.soundness.specs.Computed.{total_box}
 pub use Rattle.tree_field.specs.Accounting.{leaf_number, leaf_source, leaf_target, sources, entry, entries_from, of_cell, accounting}
 use Rattle.tree_field.specs.Lists.{TreeLists, AreTreeLists}
-use Rattle.tree_field.specs.Field.{is_source_in, sources_in}
+use Rattle.tree_field.specs.Field.{sources_in}
 use Rattle.quadtree.proofs.Ascending.{ascending_differ}
 use Rattle.tree_field.proofs.Leaves.{under_is_holding}
 use Rattle.exact_math.proofs.Lists.{All-from_members, filter-map, filter-filter, filter_same, filter_none, filter_whole}
@@ -63,7 +63,7 @@ module _ (grid : ℕ) (points : List Point) (cap P : ℕ) (lists : TreeLists) (p
   other_cell letter n b lt h other =
       filter_none (of_node letter n) (of_cell lists b)
       (All-of_cell lists (λ e. of_node letter n e ≡ false) b (λ l. All-from_members (λ c. of_node letter n (entry lists l b c) ≡ false) (lists.entries l b)
-      (λ c m. and_right (is_letter letter l) (n == number lists.cells b) (ne_eqb n (number lists.cells b) (λ e. other (sym (ap cell e ∙ cell_of_number grid points cap lists.cells positive inside are.cells_are b (All-contains (IsTreeCell grid points cap) lists.cells b are.cells_are.in_tree h))))))))
+      (λ c m. and_right (is_letter letter l) (n == number lists.cells b) (ne_eqb n (number lists.cells b) (λ e. other (sym (ap cell e ∙ cell_of_number grid points cap lists.cells positive inside are.cells_are b (All-contains (IsTreeCell grid points cap) lists.cells b are.cells_are.each h))))))))
 
   piece : (letter l : Letter) (n : ℕ) → n < length lists.cells → filter (of_node letter n) (entries_from lists l (cell n)) ≡ cond (is_letter letter l) (entries_from lists l (cell n)) []
   piece letter l n lt = step (is_letter letter l) refl
@@ -98,7 +98,7 @@ module _ (grid : ℕ) (points : List Point) (cap P : ℕ) (lists : TreeLists) (p
   -- the cells of the entries are cells of the tree
   pub second_in_tree : (letter : Letter) (n : ℕ) → n < length lists.cells → All (IsTreeCell grid points cap) (lists.entries letter (cell n))
   second_in_tree letter n lt k d h =
-      let e = (are.entries_are letter (cell n) (tree_cell grid points cap lists.cells positive inside are.cells_are n lt)).entries k d h in
+      let e = (are.entries_are letter (cell n) (tree_cell grid points cap lists.cells positive inside are.cells_are n lt)).each k d h in
       (in_tree_of grid points cap letter (cell n) _ e.pair).1
 
   pub over_entries : (letter : Letter) (n : ℕ) → n < length lists.cells → (G : ℕ → BoxEnds) (F : Square → BoxEnds) → ((m : ℕ) → m < length lists.cells → G m ≡ F (cell m))

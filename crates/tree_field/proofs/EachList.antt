@@ -8,33 +8,30 @@ use mathlib.Core.Logic.{⊎_elim}
 use Rattle.cell_name.specs.Order.{IsBefore}
 use Rattle.cell_name.specs.Square.{Square, parent}
 use Rattle.cell_name.proofs.Cells.{decide_touches}
-use Rattle.cell_lists.specs.Entries.{IsWPair, IsPair, IsEntry}
+use Rattle.cell_lists.specs.Entries.{IsPair, IsEntry}
 use Rattle.cell_lists.proofs.OneEntry.{in_tree_of}
 use Rattle.letters.specs.declared.Letter.{Letter}
 use Rattle.letters.specs.declared.Letter.TheVariants.{U, V, W, X}
 use Rattle.points.specs.declared.Point.{Point}
 use Rattle.quadtree.specs.Splitting.{cells_to_level}
-use Rattle.quadtree.specs.Tree.{AreInGrid, IsTreeCell, IsSplit, IsLeaf, HasTarget, HasSource, AreTreeCells}
+use Rattle.quadtree.specs.Tree.{AreInGrid, IsTreeCell, IsLeaf, count_in, has_target, has_source, AreExactly}
 use Rattle.quadtree.proofs.Distinct.{Contains-filter, Contains-into_filter}
 use Rattle.quadtree.proofs.Parents.{leaf_or_split}
 use Rattle.quadtree.proofs.TreeLevels.{cells_to_level_are, cells_to_level_whole, cells_to_level_differ}
-use Rattle.tree_field.specs.Field.{has_source}
-use Rattle.tree_field.specs.Work.{has_target}
 use Rattle.tree_field.specs.Laws.{EachListHasTree}
-use Rattle.tree_field.specs.Lists.{TreeLists, AreEntriesOf, AreTreeLists}
-use Rattle.tree_field.proofs.Occupants.{HasTarget-from_test, test-from_HasTarget, HasSource-from_test, test-from_HasSource}
+use Rattle.tree_field.specs.Lists.{TreeLists, AreTreeLists}
 use Rattle.exact_math.proofs.Lists.{All-from_members}
 use Rattle.tree_field.proofs.Members.{found, list_any-member}
 use Rattle.tree_field.proofs.Numbers.{same_cell, same_from_test, test_itself}
 use Rattle.tree_field.proofs.Sorting.{sorted_cells, sorted_has, sorted_from, sorted_ascend}
 
 -- ---- the cells
-pub tree_cells : (grid : ℕ) (points : List Point) (cap : ℕ) → 0 < grid → AreInGrid grid points → AreTreeCells grid points cap (sorted_cells (cells_to_level grid points cap grid))
+pub tree_cells : (grid : ℕ) (points : List Point) (cap : ℕ) → 0 < grid → AreInGrid grid points → AreExactly (IsTreeCell grid points cap) (sorted_cells (cells_to_level grid points cap grid))
 tree_cells grid points cap positive inside =
     let all : List Square = cells_to_level grid points cap grid in
     let are = cells_to_level_are grid points cap grid (omega arith) in
     record {
-      in_tree = All-from_members (IsTreeCell grid points cap) (sorted_cells all) (λ c h. All-contains (IsTreeCell grid points cap) all c (λ k d lt. (are k d lt).in_tree) (sorted_from all c h));
+      each = All-from_members (IsTreeCell grid points cap) (sorted_cells all) (λ c h. All-contains (IsTreeCell grid points cap) all c (λ k d lt. (are k d lt).in_tree) (sorted_from all c h));
       whole = λ c h. sorted_has all c (cells_to_level_whole grid points cap grid positive inside c h h.level_in_grid);
       ascending = sorted_ascend grid all (λ k d lt. (are k d lt).in_tree.of_grid) (cells_to_level_differ grid points cap grid (omega arith));
     }
@@ -73,16 +70,16 @@ unfolding is_yes
 from_yes (inl p) e = p
 from_yes (inr n) e = absurd (false≢true e)
 
-decide_target : (points : List Point) (b : Square) → Decided (HasTarget points b)
-decide_target points b = ⊎_elim (λ e. inl (HasTarget-from_test points b e)) (λ e. inr (λ h. true≢false (sym (test-from_HasTarget points b h) ∙ e))) (cases_Bool (has_target points b))
+decide_target : (points : List Point) (b : Square) → Decided (IsTrue (has_target points b))
+decide_target points b = ⊎_elim (λ e. inl e) (λ e. inr (λ h. true≢false (sym h ∙ e))) (cases_Bool (has_target points b))
 
-decide_source : (points : List Point) (c : Square) → Decided (HasSource points c)
-decide_source points c = ⊎_elim (λ e. inl (HasSource-from_test points c e)) (λ e. inr (λ h. true≢false (sym (test-from_HasSource points c h) ∙ e))) (cases_Bool (has_source points c))
+decide_source : (points : List Point) (c : Square) → Decided (IsTrue (has_source points c))
+decide_source points c = ⊎_elim (λ e. inl e) (λ e. inr (λ h. true≢false (sym h ∙ e))) (cases_Bool (has_source points c))
 
-module _ (grid : ℕ) (points : List Point) (cap : ℕ) (cells : List Square) (are : AreTreeCells grid points cap cells) where
+module _ (grid : ℕ) (points : List Point) (cap : ℕ) (cells : List Square) (are : AreExactly (IsTreeCell grid points cap) cells) where
   decide_tree : (c : Square) → Decided (IsTreeCell grid points cap c)
   decide_tree c = ⊎_elim
-      (λ e. let f = found (λ d. same_cell d c) cells e in inl (subst (IsTreeCell grid points cap) (same_from_test f.member c f.passes) (All-contains (IsTreeCell grid points cap) cells f.member are.in_tree f.listed)))
+      (λ e. let f = found (λ d. same_cell d c) cells e in inl (subst (IsTreeCell grid points cap) (same_from_test f.member c f.passes) (All-contains (IsTreeCell grid points cap) cells f.member are.each f.listed)))
       (λ e. inr (λ h. true≢false (sym (list_any-member (λ d. same_cell d c) cells c (are.whole c h) (test_itself c)) ∙ e)))
       (cases_Bool (list_any (λ d. same_cell d c) cells))
 
@@ -92,23 +89,23 @@ module _ (grid : ℕ) (points : List Point) (cap : ℕ) (cells : List Square) (a
       (λ n. inr (λ leaf. n leaf.in_tree))
       (decide_tree c)
     where
-      neither : IsSplit points cap c → c.level < grid → IsLeaf grid points cap c → ⊥
-      neither split room leaf = elim leaf.ends [ inl few ↦ absurd (omega (arith, split.over_cap)) | inr last ↦ absurd (omega arith) ]
+      neither : (cap < count_in points c) → c.level < grid → IsLeaf grid points cap c → ⊥
+      neither split room leaf = elim leaf.ends [ inl few ↦ absurd (omega (arith, split)) | inr last ↦ absurd (omega arith) ]
 
-  decide_w : (b c : Square) → Decided (IsWPair grid points cap b c)
+  decide_w : (b c : Square) → Decided (IsPair grid points cap W b c)
   decide_w b c = decide_as
-      (λ h. record { first_leaf = h.0; second_in_tree = h.1.0; comes_apart = record { deeper = h.1.1.0; parent_touches = h.1.1.1.0; apart = h.1.1.1.1 } })
-      (λ r. (r.first_leaf, (r.second_in_tree, (r.comes_apart.deeper, (r.comes_apart.parent_touches, r.comes_apart.apart)))))
+      (λ h. (h.0, h.1.0, record { deeper = h.1.1.0; parent_touches = h.1.1.1.0; apart = h.1.1.1.1 }))
+      (λ r. (r.0, (r.1, (r.2.deeper, (r.2.parent_touches, r.2.apart)))))
       (decide_both (decide_leaf b) (decide_both (decide_tree c) (decide_both (decide_lt b.level c.level) (decide_both (decide_touches (parent c) b) (decide_not (decide_touches c b))))))
 
   decide_pair : (letter : Letter) (b c : Square) → Decided (IsPair grid points cap letter b c)
   decide_pair U b c = decide_as
-      (λ h. record { first_leaf = h.0; second_leaf = h.1.0; touch = h.1.1 })
-      (λ r. (r.first_leaf, (r.second_leaf, r.touch)))
+      (λ h. (h.0, h.1.0, h.1.1))
+      (λ r. (r.0, (r.1, r.2)))
       (decide_both (decide_leaf b) (decide_both (decide_leaf c) (decide_touches b c)))
   decide_pair V b c = decide_as
-      (λ h. record { first_in_tree = h.0; second_in_tree = h.1.0; come_apart = record { same_level = h.1.1.0; below_root = h.1.1.1.0; parents_touch = h.1.1.1.1.0; apart = h.1.1.1.1.1 } })
-      (λ r. (r.first_in_tree, (r.second_in_tree, (r.come_apart.same_level, (r.come_apart.below_root, (r.come_apart.parents_touch, r.come_apart.apart))))))
+      (λ h. (h.0, h.1.0, record { same_level = h.1.1.0; below_root = h.1.1.1.0; parents_touch = h.1.1.1.1.0; apart = h.1.1.1.1.1 }))
+      (λ r. (r.0, (r.1, (r.2.same_level, (r.2.below_root, (r.2.parents_touch, r.2.apart))))))
       (decide_both (decide_tree b) (decide_both (decide_tree c) (decide_both (cases_eq b.level c.level) (decide_both (decide_lt 0 b.level) (decide_both (decide_touches (parent b) (parent c)) (decide_not (decide_touches b c)))))))
   decide_pair W b c = decide_w b c
   decide_pair X b c = decide_w c b
@@ -123,9 +120,9 @@ module _ (grid : ℕ) (points : List Point) (cap : ℕ) (cells : List Square) (a
   abbrev passing : Letter → Square → List Square
   passing letter b = filter (λ c. is_yes (decide_entry letter b c)) cells
 
-  passing_are : (letter : Letter) (b : Square) → AreEntriesOf grid points cap letter b (passing letter b)
+  passing_are : (letter : Letter) (b : Square) → AreExactly (IsEntry grid points cap letter b) (passing letter b)
   passing_are letter b = record {
-    entries = All-from_members (IsEntry grid points cap letter b) (passing letter b) (λ c h. from_yes (decide_entry letter b c) (Contains-filter (λ c. is_yes (decide_entry letter b c)) cells c h).1);
+    each = All-from_members (IsEntry grid points cap letter b) (passing letter b) (λ c h. from_yes (decide_entry letter b c) (Contains-filter (λ c. is_yes (decide_entry letter b c)) cells c h).1);
     whole = λ c e. Contains-into_filter (λ c. is_yes (decide_entry letter b c)) cells c (are.whole c (in_tree_of grid points cap letter b c e.pair).1) (yes_from (decide_entry letter b c) e);
     ascending = AllPairs-filter IsBefore (λ c. is_yes (decide_entry letter b c)) cells are.ascending;
   }

@@ -52,7 +52,7 @@ module _ (grid : ℕ) (points : List Point) (cap P : ℕ) (lists : TreeLists) (p
   -- a fact of all entries of the lists
   pub All-entries : (Q : Entry → Type 0) → ((letter : Letter) (b c : Square) → IsTreeCell grid points cap b → IsTreeCell grid points cap c → IsEntry grid points cap letter b c → Q (entry lists letter b c)) → All Q given.entries
   All-entries Q h = All-flat_map Q (of_cell lists) lists.cells (λ b hb.
-      let tb = All-contains (IsTreeCell grid points cap) lists.cells b are.cells_are.in_tree hb in
+      let tb = All-contains (IsTreeCell grid points cap) lists.cells b are.cells_are.each hb in
       All-of_cell lists Q b (λ letter. All-from_members (λ c. Q (entry lists letter b c)) (lists.entries letter b) (λ c hc.
       let e = All-contains (IsEntry grid points cap letter b) (lists.entries letter b) c (are.entries_are letter b tb).entries hc in
       h letter b c tb (in_tree_of grid points cap letter b c e.pair).1 e)))
@@ -80,16 +80,16 @@ module _ (grid : ℕ) (points : List Point) (cap P : ℕ) (lists : TreeLists) (p
   apart_of U b c tb tc e = tt
   apart_of V b c tb tc e =
       let grids : b.grid ≡ c.grid = tb.of_grid ∙ sym tc.of_grid in
-      let a = e.come_apart in
+      let a = e.2 in
       subst (λ s. CellsAreApart s (cell (number lists.cells c))) (sym (is b tb)) (subst (λ s. CellsAreApart b s) (sym (is c tc))
       (record { grid = grids; level = a.same_level; apart = (pairs_of_cells b c grids a.same_level a.apart a.parents_touch).kernel.apart }))
   apart_of W b c tb tc e =
-      let a = e.comes_apart in
+      let a = e.2 in
       All-map (λ (t : LeafTarget). under (above lists.cells) t.leaf (number lists.cells b) ≡ true → IsFarFrom (cell (number lists.cells c)) t.place) (leaf_target grid points cap P lists) (targets points)
       (All-from_members (λ t. under (above lists.cells) (leaf_number grid points cap lists t) (number lists.cells b) ≡ true → IsFarFrom (cell (number lists.cells c)) (place t)) (targets points)
       (λ t h u. far_at b c tb tc (omega (arith, a.deeper)) (λ w. a.apart (Touches-sym b c w)) t (Contains-filter _ points t h).0 u))
   apart_of X b c tb tc e =
-      let a = e.comes_apart in
+      let a = e.2 in
       All-map (λ (x : LeafSource). under (above lists.cells) x.leaf (number lists.cells c) ≡ true → IsFarFrom (cell (number lists.cells b)) (place x.point)) (leaf_source grid points cap lists) (sources points)
       (All-from_members (λ p. under (above lists.cells) (leaf_number grid points cap lists p) (number lists.cells c) ≡ true → IsFarFrom (cell (number lists.cells b)) (place p)) (sources points)
       (λ p h u. far_at c b tc tb (omega (arith, a.deeper)) (λ w. a.apart (Touches-sym c b w)) p (Contains-filter _ points p h).0 u))
@@ -133,7 +133,7 @@ module _ (grid : ℕ) (points : List Point) (cap P : ℕ) (lists : TreeLists) (p
       (λ b e h m. All-contains (λ (e : Entry). cell e.b ≡ b) (of_cell lists b) e (All-of_cell lists (λ e. cell e.b ≡ b) b (λ l k d lt. is b (tree b h))) m)
     where
       tree : (b : Square) → Contains lists.cells b → IsTreeCell grid points cap b
-      tree b h = All-contains (IsTreeCell grid points cap) lists.cells b are.cells_are.in_tree h
+      tree b h = All-contains (IsTreeCell grid points cap) lists.cells b are.cells_are.each h
 
   -- each entry of the definition stands there
   has_entry : (letter : Letter) (b c : Square) → IsEntry grid points cap letter b c → Contains given.entries (entry lists letter b c)
@@ -160,10 +160,10 @@ module _ (grid : ℕ) (points : List Point) (cap P : ℕ) (lists : TreeLists) (p
   holds_from_reaches X t h b tb e = held_under t h b tb e
 
   reaches_from_holds : (letter : Letter) (t : Point) → Contains points t → (b c : Square) → IsPair grid points cap letter b c → Holds b t.x t.y → reaches given letter (number lists.cells b) (leaf_number grid points cap lists t) ≡ true
-  reaches_from_holds U t h b c e held = eq-eqb _ _ (ap (number lists.cells) (sym (only_leaf grid points cap lists.cells positive inside are.cells_are t h b e.first_leaf held)))
-  reaches_from_holds V t h b c e held = under_held t h b e.first_in_tree held
-  reaches_from_holds W t h b c e held = eq-eqb _ _ (ap (number lists.cells) (sym (only_leaf grid points cap lists.cells positive inside are.cells_are t h b e.first_leaf held)))
-  reaches_from_holds X t h b c e held = under_held t h b e.second_in_tree held
+  reaches_from_holds U t h b c e held = eq-eqb _ _ (ap (number lists.cells) (sym (only_leaf grid points cap lists.cells positive inside are.cells_are t h b e.0 held)))
+  reaches_from_holds V t h b c e held = under_held t h b e.0 held
+  reaches_from_holds W t h b c e held = eq-eqb _ _ (ap (number lists.cells) (sym (only_leaf grid points cap lists.cells positive inside are.cells_are t h b e.0 held)))
+  reaches_from_holds X t h b c e held = under_held t h b e.1 held
 
   -- ---- exactly one accounts for a target and a source
   pub accounted_once : (t p : Point) → Contains (targets points) t → Contains (sources points) p → count_by (accounts given (leaf_number grid points cap lists t) (leaf_source grid points cap lists p)) given.entries ≡ 1

@@ -9,7 +9,7 @@ use Rattle.cell_name.specs.Square.{Square, parent, Holds, holds_test}
 use Rattle.cell_name.proofs.Cells.{Holds-square_at, Holds-parent, parent-square_at}
 use Rattle.cell_name.proofs.HoldsTest.{Holds-from_test, test-from_Holds}
 use Rattle.cell_lists.proofs.OneEntry.{cell_is, listed}
-use Rattle.quadtree.specs.Tree.{count_in, AreInGrid, IsTreeCell, IsLeaf, AreTreeCells, is_over}
+use Rattle.quadtree.specs.Tree.{count_in, AreInGrid, IsTreeCell, IsLeaf, is_over, AreExactly}
 use Rattle.quadtree.proofs.LeafLevel.{cell_of, IsListed, IsLeafLevel, leaf_level_exists, tree_at_next}
 use Rattle.soundness.specs.Accounts.{under}
 use Rattle.soundness.proofs.Nodes.{strong, under-root, under-parent, under-self}
@@ -54,7 +54,7 @@ has_leaf grid points cap p positive given =
     let e : f.level ≡ l.0 = l.1.no_other f.level f.leaf in
     record { level = l.0; is_cell = f.is_cell ∙ ap (cell_of grid p) e; leaf_level = l.1 }
 
-module _ (grid : ℕ) (points : List Point) (cap : ℕ) (cells : List Square) (positive : 0 < grid) (inside : AreInGrid grid points) (are : AreTreeCells grid points cap cells) where
+module _ (grid : ℕ) (points : List Point) (cap : ℕ) (cells : List Square) (positive : 0 < grid) (inside : AreInGrid grid points) (are : AreExactly (IsTreeCell grid points cap) cells) where
   abbrev pub leaf_number : Point → ℕ
   leaf_number p = number cells (leaf_at points cap grid (place p))
 

@@ -7,7 +7,6 @@ pub mod LocalRows
 pub mod Members
 pub mod MultipoleRows
 pub mod Numbers
-pub mod Occupants
 pub mod OneTree
 pub mod Program
 pub mod Sorting

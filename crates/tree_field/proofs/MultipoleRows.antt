@@ -16,7 +16,7 @@ use Rattle.cell_name.proofs.HoldsTest.{Holds-from_test, test-from_Holds}
 use Rattle.points.specs.Points.{is_source}
 use Rattle.points.specs.declared.Point.{Point}
 use Rattle.cell_name.specs.Quarters.{quarters}
-use Rattle.quadtree.specs.Tree.{count_in, AreInGrid, IsTreeCell, IsSplit, IsLeaf, is_over}
+use Rattle.quadtree.specs.Tree.{count_in, AreInGrid, IsTreeCell, IsLeaf, is_over, has_source, is_source_in}
 use Rattle.quadtree.proofs.Distinct.{Contains-filter, Contains-into_filter}
 use Rattle.quadtree.proofs.LeafLevel.{cell_of, tree_at_next}
 use Rattle.quadtree.proofs.Parents.{cell_of_point, leaf_or_split, IsTreeCell-below, IsTreeCell-from_below}
@@ -24,17 +24,18 @@ use Rattle.cell_name.proofs.Quarters.{IsQuarter, quarters_are, quarters_contain}
 use Rattle.complex_box.proofs.ZeroBoxes.{zero_scaled, zero_gscaled, zero_over, zero_right}
 use Rattle.row_recursions.specs.Rows.{up_round, shifted_up}
 use Rattle.soundness.specs.Accounts.{Accounting, is_child, is_leaf, children}
-use Rattle.soundness.specs.Computed.{total_box, total_row, moments_in, shifted_rows, leaf_row as given_leaf_row}
+use Rattle.soundness.specs.Computed.{total_box, total_row, shifted_rows, leaf_row as given_leaf_row}
 use Rattle.soundness.specs.Squares.{quadrant}
 use Rattle.tree_field.specs.Lists.{TreeLists, AreTreeLists}
-use Rattle.tree_field.specs.Field.{is_source_in, has_source, leaf_row, multipole_above, multipole_row}
+use Rattle.tree_field.specs.Field.{leaf_row, multipole_above, multipole_row}
 use Rattle.tree_field.proofs.Accounts.{accounting, over_sources}
 use Rattle.quadtree.proofs.Ascending.{same_list, quarters_ascend}
 use Rattle.exact_math.proofs.Lists.{image_of, Contains-into_map, AllPairs-map, AllPairs-range, Contains-range, range_below, filter_none}
 use Rattle.tree_field.proofs.Members.{found, list_any-member, none_passes}
-use Rattle.tree_field.proofs.Occupants.{occupied_from_source}
+use Rattle.quadtree.proofs.Occupants.{occupied_from_source}
 use Rattle.tree_field.proofs.Numbers.{number, cell_at, above, tree_cell, number_below, cell_of_number, number_of_cell, first_is_root, level_positive, cell_above, above_number}
 use Rattle.soundness.proofs.Sums.{total_box-map, total_box-same, total_box-fewer}
+use Rattle.row_recursions.specs.Cells.{moments_in}
 
 -- ---- the row of a cell from its sources, or from the rows of its quarters
 leaf_level : (points : List Point) (cap levels : ℕ) (c : Square) (k : ℕ) → (levels ≡ 0) ⊎ (count_in points c ≤ cap) → multipole_above points cap levels c k ≡ leaf_row points c k
@@ -116,14 +117,14 @@ module _ (grid : ℕ) (points : List Point) (cap P : ℕ) (lists : TreeLists) (p
 
   -- ---- leaves
   -- a cell that is split has a child
-  split_no_leaf : (n : ℕ) → n < length lists.cells → IsSplit points cap (cell n) → (cell n).level < grid → is_leaf given n ≡ false
+  split_no_leaf : (n : ℕ) → n < length lists.cells → (cap < count_in points (cell n)) → (cell n).level < grid → is_leaf given n ≡ false
   split_no_leaf n lt split room =
       let c : Square = cell n in
       let here = tree_cell grid points cap lists.cells positive inside are.cells_are n lt in
       let o = cell_of_point grid points c here.of_grid inside here.occupied in
       let p : Point = o.point in
       let d : Square = cell_of grid p (suc c.level) in
-      let below : IsTreeCell grid points cap d = tree_at_next grid points cap p o.given c.level room (subst (λ s. cap < count_in points s) o.is_cell split.over_cap) in
+      let below : IsTreeCell grid points cap d = tree_at_next grid points cap p o.given c.level room (subst (λ s. cap < count_in points s) o.is_cell split) in
       let up : parent d ≡ cell_of grid p c.level = rw add-one at (parent-square_at grid c.level p.x p.y room) in
       let m : ℕ = number lists.cells d in
       let in_range = number_below grid points cap lists.cells positive inside are.cells_are d below in
@@ -164,7 +165,7 @@ module _ (grid : ℕ) (points : List Point) (cap P : ℕ) (lists : TreeLists) (p
       }
 
   -- a node with a child is split
-  pub split_from_node : (n : ℕ) → n < length lists.cells → is_leaf given n ≡ false → IsSplit points cap (cell n) × ((cell n).level < grid)
+  pub split_from_node : (n : ℕ) → n < length lists.cells → is_leaf given n ≡ false → (cap < count_in points (cell n)) × ((cell n).level < grid)
   split_from_node n lt e =
       let f = found (is_child given n) (range_with_len 0 (length lists.cells)) (not-false _ e) in
       let d : ℕ = f.member in
@@ -172,7 +173,7 @@ module _ (grid : ℕ) (points : List Point) (cap P : ℕ) (lists : TreeLists) (p
       let here = tree_cell grid points cap lists.cells positive inside are.cells_are d h.in_range in
       let lo = level_positive grid points cap lists.cells positive inside are.cells_are d h.positive_number h.in_range in
       let level : (cell d).level - 1 ≡ (cell n).level = ap (λ (s : Square). s.level) h.parent_is in
-      (subst (IsSplit points cap) h.parent_is (IsTreeCell-below grid points cap (cell d) lo here.level_in_grid here).1, omega (arith, here.level_in_grid))
+      (subst (λ v. cap < count_in points v) h.parent_is (IsTreeCell-below grid points cap (cell d) lo here.level_in_grid here).1, omega (arith, here.level_in_grid))
 
   pub leaf_rows_same : (n : ℕ) → n < length lists.cells → is_leaf given n ≡ true → (k : ℕ) → given_leaf_row given n k ≡ multipole_row points cap (cell n) k
   leaf_rows_same n lt e k =
@@ -189,7 +190,7 @@ module _ (grid : ℕ) (points : List Point) (cap P : ℕ) (lists : TreeLists) (p
   is_occupied q = nat_lt 0 (count_in points q)
 
   -- the cells of the children are the quarters that have a point
-  children_are : (n : ℕ) → n < length lists.cells → IsSplit points cap (cell n) → (cell n).level < grid → map cell (children given n) ≡ filter is_occupied (quarters (cell n))
+  children_are : (n : ℕ) → n < length lists.cells → (cap < count_in points (cell n)) → (cell n).level < grid → map cell (children given n) ≡ filter is_occupied (quarters (cell n))
   children_are n lt split room = same_list (map cell (children given n)) (filter is_occupied (quarters (cell n)))
       (AllPairs-map IsBefore cell (children given n) (AllPairs-filter (λ a b. IsBefore (cell a) (cell b)) (is_child given n) (range_with_len 0 (length lists.cells))
       (λ i j d l in_range. let r = AllPairs-range (length lists.cells) i j d l in_range in are.cells_are.ascending _ _ no_square r.0 r.1)))
@@ -213,7 +214,7 @@ module _ (grid : ℕ) (points : List Point) (cap P : ℕ) (lists : TreeLists) (p
           let kept = Contains-filter is_occupied (quarters (cell n)) q h in
           let quarter = All-contains (IsQuarter (cell n)) (quarters (cell n)) q (quarters_are (cell n)) kept.0 in
           let here = tree_cell grid points cap lists.cells positive inside are.cells_are n lt in
-          let in_tree : IsTreeCell grid points cap q = IsTreeCell-from_below grid points cap q (quarter.of_grid ∙ here.of_grid) (omega (arith, quarter.level)) (omega (arith, quarter.level)) (ltb-true 0 (count_in points q) kept.1) (subst (IsSplit points cap) (sym quarter.parent_is) split) in
+          let in_tree : IsTreeCell grid points cap q = IsTreeCell-from_below grid points cap q (quarter.of_grid ∙ here.of_grid) (omega (arith, quarter.level)) (omega (arith, quarter.level)) (ltb-true 0 (count_in points q) kept.1) (subst (λ v. cap < count_in points v) (sym quarter.parent_is) split) in
           let m : ℕ = number lists.cells q in
           let in_range = number_below grid points cap lists.cells positive inside are.cells_are q in_tree in
           let is = cell_of_number grid points cap lists.cells positive inside are.cells_are q in_tree in
@@ -239,7 +240,7 @@ module _ (grid : ℕ) (points : List Point) (cap P : ℕ) (lists : TreeLists) (p
       sym (total_box-map row cell (children given n))
       ∙ ap (total_box row) (children_are n lt s.0 s.1)
       ∙ total_box-fewer row is_occupied (has_source points) (quarters (cell n)) (λ q h t. occupied q t) (λ q h t f. nothing q (All-contains (IsQuarter (cell n)) (quarters (cell n)) q (quarters_are (cell n)) h) here.of_grid s.1 f)
-      ∙ sym (multipole_row-split points cap (cell n) (omega (arith, here.of_grid, s.1)) s.0.over_cap k)
+      ∙ sym (multipole_row-split points cap (cell n) (omega (arith, here.of_grid, s.1)) s.0 k)
     where
       row : Square → BoxEnds
       row q = shifted_up (multipole_row points cap q) (quadrant q) k

@@ -7,7 +7,7 @@ use Rattle.cell_name.specs.Order.{IsBefore}
 use Rattle.cell_name.specs.Square.{Square, root, no_square, parent}
 use Rattle.cell_name.proofs.Cells.{same_square}
 use Rattle.cell_name.proofs.Order.{IsBefore-irrefl}
-use Rattle.quadtree.specs.Tree.{AreInGrid, IsTreeCell, AreTreeCells}
+use Rattle.quadtree.specs.Tree.{AreInGrid, IsTreeCell, AreExactly}
 pub use Rattle.tree_field.specs.Accounting.{same_cell, number, cell_at, above}
 use Rattle.quadtree.proofs.Parents.{IsTreeCell-parent}
 
@@ -36,9 +36,9 @@ number_is (d ∷ ds) c h = step (same_cell d c) refl h (number_is ds c)
     step false e (zero, lt, f) rest = absurd (false≢true (sym e ∙ ap (λ z. same_cell z c) f ∙ test_itself c))
     step false e (suc k, lt, f) rest = let r = rest (k, omega arith, f) in record { in_range = omega (arith, r.in_range); is = r.is }
 
-module _ (grid : ℕ) (points : List Point) (cap : ℕ) (cells : List Square) (positive : 0 < grid) (inside : AreInGrid grid points) (are : AreTreeCells grid points cap cells) where
+module _ (grid : ℕ) (points : List Point) (cap : ℕ) (cells : List Square) (positive : 0 < grid) (inside : AreInGrid grid points) (are : AreExactly (IsTreeCell grid points cap) cells) where
   pub tree_cell : (n : ℕ) → n < length cells → IsTreeCell grid points cap (cell_at cells n)
-  tree_cell n lt = are.in_tree n no_square lt
+  tree_cell n lt = are.each n no_square lt
 
   pub number_below : (c : Square) → IsTreeCell grid points cap c → number cells c < length cells
   number_below c h = (number_is cells c (are.whole c h)).in_range

@@ -8,12 +8,12 @@ use Rattle.quadtree.proofs.Ascending.{same_list}
 pub one_tree : OneTree
 one_tree grid points cap these others p q = (
   same_list these.cells others.cells p.cells_are.ascending q.cells_are.ascending
-      (λ c h. q.cells_are.whole c (All-contains (IsTreeCell grid points cap) these.cells c p.cells_are.in_tree h))
-      (λ c h. p.cells_are.whole c (All-contains (IsTreeCell grid points cap) others.cells c q.cells_are.in_tree h)),
+      (λ c h. q.cells_are.whole c (All-contains (IsTreeCell grid points cap) these.cells c p.cells_are.each h))
+      (λ c h. p.cells_are.whole c (All-contains (IsTreeCell grid points cap) others.cells c q.cells_are.each h)),
   λ letter b tb.
       let e = p.entries_are letter b tb in
       let f = q.entries_are letter b tb in
       same_list (these.entries letter b) (others.entries letter b) e.ascending f.ascending
-      (λ c h. f.whole c (All-contains (IsEntry grid points cap letter b) (these.entries letter b) c e.entries h))
-      (λ c h. e.whole c (All-contains (IsEntry grid points cap letter b) (others.entries letter b) c f.entries h)),
+      (λ c h. f.whole c (All-contains (IsEntry grid points cap letter b) (these.entries letter b) c e.each h))
+      (λ c h. e.whole c (All-contains (IsEntry grid points cap letter b) (others.entries letter b) c f.each h)),
 )

@@ -21,27 +21,26 @@ use Rattle.points.specs.Points.{is_source}
 use Rattle.points.specs.declared.Point.{Point}
 use Rattle.quadtree.specs.Members.{holds_point, holds_position, members_of}
 use Rattle.cell_name.specs.Quarters.{quarters}
-use Rattle.quadtree.specs.Tree.{AreInGrid, count_in, IsTreeCell, IsSplit}
+use Rattle.quadtree.specs.Tree.{AreInGrid, count_in, IsTreeCell, has_target, has_source, is_source_in}
 use Rattle.quadtree.specs.TreeModel.{TreeModel, squares, size, square_of, node_of, leaf_of, is_child, children_of, IsTreeOf}
 use Rattle.quadtree.proofs.Distinct.{Contains-filter}
 use Rattle.quadtree.proofs.Levels.{below-split}
 use Rattle.quadtree.proofs.Parents.{leaf_or_split}
 use Rattle.quadtree.proofs.PointKinds.{point_at}
 use Rattle.quadtree.proofs.TreeChildren.{children_squares, tree_cell_at}
-use Rattle.tree_field.specs.Field.{is_source_in, sources_in, has_source}
+use Rattle.tree_field.specs.Field.{sources_in}
 use Rattle.tree_field.specs.Program.{ListsOfTree, source_children, IsNodeOfField, NodesOfTree, LeavesOfTree}
-use Rattle.tree_field.specs.Work.{has_target}
 use Rattle.quadtree.proofs.Ascending.{same_list}
 use Rattle.tree_field.proofs.Leaves.{same_test, only_leaf}
 use Rattle.exact_math.proofs.Lists.{image_of, Contains-into_map, AllPairs-map, AllPairs-both, All-from_members, range_below, filter-filter, filter-map, filter_same}
-use Rattle.tree_field.proofs.Occupants.{HasTarget-from_test, test-from_HasTarget, HasSource-from_test, test-from_HasSource, occupied_from_source}
+use Rattle.quadtree.proofs.Occupants.{occupied_from_source}
 
 -- ---- cells and entries
 pub lists_of_tree : ListsOfTree
 lists_of_tree tree lists points cap these inside h are a = record {
   cells = same_list these.cells (squares tree) a.cells_are.ascending h.cells_are.ascending
-      (λ c m. h.cells_are.whole c (All-contains (IsTreeCell tree.grid points cap) these.cells c a.cells_are.in_tree m))
-      (λ c m. a.cells_are.whole c (All-contains (IsTreeCell tree.grid points cap) (squares tree) c h.cells_are.in_tree m));
+      (λ c m. h.cells_are.whole c (All-contains (IsTreeCell tree.grid points cap) these.cells c a.cells_are.each m))
+      (λ c m. a.cells_are.whole c (All-contains (IsTreeCell tree.grid points cap) (squares tree) c h.cells_are.each m));
   entries = λ letter n lt.
       let b : Square = square_of tree n in
       let rows : List ℕ = list_at (lists_of lists letter) n in
@@ -51,7 +50,7 @@ lists_of_tree tree lists points cap these inside h are a = record {
       (AllPairs-map IsBefore (square_of tree) rows (AllPairs-both (λ c. c < size tree) (λ x y. x < y) (λ c d. IsBefore (square_of tree c) (square_of tree d)) rows is.numbers (AllPairs-from_increasing rows is.ascending)
       (λ c d lc ld before. number_before tree h.cells_are.ascending c d before ld)))
       (λ c m.
-      let e = All-contains (IsEntry tree.grid points cap letter b) (these.entries letter b) c es.entries m in
+      let e = All-contains (IsEntry tree.grid points cap letter b) (these.entries letter b) c es.each m in
       let k = number_listed tree c (h.cells_are.whole c (in_tree_of tree.grid points cap letter b c e.pair).1) in
       subst (Contains (map (square_of tree) rows)) k.2 (Contains-into_map (square_of tree) rows k.0 ((is.exact k.0 k.1).1 (subst (IsEntry tree.grid points cap letter b) (sym k.2) e))))
       (λ c m.
@@ -101,13 +100,13 @@ module _ (tree : TreeModel) (points : List Point) (cap : ℕ) (inside : AreInGri
   as_many = length-map tree.cells square
 
   source_is : (n : ℕ) → n < size tree → (node_of tree n).has_source ≡ has_source points (square_of tree n)
-  source_is n lt = let node = h.nodes_are n lt in same_test _ _ (λ e. test-from_HasSource points (square_of tree n) (node.source.0 e)) (λ e. node.source.1 (HasSource-from_test points (square_of tree n) e))
+  source_is n lt = let node = h.nodes_are n lt in same_test _ _ node.source.0 node.source.1
 
   target_is : (n : ℕ) → n < size tree → (node_of tree n).has_target ≡ has_target points (square_of tree n)
-  target_is n lt = let node = h.nodes_are n lt in same_test _ _ (λ e. test-from_HasTarget points (square_of tree n) (node.target.0 e)) (λ e. node.target.1 (HasTarget-from_test points (square_of tree n) e))
+  target_is n lt = let node = h.nodes_are n lt in same_test _ _ node.target.0 node.target.1
 
   -- a node that is no leaf is split
-  split_is : (n : ℕ) → n < size tree → (node_of tree n).is_leaf ≡ false → IsSplit points cap (square_of tree n)
+  split_is : (n : ℕ) → n < size tree → (node_of tree n).is_leaf ≡ false → (cap < count_in points (square_of tree n))
   split_is n lt e = ⊎_elim (λ leaf. absurd (false≢true (sym e ∙ (h.nodes_are n lt).leaf.1 leaf))) (λ split. split.0) (leaf_or_split tree.grid points cap (square_of tree n) (tree_cell_at tree points cap n h lt))
 
   room_is : (n : ℕ) → n < size tree → (node_of tree n).is_leaf ≡ false → (square_of tree n).level < tree.grid
@@ -126,7 +125,7 @@ module _ (tree : TreeModel) (points : List Point) (cap : ℕ) (inside : AreInGri
       ap (map (square_of tree)) (filter_same (λ m. (node_of tree m).has_source) (λ m. has_source points (square_of tree m)) (children_of tree n) sources)
       ∙ sym (filter-map (has_source points) (square_of tree) (children_of tree n))
       ∙ ap (λ l. filter (has_source points) (map (square_of tree) l)) (sym (h.nodes_are n lt).children_are)
-      ∙ ap (filter (has_source points)) (children_squares tree points cap inside h n lt (room_is n lt leaf) ∙ below-split points cap (square_of tree n) (split_is n lt leaf).over_cap)
+      ∙ ap (filter (has_source points)) (children_squares tree points cap inside h n lt (room_is n lt leaf) ∙ below-split points cap (square_of tree n) (split_is n lt leaf))
       ∙ filter-filter (has_source points) (λ q. nat_lt 0 (count_in points q)) (quarters (square_of tree n))
       ∙ filter_agree (λ q. nat_lt 0 (count_in points q) && has_source points q) (has_source points) with_point (quarters (square_of tree n))
     where

@@ -14,7 +14,7 @@ use Rattle.near_field.specs.DirectSum.{acts_on, direct_sum}
 use Rattle.points.specs.Points.{is_source, place}
 use Rattle.near_field.specs.Pair.{is_at, term_of}
 use Rattle.points.specs.declared.Point.{Point}
-use Rattle.quadtree.specs.Tree.{AreInGrid, IsSplit, IsLeaf}
+use Rattle.quadtree.specs.Tree.{AreInGrid, IsLeaf, count_in, has_target, is_target_in}
 use Rattle.quadtree.proofs.Distinct.{Contains-filter}
 use Rattle.row_recursions.proofs.Geometry.{held_places}
 use Rattle.soundness.specs.Accounts.{LeafSource, LeafTarget, Accounting, under, is_leaf, has_target_under, accounts, points_of}
@@ -26,7 +26,6 @@ use Rattle.soundness.proofs.Targets.{boxes_contain}
 use Rattle.tree_field.specs.Contains.{FieldContains}
 use Rattle.tree_field.specs.Lists.{TreeLists, AreTreeLists}
 use Rattle.tree_field.specs.Field.{targets, leaf_at, box_in, target_box}
-use Rattle.tree_field.specs.Work.{is_target_in, has_target}
 use Rattle.tree_field.proofs.Accounts.{leaf_number, leaf_source, leaf_target, sources, accounting}
 use Rattle.tree_field.proofs.Entries.{entries_in_range, entries_apart, accounted_once}
 use Rattle.tree_field.proofs.Leaves.{leaf_is, leaf_holds, leaf_number_below, cell_of_leaf, under_is_holding}
@@ -53,8 +52,8 @@ module _ (grid : ℕ) (points : List Point) (cap P : ℕ) (lists : TreeLists) (p
   node_is_leaf : (n : ℕ) → n < length lists.cells → IsLeaf grid points cap (cell n) → is_leaf given n ≡ true
   node_is_leaf n lt leaf = ⊎_elim (λ e. e) (λ e. absurd (neither (split_from_node grid points cap P lists positive inside are n lt e))) (cases_Bool (is_leaf given n))
     where
-      neither : IsSplit points cap (cell n) × ((cell n).level < grid) → ⊥
-      neither split = elim leaf.ends [ inl few ↦ absurd (omega (arith, split.0.over_cap)) | inr last ↦ absurd (omega (arith, split.1)) ]
+      neither : (cap < count_in points (cell n)) × ((cell n).level < grid) → ⊥
+      neither split = elim leaf.ends [ inl few ↦ absurd (omega (arith, split.0)) | inr last ↦ absurd (omega (arith, split.1)) ]
 
   place_in_leaf : (p : Point) → Contains points p → IsIn (cell (leaf_number grid points cap lists p)) (place p)
   place_in_leaf p h = subst (λ c. IsIn c (place p)) (sym (cell_of_leaf grid points cap lists.cells positive inside are.cells_are p h)) (held_places _ p.x p.y (leaf_holds grid points cap lists.cells positive inside are.cells_are p h))

@@ -13,12 +13,11 @@ use Rattle.cell_lists.specs.ListAt.{list_at}
 use Rattle.letters.specs.declared.Letter.TheVariants.{U, V}
 use Rattle.limits.proofs.Grids.{grid_positive}
 use Rattle.points.specs.declared.Point.{Point}
-use Rattle.quadtree.specs.Tree.{AreInGrid}
+use Rattle.quadtree.specs.Tree.{AreInGrid, has_target, has_source}
 use Rattle.quadtree.specs.TreeModel.{TreeModel, IsTreeOf, squares, size, square_of, node_of}
-use Rattle.tree_field.specs.Field.{has_source}
 use Rattle.tree_field.specs.Laws.{TranslationsAreFew}
 use Rattle.tree_field.specs.Program.{WorkOfTree}
-use Rattle.tree_field.specs.Work.{has_target, pairs_between}
+use Rattle.tree_field.specs.Work.{pairs_between}
 use Rattle.tree_field.proofs.Leaves.{same_test}
 use Rattle.exact_math.proofs.Lists.{All-from_members, range_below}
 use Rattle.tree_field.proofs.Numbers.{first_is_root, level_positive}

@@ -9,7 +9,7 @@ use Rattle.kernel_table.specs.Kernel.{kernel_power, kernel_entry}
 use Rattle.points.specs.declared.Kind.TheVariants.{Charge, Target}
 use Rattle.points.specs.declared.Point.{Point}
 use Rattle.row_recursions.proofs.Worked.{box}
-use Rattle.row_recursions.specs.Rows.{pole_moment, dipole_moment, source_moment, up_round, shifted_up, converted, far_pole, far_dipole, far_source, down_round, shifted_down, local_round, local_value, multipole_round, multipole_value}
+use Rattle.row_recursions.specs.Rows.{source_moment, up_round, shifted_up, converted, far_source, down_round, shifted_down, local_round, local_value, multipole_round, multipole_value, powers, far_powers}
 use Rattle.truncation.specs.Tails.{pair_tail, single_tail}
 use Rattle.quadtree.specs.Splitting.{cells_to_level}
 use Rattle.tree_field.specs.Lists.{TreeLists}
@@ -54,7 +54,7 @@ v_cells : sorted_cells (cells_to_level 5 v_points 8 5) ≡ v_lists.cells
 v_cells = refl
 
 v_box : target_box v_points 8 4 v_lists (gaussian (pos 2) (pos 0)) ≡ box (pos 3312552165840) (pos 6892290129456) (neg_ℤ (pos 1596595453488)) (pos 1983142510128)
-unfolding leaf_below local_at_level radius_at_level multipole_above local_value local_round shifted_down down_round converted kernel_entry kernel_power source_moment pole_moment dipole_moment pair_tail
+unfolding leaf_below local_at_level radius_at_level multipole_above local_value local_round shifted_down down_round converted kernel_entry kernel_power source_moment powers pair_tail
 v_box = refl
 
 v_work : (translations v_points v_lists ≡ 11) × (pairs v_points v_lists ≡ 0)
@@ -100,7 +100,7 @@ w_cells : sorted_cells (cells_to_level 5 w_points 8 5) ≡ w_lists.cells
 w_cells = refl
 
 w_box : target_box w_points 8 4 w_lists (gaussian (pos 8) (pos 0)) ≡ box (pos 1127786607614) (pos 1373822247902) (neg_ℤ (pos 75518917824)) (pos 170516722464)
-unfolding leaf_below local_at_level radius_at_level multipole_above local_value local_round shifted_down down_round multipole_value multipole_round shifted_up up_round source_moment pole_moment dipole_moment single_tail
+unfolding leaf_below local_at_level radius_at_level multipole_above local_value local_round shifted_down down_round multipole_value multipole_round shifted_up up_round source_moment powers single_tail
 w_box = refl
 
 w_work : (translations w_points w_lists ≡ 7) × (pairs w_points w_lists ≡ 0)
@@ -123,7 +123,7 @@ x_cells : sorted_cells (cells_to_level 5 x_points 8 5) ≡ x_lists.cells
 x_cells = refl
 
 x_box : target_box x_points 8 4 x_lists (gaussian (pos 0) (pos 0)) ≡ box (neg_ℤ (pos 152646916439)) (neg_ℤ (pos 125309623062)) (neg_ℤ (pos 18946302502)) (pos 8390990876)
-unfolding leaf_below local_at_level radius_at_level local_value local_round shifted_down down_round far_source far_pole far_dipole single_tail
+unfolding leaf_below local_at_level radius_at_level local_value local_round shifted_down down_round far_source far_powers single_tail
 x_box = refl
 
 x_work : (translations x_points x_lists ≡ 7) × (pairs x_points x_lists ≡ 0)

@@ -12,7 +12,7 @@ use Rattle.points.specs.declared.Point.{Point}
 use Rattle.soundness.specs.Accounts.{LeafSource, LeafTarget, Accounting}
 use Rattle.tree_field.specs.Field.{targets, multipole_row, leaf_at, local_row, local_radius, target_box}
 use Rattle.tree_field.specs.Lists.{TreeLists}
-use Rattle.tree_field.specs.Work.{has_target}
+use Rattle.quadtree.specs.Tree.{has_target}
 
 -- ---- cells by numbers
 abbrev pub same_cell : Square → Square → Bool

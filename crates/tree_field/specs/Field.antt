@@ -1,29 +1,24 @@
 -- The field of the method: rows and radii of the cells of the tree, and the box of each target. Rows and boxes count units of 2^-40; a row is a function of its index.
-use Rattle.std.specs.Prelude.{ℕ, zero, suc, ◌+◌, ◌-◌, Bool, ◌&&◌, not, cond, List, map, filter}
-use Rattle.std.specs.List.{list_any}
-use Rattle.exact_math.specs.Ends.{BoxEnds, zero_box}
+use Rattle.std.specs.Prelude.{ℕ, zero, suc, ◌+◌, ◌-◌, pos, not, cond, List, map, filter, sum_by}
+use Rattle.exact_math.specs.Ends.{BoxEnds, zero_box, add_box, widen_box}
 use Rattle.exact_math.specs.Gaussian.{Gaussian}
-use Rattle.cell_name.specs.Square.{Square, side, parent, square_at, holds_test}
+use Rattle.cell_name.specs.Square.{Square, side, parent, square_at}
 use Rattle.letters.specs.declared.Letter.TheVariants.{U, V, W, X}
 use Rattle.points.specs.Points.{is_source, place}
 use Rattle.points.specs.declared.Point.{Point}
 use Rattle.cell_name.specs.Quarters.{quarters}
-use Rattle.quadtree.specs.Tree.{is_over}
-use Rattle.soundness.specs.Steps.{moments_of, weight_of, child_rows, v_rows, x_rows, w_values, u_pairs, v_loss, x_loss, v_losses, x_losses, w_losses, from_parent, local_row_of, radius_of, value_in, box_of}
+use Rattle.quadtree.specs.Tree.{is_over, is_source_in, has_source}
+use Rattle.row_recursions.specs.Rows.{shifted_down, local_value}
+use Rattle.truncation.specs.Tails.{pair_loss, single_loss}
+use Rattle.soundness.specs.Squares.{offset, quadrant}
+use Rattle.soundness.specs.Steps.{moments_of, weight_of, child_rows, v_rows, x_rows, w_values, u_pairs, radius_of}
 use Rattle.tree_field.specs.Lists.{TreeLists}
 
 -- ---- points and cells
--- whether a point is a source in the cell
-abbrev pub is_source_in : Square → Point → Bool
-is_source_in c p = is_source p.kind && holds_test c p.x p.y
-
 module _ (points : List Point) where
   -- the sources in a cell, in the order of the list
   abbrev pub sources_in : Square → List Point
   sources_in c = filter (is_source_in c) points
-
-  abbrev pub has_source : Square → Bool
-  has_source c = list_any (is_source_in c) points
 
   -- the targets, in the order of the list
   abbrev pub targets : List Point
@@ -40,21 +35,18 @@ module _ (points : List Point) where
     weight_in c = weight_of (λ p. p) P (sources_in c)
 
     -- what an entry of two cells of the side s can lose
-    abbrev pub pair_radius_in : ℕ → Square → ℕ
-    pair_radius_in s c = v_loss P (weight_in c) s
+    abbrev pub pair_loss_in : ℕ → Square → ℕ
+    pair_loss_in s c = pair_loss P (weight_in c) s
 
     -- and one of a cell of the side s and of points
-    abbrev pub single_radius_in : ℕ → Square → ℕ
-    single_radius_in s c = x_loss P (weight_in c) s
+    abbrev pub single_loss_in : ℕ → Square → ℕ
+    single_loss_in s c = single_loss P (weight_in c) s
 
   module _ (cap : ℕ) where
     -- of a cell with that many levels below its own: the sum of the rows of its quarters with a source, shifted up, and of a leaf that of its sources
     unfoldable pub multipole_above : ℕ → Square → ℕ → BoxEnds
     multipole_above zero c = leaf_row c
-    multipole_above (suc levels) c =
-        cond (is_over points cap c)
-        (child_rows (λ q. q) (λ q. multipole_above levels q) (filter has_source (quarters c)))
-        (leaf_row c)
+    multipole_above (suc n) c = cond (is_over points cap c) (child_rows (λ q. q) (multipole_above n) (filter (has_source points) (quarters c))) (leaf_row c)
 
     abbrev pub multipole_row : Square → ℕ → BoxEnds
     multipole_row c = multipole_above (c.grid - c.level) c
@@ -62,55 +54,39 @@ module _ (points : List Point) where
     -- the first cell of a place with no more points than a leaf may have, from the cell with that many levels below it on, or the one of the last level
     unfoldable pub leaf_below : ℕ → ℕ → Gaussian → Square
     leaf_below zero grid z = square_at grid grid z.re z.im
-    leaf_below (suc levels) grid z =
-        let c = square_at grid (grid - suc levels) z.re z.im in
-        cond (is_over points cap c) (leaf_below levels grid z) c
+    leaf_below (suc levels) grid z = let c = square_at grid (grid - suc levels) z.re z.im in cond (is_over points cap c) (leaf_below levels grid z) c
 
     abbrev pub leaf_at : ℕ → Gaussian → Square
     leaf_at grid z = leaf_below grid grid z
 
     -- ---- what the entries bring
     module _ (P : ℕ) (lists : TreeLists) where
-      -- the rows of the V entries, converted
-      abbrev pub converted_rows : Square → ℕ → BoxEnds
-      converted_rows b = v_rows (λ c. c) multipole_row P b (lists.entries V b)
-
-      -- the contributions of the sources of the X entries
-      abbrev pub far_rows : Square → ℕ → BoxEnds
-      far_rows b = x_rows (λ p. p) sources_in b (lists.entries X b)
-
-      -- the local row of a cell of a level: nothing at the root, and below it the parent's brought down and what the entries bring
+      -- the local row of a cell of a level: nothing at the root, and below it the parent's brought down, the rows of the V entries converted, and the sources of the X entries
       unfoldable pub local_at_level : ℕ → Square → ℕ → BoxEnds
       local_at_level zero b k = zero_box
-      local_at_level (suc level) b k = local_row_of (from_parent P b (local_at_level level (parent b))) (converted_rows b) (far_rows b) k
+      local_at_level (suc level) b k =
+          let entries = add_box (v_rows (λ c. c) multipole_row P b (lists.entries V b) k) (x_rows (λ p. p) sources_in b (lists.entries X b) k) in
+          add_box (shifted_down P (local_at_level level (parent b)) (quadrant b) k) entries
 
       abbrev pub local_row : Square → ℕ → BoxEnds
       local_row b = local_at_level b.level b
 
-      -- ---- radii
+      -- its radius
       unfoldable pub radius_at_level : ℕ → Square → ℕ
       radius_at_level zero b = 0
-      radius_at_level (suc level) b = radius_of (radius_at_level level (parent b)) (v_losses P (weight_in P) (side b) (lists.entries V b)) (x_losses P (weight_in P) (side b) (lists.entries X b))
+      radius_at_level (suc level) b = radius_of P (weight_in P) (side b) (radius_at_level level (parent b)) (lists.entries V b) (lists.entries X b)
 
       abbrev pub local_radius : Square → ℕ
       local_radius b = radius_at_level b.level b
 
-      -- ---- the box of a place: the value of the local row of its leaf, the values of the rows of the W entries and the pairs of the U entries
-      abbrev pub local_value_at : Square → Gaussian → BoxEnds
-      local_value_at b z = value_in P b (local_row b) z
-
-      abbrev pub multipole_values_at : Square → Gaussian → BoxEnds
-      multipole_values_at b z = w_values (λ c. c) multipole_row P z (lists.entries W b)
-
-      abbrev pub pairs_at : Square → Gaussian → BoxEnds
-      pairs_at b z = u_pairs (λ p. p) sources_in z (lists.entries U b)
-
-      -- what all entries on the way to the leaf can lose
-      abbrev pub radius_in : Square → ℕ
-      radius_in b = local_radius b + w_losses P (weight_in P) (λ c. c) (lists.entries W b)
-
+      -- the box of a place in the leaf b: the value of its local row, the values of the rows of its W entries and the pairs of its U entries, widened by what all entries can lose
       abbrev pub box_in : Square → Gaussian → BoxEnds
-      box_in b z = box_of (local_value_at b z) (multipole_values_at b z) (pairs_at b z) (radius_in b)
+      box_in b z =
+          let value = local_value P (local_row b) (side b) (offset b z) in
+          let far = w_values (λ c. c) multipole_row P z (lists.entries W b) in
+          let near = u_pairs (λ p. p) sources_in z (lists.entries U b) in
+          let lost = local_radius b + sum_by (λ c. single_loss P (weight_in P c) (side c)) (lists.entries W b) in
+          widen_box (add_box value (add_box far near)) (pos lost)
 
       abbrev pub target_box : Gaussian → BoxEnds
       target_box z = box_in (leaf_at lists.grid z) z

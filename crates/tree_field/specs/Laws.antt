@@ -1,17 +1,17 @@
 -- The field row by row, each from its sources and from the rows next to it, and that lists of a tree are determined.
 use Rattle.std.specs.Prelude.{ℕ, ◌≡◌, ◌+◌, ◌*◌, ◌<◌, ◌≤◌, ◌⊎◌, List, length, filter, sum_by}
-use Rattle.exact_math.specs.Ends.{zero_box}
+use Rattle.exact_math.specs.Ends.{zero_box, add_box}
 use Rattle.cell_name.specs.Square.{Square, side, parent}
 use Rattle.letters.specs.declared.Letter.{Letter}
 use Rattle.letters.specs.declared.Letter.TheVariants.{V, X}
 use Rattle.points.specs.declared.Point.{Point}
 use Rattle.cell_name.specs.Quarters.{quarters}
-use Rattle.quadtree.specs.Tree.{AreInGrid, count_in, IsTreeCell}
-use Rattle.row_recursions.specs.Rows.{shifted_up}
+use Rattle.quadtree.specs.Tree.{AreInGrid, count_in, IsTreeCell, has_source}
+use Rattle.row_recursions.specs.Rows.{shifted_up, shifted_down}
 use Rattle.soundness.specs.Computed.{total_row}
 use Rattle.soundness.specs.Squares.{quadrant}
-use Rattle.soundness.specs.Steps.{v_losses, x_losses, from_parent, local_row_of, radius_of}
-use Rattle.tree_field.specs.Field.{has_source, leaf_row, multipole_row, converted_rows, far_rows, local_row, weight_in, local_radius}
+use Rattle.soundness.specs.Steps.{radius_of, v_rows, x_rows}
+use Rattle.tree_field.specs.Field.{leaf_row, multipole_row, local_row, weight_in, local_radius, sources_in}
 use Rattle.tree_field.specs.Lists.{TreeLists, AreTreeLists}
 use Rattle.tree_field.specs.Work.{translations}
 
@@ -30,14 +30,15 @@ RootRows = (points : List Point) (cap P : ℕ) (lists : TreeLists) (b : Square) 
 -- below the root: the parent's brought down, and what the V and X entries bring
 abbrev pub LocalRows : Type 0
 LocalRows = (points : List Point) (cap P : ℕ) (lists : TreeLists) (b : Square) → 0 < b.level → (k : ℕ)
-    → local_row points cap P lists b k ≡ local_row_of (from_parent P b (local_row points cap P lists (parent b))) (converted_rows points cap P lists b) (far_rows points cap P lists b) k
+    → local_row points cap P lists b k ≡ add_box (shifted_down P (local_row points cap P lists (parent b)) (quadrant b) k)
+    (add_box (v_rows (λ c. c) (multipole_row points cap) P b (lists.entries V b) k) (x_rows (λ p. p) (sources_in points) b (lists.entries X b) k))
 
 abbrev pub RootRadius : Type 0
 RootRadius = (points : List Point) (cap P : ℕ) (lists : TreeLists) (b : Square) → b.level ≡ 0 → local_radius points cap P lists b ≡ 0
 
 abbrev pub Radii : Type 0
 Radii = (points : List Point) (cap P : ℕ) (lists : TreeLists) (b : Square) → 0 < b.level
-    → local_radius points cap P lists b ≡ radius_of (local_radius points cap P lists (parent b)) (v_losses P (weight_in points P) (side b) (lists.entries V b)) (x_losses P (weight_in points P) (side b) (lists.entries X b))
+    → local_radius points cap P lists b ≡ radius_of P (weight_in points P) (side b) (local_radius points cap P lists (parent b)) (lists.entries V b) (lists.entries X b)
 
 -- each list of points within a grid has a tree with its entries
 abbrev pub EachListHasTree : Type 0

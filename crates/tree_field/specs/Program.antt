@@ -8,11 +8,11 @@ use Rattle.letters.specs.declared.Letter.{Letter}
 use Rattle.points.specs.Points.{is_source, place}
 use Rattle.points.specs.declared.Point.{Point}
 use Rattle.cell_name.specs.Quarters.{quarters}
-use Rattle.quadtree.specs.Tree.{AreInGrid}
+use Rattle.quadtree.specs.Tree.{AreInGrid, has_target, has_source}
 use Rattle.quadtree.specs.TreeModel.{TreeModel, squares, size, square_of, node_of, leaf_of, children_of, IsTreeOf}
-use Rattle.tree_field.specs.Field.{sources_in, has_source, leaf_at}
+use Rattle.tree_field.specs.Field.{sources_in, leaf_at}
 use Rattle.tree_field.specs.Lists.{TreeLists, AreTreeLists}
-use Rattle.tree_field.specs.Work.{has_target, pairs_between, translations, pairs}
+use Rattle.tree_field.specs.Work.{pairs_between, translations, pairs}
 
 -- the cells and the entries, from the program's lists of numbers
 pub record AreListsOf (tree : TreeModel) (lists : EntryListsModel) (these : TreeLists) : Type 0 where

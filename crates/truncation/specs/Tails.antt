@@ -14,9 +14,9 @@ single_tail (suc P) = div_ceil (17 * single_tail P) 36
 
 -- ---- what an entry can lose whose sources have this total weight, in whole units of 2^-40
 -- two cells of side s
-abbrev pub pair_radius : ℕ → ℕ → ℕ → ℕ
-pair_radius P weight s = div_ceil (weight * pair_tail P) s
+abbrev pub pair_loss : ℕ → ℕ → ℕ → ℕ
+pair_loss P weight s = div_ceil (weight * pair_tail P) s
 
 -- a cell of side s, and a far target or far sources
-abbrev pub single_radius : ℕ → ℕ → ℕ → ℕ
-single_radius P weight s = div_ceil (weight * single_tail P) s
+abbrev pub single_loss : ℕ → ℕ → ℕ → ℕ
+single_loss P weight s = div_ceil (weight * single_tail P) s

@@ -9,13 +9,12 @@ use Rattle.field_basis.specs.Counts.{shifts_into}
 use Rattle.field_basis.specs.Trees.{IsTreeOfPoints}
 use Rattle.places.specs.Place.{PlaceModel}
 use Rattle.points.specs.declared.Point.{Point}
-use Rattle.quadtree.specs.Tree.{count_in}
+use Rattle.quadtree.specs.Tree.{count_in, has_source}
 use Rattle.quadtree.specs.TreeModel.{TreeModel, size, square_of, node_of, children_of}
 use Rattle.quadtree.proofs.Distinct.{Contains-filter, Contains-into_filter}
 use Rattle.quadtree.proofs.Levels.{below-split}
 use Rattle.quadtree.proofs.Limits.{in_grid}
 use Rattle.quadtree.proofs.TreeChildren.{IsChildOf, child_of, children_squares}
-use Rattle.tree_field.specs.Field.{has_source}
 use Rattle.tree_field.specs.Program.{with_source, source_children}
 use Rattle.tree_field.proofs.Program.{nodes_of_tree}
 use Rattle.tree_field.proofs.SourceChildren.{source_children_are}

@@ -14,12 +14,11 @@ use Rattle.field_basis.specs.Counts.{shifts_into, translated}
 use Rattle.limits.proofs.Grids.{grid_positive}
 use Rattle.points.specs.declared.Point.{Point}
 use Rattle.cell_name.specs.Quarters.{quarters}
-use Rattle.quadtree.specs.Tree.{AreInGrid, IsTreeCell, IsSplit, IsLeaf}
+use Rattle.quadtree.specs.Tree.{AreInGrid, IsTreeCell, IsLeaf, count_in, has_source}
 use Rattle.quadtree.specs.TreeModel.{TreeModel, size, squares, square_of, node_of, IsTreeOf}
 use Rattle.quadtree.proofs.Distinct.{Contains-filter, Contains-into_filter, Contains-flat_map, comes_from, different-flat_map, length-le_from_different}
 use Rattle.quadtree.proofs.Parents.{IsTreeCell-parent, IsTreeCell-below}
 use Rattle.cell_name.proofs.Quarters.{IsQuarter, quarters_are, quarters_contain, quarters_differ}
-use Rattle.tree_field.specs.Field.{has_source}
 use Rattle.quadtree.proofs.Ascending.{ascending_differ}
 use Rattle.exact_math.proofs.Lists.{AllPairs-range, Contains-range, range_below}
 use Rattle.tree_field.proofs.Numbers.{number, number_below, cell_of_number, number_of_cell}
@@ -100,7 +99,7 @@ module _ (tree : TreeModel) (points : List Point) (capacity : ℕ) (is : IsTreeO
       let kept = Contains-filter (is_shifted points) (squares tree) q h in
       let parts = and_parts (nat_lt 0 q.level) (has_source points q) kept.1 in
       let lo : 0 < q.level = ltb-true 0 q.level parts.0 in
-      let here : IsTreeCell tree.grid points capacity q = All-contains (IsTreeCell tree.grid points capacity) (squares tree) q is.cells_are.in_tree kept.0 in
+      let here : IsTreeCell tree.grid points capacity q = All-contains (IsTreeCell tree.grid points capacity) (squares tree) q is.cells_are.each kept.0 in
       let above = IsTreeCell-parent tree.grid points capacity q some inside here lo in
       let n : ℕ = number (squares tree) (parent q) in
       let lt : n < size tree = omega (arith, number_below tree.grid points capacity (squares tree) some inside is.cells_are (parent q) above, length-map tree.cells square) in
@@ -114,10 +113,10 @@ module _ (tree : TreeModel) (points : List Point) (capacity : ℕ) (is : IsTreeO
       kept_in true n q never h t = absurd (never refl)
       kept_in false n q never h t = Contains-into_filter (has_source points) (quarters (square_of tree n)) q h t
 
-      leaf_not : (n : ℕ) (q : Square) → n < size tree → square_of tree n ≡ parent q → 0 < q.level → q.level ≤ tree.grid → IsSplit points capacity (parent q) → (node_of tree n).is_leaf ≡ true → ⊥
+      leaf_not : (n : ℕ) (q : Square) → n < size tree → square_of tree n ≡ parent q → 0 < q.level → q.level ≤ tree.grid → (capacity < count_in points (parent q)) → (node_of tree n).is_leaf ≡ true → ⊥
       leaf_not n q lt e lo hi split t =
           let leaf = subst (IsLeaf tree.grid points capacity) e ((is.nodes_are n lt).leaf.0 t) in
-          elim leaf.ends [ inl few ↦ omega (arith, few, split.over_cap) | inr last ↦ omega (arith, last) ]
+          elim leaf.ends [ inl few ↦ omega (arith, few, split) | inr last ↦ omega (arith, last) ]
 
   pub shifts_of_all : sum_by (shifts_into points tree) (range_with_len 0 (size tree)) ≡ count_by (is_shifted points) (squares tree)
   shifts_of_all =

@@ -16,12 +16,13 @@ use Rattle.row_recursions.specs.Rows.{shifted_up}
 use Rattle.row_recursions.specs.Sizes.{RowWithin}
 use Rattle.soundness.specs.Computed.{total_row, total_box}
 use Rattle.soundness.specs.Squares.{quadrant}
-use Rattle.tree_field.specs.Field.{has_source, multipole_row}
+use Rattle.tree_field.specs.Field.{multipole_row}
 use Rattle.tree_field.specs.Program.{source_children}
 use Rattle.tree_field.proofs.MultipoleRows.{multipole_row-split}
 use Rattle.tree_field.proofs.Program.{nodes_of_tree}
 use Rattle.soundness.proofs.Sums.{total_box-map}
 use Rattle.upward_rows.proofs.Trees.{inner_is}
+use Rattle.quadtree.specs.Tree.{has_source}
 
 -- the row of a cell by its number, shifted up
 abbrev pub shifted_row : List Point → ℕ → TreeModel → ℕ → ℕ → BoxEnds

@@ -13,9 +13,10 @@ use Rattle.points.specs.declared.Point.{Point}
 use Rattle.points.specs.Limits.{weight64, total_weight}
 use Rattle.quadtree.specs.Members.{holds_point, holds_position, members_of}
 use Rattle.quadtree.proofs.PointKinds.{member_point}
-use Rattle.tree_field.specs.Field.{is_source_in, sources_in}
+use Rattle.tree_field.specs.Field.{sources_in}
 use Rattle.exact_math.proofs.Lists.{filter-filter, filter_same}
 use Rattle.field_sizes.proofs.CellSources.{IsHeld, sum_by-filter}
+use Rattle.quadtree.specs.Tree.{is_source_in}
 
 abbrev pub points_at : List Point → List ℕ → List Point
 points_at points order = map (λ k. get_or points k first_point) order

@@ -9,7 +9,7 @@ use Rattle.cell_name.specs.Square.{Square, parent}
 use Rattle.cell_name.specs.declared.cell.Quadrant.{Quadrant}
 use Rattle.points.specs.declared.Point.{Point}
 use Rattle.cell_name.specs.Quarters.{quarter}
-use Rattle.quadtree.specs.Tree.{count_in, IsSplit}
+use Rattle.quadtree.specs.Tree.{count_in, has_source}
 use Rattle.quadtree.specs.TreeModel.{TreeModel, size, squares, square_of, node_of, IsTreeOf}
 use Rattle.quadtree.proofs.TreeChildren.{tree_cell_at}
 use Rattle.quadtree.proofs.Parents.{leaf_or_split, IsTreeCell-from_below}
@@ -17,8 +17,8 @@ use Rattle.cell_name.proofs.Quarters.{IsQuarter}
 use Rattle.row_recursions.specs.Cells.{sign, quadrant_of}
 use Rattle.exact_math.specs.Gaussian.{gaussian}
 use Rattle.soundness.specs.Squares.{quadrant}
-use Rattle.tree_field.specs.Field.{has_source, leaf_row, multipole_row}
-use Rattle.tree_field.proofs.Occupants.{occupied_from_source}
+use Rattle.tree_field.specs.Field.{leaf_row, multipole_row}
+use Rattle.quadtree.proofs.Occupants.{occupied_from_source}
 use Rattle.tree_field.proofs.MultipoleRows.{multipole_row-leaf}
 
 module _ (tree : TreeModel) (points : List Point) (capacity : ℕ) (is : IsTreeOf tree points capacity) where
@@ -43,14 +43,14 @@ module _ (tree : TreeModel) (points : List Point) (capacity : ℕ) (is : IsTreeO
       let here = tree_cell_at tree points capacity n is lt in
       elim (leaf_or_split tree.grid points capacity (square_of tree n) here) [
         | inl leaf ↦ absurd (false≢true (sym e ∙ (is.nodes_are n lt).leaf.1 leaf))
-        | inr split ↦ record { of_grid = here.of_grid; room = split.1; over = split.0.over_cap }
+        | inr split ↦ record { of_grid = here.of_grid; room = split.1; over = split.0 }
       ]
 
   -- a quarter with a source is in the tree
   pub quarter_listed : (n : ℕ) (q : Square) → IsInner n → IsQuarter (square_of tree n) q → has_source points q ≡ true → Contains (squares tree) q
   quarter_listed n q inner is_quarter e =
       is.cells_are.whole q (IsTreeCell-from_below tree.grid points capacity q (is_quarter.of_grid ∙ inner.of_grid) (omega (arith, is_quarter.level)) (omega (arith, is_quarter.level, inner.room)) (occupied_from_source points q e)
-      (subst (IsSplit points capacity) (sym is_quarter.parent_is) (record { over_cap = inner.over })))
+      (subst (λ v. capacity < count_in points v) (sym is_quarter.parent_is) inner.over))
 
 -- ---- the quadrant of a quarter
 half_is : (i : ℕ) (b : Bool) → ((2 * i + half_number b) % 2 == 1) ≡ b

@@ -2,7 +2,7 @@
 use Rattle.std.specs.Prelude.{List, Bool, ◌&&◌, nat_lt}
 use Rattle.cell_name.specs.Square.{Square}
 use Rattle.points.specs.declared.Point.{Point}
-use Rattle.tree_field.specs.Field.{has_source}
+use Rattle.quadtree.specs.Tree.{has_source}
 
 -- whether a row is shifted up out of a cell: it lies below the root and has a source
 abbrev pub is_shifted : List Point → Square → Bool

@@ -1,10 +1,11 @@
 use Rattle.std.proofs.Common.{◌∙◌, ap, ◌*◌, ◌^◌, arith}
 use Rattle.exact_math.specs.Ends.{add_box}
 use Rattle.points.specs.Limits.{weight64}
-use Rattle.row_recursions.specs.Cells.{moments_of}
+use Rattle.row_recursions.specs.Cells.{moments_in}
 use Rattle.row_recursions.specs.Rows.{row_of}
 use Rattle.row_recursions.proofs.RowSizes.{added_within}
 use Rattle.multipole.proofs.RowCalls.{part_within, sum_fits, added_moments}
+use Rattle.cell_name.specs.Cell.{square}
 use Rattle.multipole.proofs.add_source.Goals as goal
 
 pub add_row-requires-clause-fits : goal.add_row-requires-clause-fits
@@ -18,5 +19,5 @@ pub returns-clause-contains : goal.returns-clause-contains
 returns-clause-contains g c = added_moments g.row.P c.args.cell c.args.p.now (row_of c.args.row.now) (row_of c.add_row.new.into) (returns-clause-adds g c)
 
 pub returns-clause-size : goal.returns-clause-size
-returns-clause-size g c = λ n h. added_within g.row.P n (2 ^ 40 * weight64 c.args.p.now) (row_of c.args.row.now) (moments_of c.args.cell c.args.p.now) (row_of c.add_row.new.into) (returns-clause-adds g c) h
+returns-clause-size g c = λ n h. added_within g.row.P n (2 ^ 40 * weight64 c.args.p.now) (row_of c.args.row.now) (moments_in (square c.args.cell) c.args.p.now) (row_of c.add_row.new.into) (returns-clause-adds g c) h
     (part_within g.row.P c.args.cell c.args.p.now c.requires.order c.requires.inside)

@@ -4,10 +4,10 @@ use Rattle.complex_box.specs.Box.{number}
 use Rattle.kernel_table.specs.Kernel.{IsKernelDistance}
 use Rattle.places.specs.Place.{place_at}
 use Rattle.quadtree.specs.TreeModel.{square_of}
-use Rattle.row_recursions.specs.Geometry.{sides_between}
 use Rattle.row_recursions.specs.Rows.{row_of}
 use Rattle.field_basis.specs.Basis.{IsBasis}
 use Rattle.downward_rows.proofs.VEntries.{place_read, distance_read, entry_small, entry_read}
+use Rattle.cell_name.specs.Apart.{sides_between}
 use Rattle.downward_rows.proofs.v_entries.add_v_entry.Goals as goal
 
 pub convert-requires : goal.convert-requires

@@ -10,9 +10,9 @@ use Rattle.points.specs.Points.{place}
 use Rattle.points.specs.declared.Point.{Point}
 use Rattle.row_recursions.proofs.Points.{weight_bounded}
 use Rattle.row_recursions.specs.Rows.{row_of}
-use Rattle.soundness.specs.Computed.{far_coefficients_in}
 use Rattle.soundness.specs.Squares.{IsFarFrom}
 use Rattle.field_basis.specs.Targets.{no_point}
+use Rattle.row_recursions.specs.Cells.{far_coefficients_in}
 use Rattle.downward_rows.proofs.x_entries.add_position.Goals as goal
 
 pub add_far_source-requires-clause-range : goal.add_far_source-requires-clause-range

@@ -7,7 +7,6 @@ use Rattle.std.specs.Prelude.{sum_by}
 use Rattle.points.proofs.Ranges.{range_in_widest}
 use Rattle.points.proofs.Slices.{first_point}
 use Rattle.quadtree.specs.TreeModel.{square_of, node_of}
-use Rattle.row_recursions.proofs.Points.{weight-source_of}
 use Rattle.field_basis.proofs.CellWeights.{weighs_at, position_inside, members_weigh, members_light, cell_light, all_light, light_fits, light_sum}
 use Rattle.field_basis.proofs.weights.cell_weight.Goals as goal
 
@@ -30,8 +29,7 @@ weight-total-requires-clause-range c =
 -- the next member's weight
 next : (c : goal.After-weight-total) → c.weight-total.result ≡ pos (weighs_at c.args.order c.args.points.now (get_or (node_of c.args.tree.now c.args.n).members c.loop-k.k-index 0))
 next c =
-    let p = get_or c.args.points.now (get_or c.members-k-items.result.now c.loop-k.k-index 0) first_point in
-    c.weight-total.ensures ∙ ap pos (sym (weight-source_of c.args.order p))
+    c.weight-total.ensures
     ∙ ap (λ (l : List ℕ). pos (weighs_at c.args.order c.args.points.now (get_or l c.loop-k.k-index 0))) c.members-k-items.ensures
 
 pub overflow_add-total : goal.overflow_add-total

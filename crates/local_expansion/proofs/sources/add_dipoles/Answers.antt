@@ -5,9 +5,8 @@ use Rattle.exact_math.specs.Ends.{BoxEnds, BoxEndsWithin, add_box, scale_box}
 use Rattle.exact_math.specs.Within.{Within}
 use Rattle.complex_box.specs.Box.{box_ends, number}
 use Rattle.complex_box.proofs.Sizes.{box_wider, scale_box_within}
-use Rattle.row_recursions.specs.Rows.{row_of}
+use Rattle.row_recursions.specs.Rows.{row_of, far_powers}
 use Rattle.row_recursions.proofs.RowWrites.{written-start, written-next, row_read}
-use Rattle.local_expansion.specs.FarPowers.{far_powers}
 use Rattle.local_expansion.proofs.FarSteps.{far_powers-zero, turn_fits, power_next, power_next_within, added_fits}
 use Rattle.local_expansion.proofs.sources.add_dipoles.Goals as goal
 use mathlib.Core.Path.{refl}

@@ -1,9 +1,9 @@
 use Rattle.std.proofs.Common.{◌≡◌, ◌*◌, ◌^◌}
 use Rattle.exact_math.specs.Ends.{BoxEndsWithin, add_box}
 use Rattle.complex_box.specs.Box.{box_ends, number}
-use Rattle.row_recursions.specs.Rows.{row_of}
+use Rattle.row_recursions.specs.Rows.{row_of, far_powers}
 use Rattle.row_recursions.proofs.RowWrites.{Written}
-use Rattle.local_expansion.specs.FarPowers.{far_powers, far_poles}
+use Rattle.local_expansion.specs.FarPowers.{far_poles}
 use Rattle.local_expansion.proofs.sources.add_poles.Given as goal
 
 abbrev pub invariant-loop-l : goal.invariant-loop-l

@@ -7,8 +7,8 @@ use Rattle.exact_math.specs.Within.{Within}
 use Rattle.complex_box.specs.Box.{box_ends, number}
 use Rattle.complex_box.proofs.Sizes.{box_wider, scale_box_within}
 use Rattle.row_recursions.proofs.RowWrites.{written-start, written-next}
-use Rattle.multipole.specs.Powers.{powers}
 use Rattle.multipole.proofs.SourcePowers.{powers-zero, powers-next, slopes-next}
+use Rattle.row_recursions.specs.Rows.{powers}
 use Rattle.multipole.proofs.moments.fill_slopes.Goals as goal
 use mathlib.Core.Path.{refl}
 
@@ -37,8 +37,8 @@ loop-k-preserved c =
           (c.scale.ensures.ends ∙ ap (λ n. scale_box (box_ends c.loop-k.power) n) e ∙ ap (λ (b : BoxEnds). scale_box b (pos c.loop-k.k)) c.loop-k.invariant.power
           ∙ sym (slopes-next (box_ends c.args.first) (number c.args.o) c.args.shift c.loop-k.k first)) c.loop-k.invariant.written;
       power = c.next_power-power.ensures.ends ∙ ap (λ b. gquot_box b (number c.args.o) (pos (2 ^ c.args.shift))) c.loop-k.invariant.power
-          ∙ sym (powers-next (box_ends c.args.first) (number c.args.o) c.args.shift (c.loop-k.k - 1))
-          ∙ ap (powers (box_ends c.args.first) (number c.args.o) c.args.shift) {x = c.loop-k.k - 1 + 1} {y = c.loop-k.k + 1 - 1} (omega arith);
+          ∙ sym (powers-next (box_ends c.args.first) (number c.args.o) (2 ^ c.args.shift) (c.loop-k.k - 1))
+          ∙ ap (powers (box_ends c.args.first) (number c.args.o) (2 ^ c.args.shift)) {x = c.loop-k.k - 1 + 1} {y = c.loop-k.k + 1 - 1} (omega arith);
       size = c.next_power-power.ensures.size;
     }
 

@@ -20,7 +20,7 @@ children_of-requires-clause-four c = four_of_runs c.args.grid c.args.points.now 
 pub nodes_of-requires-clause-in_tree : goal.nodes_of-requires-clause-in_tree
 nodes_of-requires-clause-in_tree c =
     let P : List Run → Type 0 = λ l. All (λ s. IsTreeCell s.grid c.args.points.now c.args.cap s) (squares_of l) in
-    subst P (sym c.deref-4.ensures.value) (All-weaker (IsTreeCell c.args.grid c.args.points.now c.args.cap) (λ s. IsTreeCell s.grid c.args.points.now c.args.cap s) (λ s k. own s k) (squares_of c.args.splits.runs.items) c.requires.cells.in_tree)
+    subst P (sym c.deref-4.ensures.value) (All-weaker (IsTreeCell c.args.grid c.args.points.now c.args.cap) (λ s. IsTreeCell s.grid c.args.points.now c.args.cap s) (λ s k. own s k) (squares_of c.args.splits.runs.items) c.requires.cells.each)
   where
     own : (s : Square) → IsTreeCell c.args.grid c.args.points.now c.args.cap s → IsTreeCell s.grid c.args.points.now c.args.cap s
     own s k = let G : ℕ → Type 0 = λ g. IsTreeCell g c.args.points.now c.args.cap s in subst G (sym k.of_grid) k

@@ -12,12 +12,13 @@ use Rattle.points.proofs.Slices.{first_point}
 use Rattle.points.specs.declared.Point.{Point}
 use Rattle.points.specs.Limits.{weight64}
 use Rattle.row_recursions.specs.Rows.{row_of}
-use Rattle.soundness.specs.Computed.{total_row, moments_in}
+use Rattle.soundness.specs.Computed.{total_row}
 use Rattle.upward_rows.proofs.Points.{sources_at, sources_at-members, weight_so_far, more_yes, more_no, member_at, held_so_far}
 use Rattle.field_sizes.proofs.MultipoleSizes.{sources_within}
 use Rattle.upward_rows.proofs.Totals.{total_row-more}
 use Rattle.upward_rows.proofs.sources.sum_sources.Goals as goal
 use Rattle.upward_rows.proofs.sources.sum_sources.Goals.{then-is_source, else-is_source}
+use Rattle.row_recursions.specs.Cells.{moments_in}
 
 pub bounds-points-k : goal.bounds-points-k
 bounds-points-k g c = (member_at c.args.points.now (square c.args.cell) c.args.members.now c.loop-k.k-index c.requires.members c.loop-k-test.true).inside

@@ -13,7 +13,7 @@ pub returns : goal.returns
 returns c =
     let cells : List Cell = c.self.inside.cells.items in
     let is = c.self.invariant.is_tree.is_tree in
-    let of_grid : HaveGrid c.self.inside.grid (map square cells) = All-weaker (IsTreeCell c.self.inside.grid c.self.invariant.is_tree.points c.self.invariant.is_tree.cap) (λ (s : Square). s.grid ≡ c.self.inside.grid) (λ s k. k.of_grid) (map square cells) is.cells_are.in_tree in
+    let of_grid : HaveGrid c.self.inside.grid (map square cells) = All-weaker (IsTreeCell c.self.inside.grid c.self.invariant.is_tree.points c.self.invariant.is_tree.cap) (λ (s : Square). s.grid ≡ c.self.inside.grid) (λ s k. k.of_grid) (map square cells) is.cells_are.each in
     let e : c.deref.result.now ≡ cells = c.deref.ensures.value in
     let p : IsBinarySearchResult (λ y. cell_cmp y c.args.c) c.deref.result.now c.binary_search.result = c.binary_search.ensures.position in
     let b = c.binary_search.ensures.bound in
