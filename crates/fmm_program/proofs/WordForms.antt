@@ -39,10 +39,10 @@ spelled_by word m n spells e small = sym spells.value ∙ ap (value_after 0) e �
 pub one_number : (m n : ℕ) → m < 2 ^ 64 → n < 2 ^ 64 → decimal m ≡ decimal n → m ≡ n
 one_number m n m_small n_small e = spelled_by (decimal m) m n (uint_of_decimal m m_small) e n_small
 
-small_order : (order : ℕ) → IsOrder order → order < 2 ^ 64
+pub small_order : (order : ℕ) → IsOrder order → order < 2 ^ 64
 small_order order is = omega (arith, (order_bounds order is).1)
 
-small_capacity : (cap : ℕ) → IsCapacity cap → cap < 2 ^ 64
+pub small_capacity : (cap : ℕ) → IsCapacity cap → cap < 2 ^ 64
 small_capacity cap is = omega (arith, is.most)
 
 -- ---- the words of one form have one order and one capacity

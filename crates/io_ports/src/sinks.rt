@@ -115,7 +115,7 @@ impl Sink for MemSink {
 }
 
 /// Takes every piece whole, tells nothing and never fails.
-#[derive(Clone, Copy, Debug, PartialEq, Eq)]
+#[derive(Clone, Copy)]
 pub struct DropSink;
 
 impl Sink for DropSink {
@@ -141,7 +141,7 @@ impl Sink for DropSink {
 
 /// Fails every write and every flush. It stands for an output that can't be opened; a clause sees the count of
 /// its faults.
-#[derive(Debug, Drop)]
+#[derive(Drop)]
 pub struct BrokenSink {
     faults: u64,
 }

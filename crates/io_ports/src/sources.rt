@@ -134,7 +134,7 @@ impl Source for SureSource {
 
 /// Fails every read. It stands for an input that can't be opened; a clause sees the count of
 /// its faults.
-#[derive(Debug, Drop)]
+#[derive(Drop)]
 pub struct BrokenSource {
     faults: u64,
 }

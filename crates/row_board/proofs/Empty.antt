@@ -11,7 +11,7 @@ use Rattle.complex_box.specs.declared.CBox.{CBox}
 use Rattle.field_basis.specs.Basis.{IsBasis}
 use Rattle.field_basis.specs.FieldPlaces.{HasNoRow}
 use Rattle.places.specs.Place.{PlaceModel, no_place, place_at}
-use Rattle.row_board.specs.Board.{IsBoard, IsZeroPlace, AreEmptyPlaces}
+use Rattle.row_board.specs.Board.{IsBoard, IsZeroPlace, AreEmptyPlaces, NoneIsMarked}
 use Rattle.row_board.specs.Names.{is_filled}
 use Rattle.row_board.specs.Parts.{BoardParts}
 use Rattle.row_board.specs.declared.name.Name.{Name}
@@ -30,20 +30,11 @@ no_row P places rows radii n = record {
   radius_is = read_at (λ (p : PlaceModel). p.radius ≡ 0) places no_place refl radii n;
 }
 
--- there is a mark for each place, and none is set
-pub record NoneIsMarked (b : BoardParts) : Type 0 where
-  pub up_marks : length b.has_up ≡ length b.up
-  pub local_marks : length b.has_local ≡ length b.local
-  pub value_marks : length b.has_value ≡ length b.values
-  pub up : All (λ mark. mark ≡ false) b.has_up
-  pub local : All (λ mark. mark ≡ false) b.has_local
-  pub value : All (λ mark. mark ≡ false) b.has_value
-
-module _ (b : BoardParts) (marks : NoneIsMarked b) where
+module _ (b : BoardParts) (marks : NoneIsMarked b.basis b.has_up b.has_local b.has_value) where
   pub none_filled : (name : Name) → is_filled b name ≡ false
-  none_filled (Up n) = read_at (λ mark. mark ≡ false) b.has_up false refl marks.up n
-  none_filled (Local n) = read_at (λ mark. mark ≡ false) b.has_local false refl marks.local n
-  none_filled (Value k) = read_at (λ mark. mark ≡ false) b.has_value false refl marks.value k
+  none_filled (Up n) = read_at (λ mark. mark ≡ false) b.has_up false refl marks.up_marks.unset n
+  none_filled (Local n) = read_at (λ mark. mark ≡ false) b.has_local false refl marks.local_marks.unset n
+  none_filled (Value k) = read_at (λ mark. mark ≡ false) b.has_value false refl marks.value_marks.unset k
 
   module _ (P : ℕ) (basis : IsBasis P b.basis) (places : AreEmptyPlaces b.basis b.up b.local b.values) where
     all_zero : (name : Name) → IsZeroPlace P b name
@@ -57,9 +48,9 @@ module _ (b : BoardParts) (marks : NoneIsMarked b) where
       up_each = places.up_each;
       local_each = places.local_each;
       value_each = places.value_each;
-      up_marks = marks.up_marks ∙ places.up_each;
-      local_marks = marks.local_marks ∙ places.local_each;
-      value_marks = marks.value_marks ∙ places.value_each;
+      up_marks = marks.up_marks.len;
+      local_marks = marks.local_marks.len;
+      value_marks = marks.value_marks.len;
       named = λ name t. absurd (false≢true (sym (none_filled name) ∙ t));
       filled = λ name t. absurd (false≢true (sym (none_filled name) ∙ t));
       empty = λ name f. all_zero name;

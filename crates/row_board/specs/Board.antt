@@ -1,5 +1,5 @@
 -- What the places of a board hold: filled places hold what the field has, and the others zero.
-use Rattle.std.specs.Prelude.{ℕ, ◌≡◌, ◌≢◌, true, false, List, length, All}
+use Rattle.std.specs.Prelude.{ℕ, ◌≡◌, ◌≢◌, Bool, true, false, List, length, All}
 use Rattle.exact_math.specs.Ends.{zero_box}
 use Rattle.complex_box.specs.Box.{box_ends}
 use Rattle.complex_box.specs.Counts.{Counts}
@@ -61,6 +61,17 @@ pub record AreEmptyPlaces (basis : BasisModel) (up local : List PlaceModel) (val
   pub local_rows : All (λ p. All IsZero p.row) local
   pub local_radii : All (λ p. p.radius ≡ 0) local
   pub boxes : All IsZero values
+
+-- so many marks, none of them set
+pub record AreUnset (count : ℕ) (marks : List Bool) : Type 0 where
+  pub len : length marks ≡ count
+  pub unset : All (λ mark. mark ≡ false) marks
+
+-- there is a mark for each row of a basis and for the box of each target, none of them set
+pub record NoneIsMarked (basis : BasisModel) (up local value : List Bool) : Type 0 where
+  pub up_marks : AreUnset (size basis.tree) up
+  pub local_marks : AreUnset (size basis.tree) local
+  pub value_marks : AreUnset (length basis.targets) value
 
 -- nothing has changed but the place of the name
 pub record OtherPlacesStay (name : Name) (old new : BoardParts) : Type 0 where

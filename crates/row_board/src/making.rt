@@ -7,7 +7,7 @@ ghost use Rattle.limits.specs.Limits.{grid_of};
 ghost use Rattle.points.specs.Limits.{AreWithin, IsOrderOf, WithinLimits};
 ghost use Rattle.quadtree.specs.Faults.{HasTree, IsFaultOf};
 ghost use Rattle.quadtree.specs.TreeModel.{IsTreeOf};
-ghost use Rattle.row_board.specs.Board.{AreEmptyPlaces, IsBoard};
+ghost use Rattle.row_board.specs.Board.{AreEmptyPlaces, AreUnset, IsBoard, NoneIsMarked};
 ghost use Rattle.row_board.specs.Names.{is_filled};
 ghost use Rattle.row_board.specs.declared.name.Name.{Name};
 
@@ -38,10 +38,71 @@ fn zero_boxes(alloc: Global, count: usize) -> Result<Vec<CBox>, AllocError>
 
 /// So many marks, none of them set.
 fn no_marks(alloc: Global, count: usize) -> Result<Vec<bool>, AllocError>
-    ensures len { IfOk result (λ v. length v.items ≡ count) }
-    ensures unset { IfOk result (λ v. All (λ mark. mark ≡ false) v.items) }
+    ensures { IfOk result (λ v. AreUnset count v.items) }
 {
     vec![in alloc; false; count]
+}
+
+/// The rows of a board, and the boxes of its targets.
+#[derive(Drop)]
+struct Rows<const P: usize> {
+    up: Vec<Place<P>>,
+    local: Vec<Place<P>>,
+    values: Vec<CBox>,
+}
+
+impl<const P: usize> Rows<P> {
+    /// The rows of a basis and the boxes of its targets, all of them zero.
+    fn zero(alloc: Global, basis: &Basis<P>) -> Result<Rows<P>, AllocError>
+        ensures { IfOk result (λ rows. AreEmptyPlaces basis.now rows.up.items rows.local.items rows.values.items) }
+    {
+        let cells = basis.tree.cells().len();
+        let up = zero_places(alloc, cells)?;
+        let local = zero_places(alloc, cells)?;
+        let values = zero_boxes(alloc, basis.targets.len())?;
+        Ok(Rows { up, local, values })
+    }
+}
+
+/// Which places of a board are filled.
+#[derive(Drop)]
+struct Marks {
+    up: Vec<bool>,
+    local: Vec<bool>,
+    value: Vec<bool>,
+}
+
+impl Marks {
+    /// The marks of so many cells and targets, none of them set.
+    fn unset(alloc: Global, cells: usize, targets: usize) -> Result<Marks, AllocError>
+        ensures up { IfOk result (λ marks. AreUnset cells marks.up.items) }
+        ensures local { IfOk result (λ marks. AreUnset cells marks.local.items) }
+        ensures value { IfOk result (λ marks. AreUnset targets marks.value.items) }
+    {
+        let up = no_marks(alloc, cells)?;
+        let local = no_marks(alloc, cells)?;
+        let value = no_marks(alloc, targets)?;
+        Ok(Marks { up, local, value })
+    }
+}
+
+/// What a board has beside its basis.
+#[derive(Drop)]
+struct Empty<const P: usize> {
+    rows: Rows<P>,
+    marks: Marks,
+}
+
+impl<const P: usize> Empty<P> {
+    /// The empty rows of a basis, none of them marked.
+    fn of(alloc: Global, basis: &Basis<P>) -> Result<Empty<P>, AllocError>
+        ensures rows { IfOk result (λ empty. AreEmptyPlaces basis.now empty.rows.up.items empty.rows.local.items empty.rows.values.items) }
+        ensures marks { IfOk result (λ empty. NoneIsMarked basis.now empty.marks.up.items empty.marks.local.items empty.marks.value.items) }
+    {
+        let rows = Rows::zero(alloc, basis)?;
+        let marks = Marks::unset(alloc, rows.up.len(), rows.values.len())?;
+        Ok(Empty { rows, marks })
+    }
 }
 
 impl<const P: usize> Board<P> {
@@ -92,39 +153,27 @@ impl<const P: usize> Board<P> {
         ensures basis { IfOk result (λ board. board.basis ≡ basis.entry) }
         ensures empty { IfOk result (λ board. (name : Name) → is_filled board name ≡ false) }
     {
-        let cells = basis.tree.cells().len();
-        let targets = basis.targets.len();
-        let up = zero_places(alloc, cells)?;
-        let local = zero_places(alloc, cells)?;
-        let values = zero_boxes(alloc, targets)?;
-        Board::unmarked(alloc, basis, up, local, values)
+        let empty = Empty::of(alloc, &basis)?;
+        Ok(Board::unmarked(basis, empty.rows, empty.marks))
     }
 
-    /// The board of a basis with these empty places.
-    fn unmarked(
-        alloc: Global,
-        basis: Basis<P>,
-        up: Vec<Place<P>>,
-        local: Vec<Place<P>>,
-        values: Vec<CBox>,
-    ) -> Result<Board<P>, AllocError>
+    /// The board of a basis with these empty rows and marks.
+    fn unmarked(basis: Basis<P>, rows: Rows<P>, marks: Marks) -> Board<P>
         requires basis { IsBasis P basis }
-        requires places { AreEmptyPlaces basis up.items local.items values.items }
-        ensures board { IfOk result (λ board. IsBoard P board) }
-        ensures basis { IfOk result (λ board. board.basis ≡ basis.entry) }
-        ensures empty { IfOk result (λ board. (name : Name) → is_filled board name ≡ false) }
+        requires rows { AreEmptyPlaces basis rows.up.items rows.local.items rows.values.items }
+        requires marks { NoneIsMarked basis marks.up.items marks.local.items marks.value.items }
+        ensures board { IsBoard P result }
+        ensures basis { result.basis ≡ basis.entry }
+        ensures empty { (name : Name) → is_filled result name ≡ false }
     {
-        let has_up = no_marks(alloc, up.len())?;
-        let has_local = no_marks(alloc, local.len())?;
-        let has_value = no_marks(alloc, values.len())?;
-        Ok(Board {
+        Board {
             basis,
-            up,
-            local,
-            values,
-            has_up,
-            has_local,
-            has_value,
-        })
+            up: rows.up,
+            local: rows.local,
+            values: rows.values,
+            has_up: marks.up,
+            has_local: marks.local,
+            has_value: marks.value,
+        }
     }
 }

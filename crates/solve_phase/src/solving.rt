@@ -20,6 +20,29 @@ use std::alloc::{AllocError, Global};
 use target_values::value_pass;
 use upward_rows::upward_pass;
 
+/// Places for a field, before they are filled.
+#[derive(Drop)]
+struct Empty<const P: usize> {
+    up: Vec<Place<P>>,
+    local: Vec<Place<P>>,
+    values: Vec<TargetPlace>,
+}
+
+impl<const P: usize> Empty<P> {
+    /// Two places for each cell of a basis, and one for each target.
+    fn of(alloc: Global, basis: &Basis<P>) -> Result<Empty<P>, AllocError>
+        ensures up { IfOk result (λ empty. length empty.up.items ≡ size basis.now.tree) }
+        ensures local { IfOk result (λ empty. length empty.local.items ≡ size basis.now.tree) }
+        ensures values { IfOk result (λ empty. length empty.values.items ≡ length basis.now.targets) }
+    {
+        let cells = basis.tree.cells().len();
+        let up = vec![in alloc; Place::zero(); cells]?;
+        let local = vec![in alloc; Place::zero(); cells]?;
+        let values = vec![in alloc; TargetPlace::zero(); basis.targets.len()]?;
+        Ok(Empty { up, local, values })
+    }
+}
+
 /// The field over a tree of the points.
 fn field_over<const P: usize>(
     alloc: Global,
@@ -37,11 +60,8 @@ fn field_over<const P: usize>(
     ensures contains { IfOk result (λ field. BoxesContain points.now field.values) }
 {
     let basis = Basis::<P>::over(alloc, points, cap, tree)?;
-    let cells = basis.tree.cells().len();
-    let up = vec![in alloc; Place::zero(); cells]?;
-    let local = vec![in alloc; Place::zero(); cells]?;
-    let values = vec![in alloc; TargetPlace::zero(); basis.targets.len()]?;
-    Ok(filled(basis, up, local, values))
+    let empty = Empty::<P>::of(alloc, &basis)?;
+    Ok(filled(basis, empty.up, empty.local, empty.values))
 }
 
 /// The field of a basis, whose places are filled here: one for each cell and for each target.

@@ -1,6 +1,7 @@
 //! The loops that are measured.
 ghost use Rattle.std.specs.Prelude.{◌≤◌, ◌^◌, ◌+◌, ◌*◌};
-ghost use Rattle.points.specs.Limits.{HasStrength};
+ghost use Rattle.limits.specs.Limits.{first_grid};
+ghost use Rattle.points.specs.Limits.{HasStrength, IsKindOf};
 ghost use Rattle.exact_math.specs.Sizes.{abs_gaussian};
 ghost use Rattle.points.specs.Points.{pole, dipole};
 
@@ -156,6 +157,7 @@ fn sources(count: u32, kind: Kind) -> i128
 fn far_sources(count: u32, kind: Kind) -> i128
     requires count { count ≤ 2 ^ 20 }
     requires strength { HasStrength kind }
+    requires version { IsKindOf first_grid kind }
     requires weight { abs_gaussian (pole kind) + 64 * abs_gaussian (dipole kind) ≤ 2 ^ 17 }
 {
     let cell = cell();

@@ -7,7 +7,7 @@ ghost use Rattle.cell_name.specs.Cell.{square};
 ghost use Rattle.cell_name.specs.Square.{side, Holds};
 ghost use Rattle.kernel_table.specs.Kernel.{IsKernelDistance};
 ghost use Rattle.limits.specs.Limits.{first_grid, widest_grid};
-ghost use Rattle.points.specs.Limits.{HasStrength, InRange};
+ghost use Rattle.points.specs.Limits.{HasStrength, InRange, IsKindOf};
 ghost use Rattle.points.specs.Points.{place};
 ghost use Rattle.row_recursions.specs.Geometry.{doubled_centre};
 ghost use Rattle.row_recursions.specs.Rows.{row_of};
@@ -86,7 +86,8 @@ pub fn inside(n: u32, kind: Kind) -> Point
 /// A point two sides and more to the east of the cell.
 #[inline]
 pub fn outside(n: u32, kind: Kind) -> Point
-    requires { HasStrength kind }
+    requires strength { HasStrength kind }
+    requires version { IsKindOf first_grid kind }
     ensures kind { result.kind ≡ kind }
     ensures range { InRange first_grid result }
     ensures far { GaussianBeyond (3 * side middle) (doubled_offset (place result) (doubled_centre middle)) }

@@ -37,3 +37,9 @@ returns-clause-local g c =
     subst (IsLocalPlace g.row.P c.args.basis.now c.args.n)
     (sym (rest_own c.args.places.now c.split_at_mut-above.result.0.now c.split_at_mut-above.result.1.now c.args.n c.make_place.new.place h.value h.front_len (omega (arith, c.requires.cell, c.requires.len))))
     c.make_place.ensures.local
+
+pub split_at_mut-above-requires : goal.split_at_mut-above-requires
+split_at_mut-above-requires g c = omega (arith, c.requires.cell, c.requires.len)
+
+pub returns-clause-work : goal.returns-clause-work
+returns-clause-work g c = c.make_place.ensures.work

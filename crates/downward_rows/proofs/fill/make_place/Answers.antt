@@ -71,3 +71,27 @@ returns-clause-local g c =
     place_made g.row.P b s c.args.n c.requires.cell lo has above parent c.set_radius-2.new.self
     (λ k h. ap (λ r. row_of r k) c.set_radius-2.ensures.row ∙ c.make_row.ensures.row k h ∙ ap (λ r. row_below g.row.P b c.args.n (row_of r) k) c.row.ensures)
     (omega (arith, ints, c.set_radius-2.ensures.radius ∙ e))
+
+pub row_mut-requires : goal.row_mut-requires
+row_mut-requires g c =
+    let s : IsBasis g.row.P c.args.basis.now = subst (IsBasis g.row.P) c.basis.view_is c.basis.invariant in
+    let few = order_bounds g.row.P s.order in
+    omega (arith, few)
+
+pub row-requires : goal.row-requires
+row-requires g c =
+    let s : IsBasis g.row.P c.args.basis.now = subst (IsBasis g.row.P) c.basis.view_is c.basis.invariant in
+    let few = order_bounds g.row.P s.order in
+    (omega (arith, few), lit< tt)
+
+pub row_mut-requires-2 : goal.row_mut-requires-2
+row_mut-requires-2 g c =
+    let s : IsBasis g.row.P c.args.basis.now = subst (IsBasis g.row.P) c.basis.view_is c.basis.invariant in
+    let few = order_bounds g.row.P s.order in
+    omega (arith, few)
+
+pub radius-requires : goal.radius-requires
+radius-requires g c =
+    let s : IsBasis g.row.P c.args.basis.now = subst (IsBasis g.row.P) c.basis.view_is c.basis.invariant in
+    let few = order_bounds g.row.P s.order in
+    omega (arith, few)

@@ -1,4 +1,4 @@
-use Rattle.std.proofs.Common.{◌+◌, ◌^◌, ap, ◌∙◌, subst, arith, lit<}
+use Rattle.std.proofs.Common.{length, ◌+◌, ◌^◌, ap, ◌∙◌, subst, arith, lit<}
 use Rattle.exact_math.proofs.Orders.{order_bounds}
 use Rattle.exact_math.specs.Ends.{add_box}
 use Rattle.cell_name.proofs.Quarters.{right_of_parent, top_of_parent}
@@ -59,3 +59,6 @@ returns-clause-row g c = λ k h.
     ∙ ap (λ z. add_box z (add_box (v_rows_of g.row.P b c.args.n k) (x_rows_of b c.args.n k)))
     (ap (λ q. shifted_down g.row.P (row_of c.args.parent.cells.now) q k)
     (quadrant_read c.quadrant.result (square c.index-cells-n.result) (right_of_parent (square c.index-cells-n.result) c.quadrant.result c.quadrant.ensures) (top_of_parent (square c.index-cells-n.result) c.quadrant.result c.quadrant.ensures) ∙ ap quadrant e))
+
+pub bounds-cells-n : goal.bounds-cells-n
+bounds-cells-n g c = omega (arith, c.requires.cell, ap length (c.cells.ensures.all ∙ ap (λ b. b.tree.cells) c.basis.view_is))

@@ -1,5 +1,5 @@
 -- The box from its parts.
-use Rattle.std.proofs.Common.{rules, ◌≡◌, ◌∙◌, ◌+◌, ◌*◌, ◌^◌, ◌<◌, ◌≤◌, ℕ, pos, ap, ap₂, sym, subst, arith, List, length, to_z-of_z}
+use Rattle.std.proofs.Common.{lit<, rules, ◌≡◌, ◌∙◌, ◌+◌, ◌*◌, ◌^◌, ◌<◌, ◌≤◌, ℕ, pos, ap, ap₂, sym, subst, arith, List, length, to_z-of_z}
 use Rattle.std.specs.Prelude.{sum_by}
 use Rattle.std.proofs.lemmas.Int.{ints}
 use Rattle.exact_math.proofs.Orders.{order_bounds}
@@ -185,3 +185,15 @@ returns g c =
       size = box_small g.row.P b is c.args.k c.requires.target c.widen.result is_box;
       work = c.u_pairs-near.ensures.work ∙ ap₂ (λ (t : Point) n. paired (sum_by (count_of_cell b (place t)) (list_at b.lists.u n)) c.args.work.now) target_is leaf;
     }
+
+pub row-requires : goal.row-requires
+row-requires g c =
+    let is : IsBasis g.row.P c.args.basis.now = subst (IsBasis g.row.P) c.basis.view_is c.basis.invariant in
+    let few = order_bounds g.row.P is.order in
+    (omega (arith, few), lit< tt)
+
+pub radius-requires : goal.radius-requires
+radius-requires g c =
+    let is : IsBasis g.row.P c.args.basis.now = subst (IsBasis g.row.P) c.basis.view_is c.basis.invariant in
+    let few = order_bounds g.row.P is.order in
+    omega (arith, few)

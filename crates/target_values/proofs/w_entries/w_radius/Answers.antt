@@ -50,3 +50,6 @@ returns-clause-size g c =
     let so_far = sum_by-take-le (loss_of_cell g.row.P b) (list_at b.lists.w c.args.leaf) c.loop-c.c-index in
     let most = losses_small g.row.P b is c.args.leaf c.requires.number in
     omega (arith, ints, so_far, most, c.loop-c.invariant, c.radius.ensures.value)
+
+pub bounds-c-items-c-index : goal.bounds-c-items-c-index
+bounds-c-items-c-index g c = c.loop-c-test.true
