@@ -1,5 +1,5 @@
 -- Exactly one entry accounts for each pair of a target and a source.
-use Rattle.std.proofs.Common.{ℕ, ◌≡◌, ◌+◌, ◌-◌, ◌/◌, ◌^◌, ◌<◌, ◌≤◌, suc, arith, refl, sym, ap, ◌∙◌, subst, List}
+use Rattle.std.proofs.Common.{ℕ, ◌≡◌, ◌+◌, ◌-◌, ◌/◌, ◌^◌, ◌<◌, ◌≤◌, suc, arith, refl, sym, ap, ◌∙◌, subst, List, IsTrue}
 use Rattle.std.specs.Prelude.{Contains, ◌↔◌}
 use Rattle.std.proofs.lemmas.List.Elements.{All-contains}
 use Rattle.points.specs.declared.Point.{Point}
@@ -153,8 +153,8 @@ each_pair_has_one_entry grid points cap p q positive inside given =
       b = cell_of grid p k;
       c = cell_of grid q l;
       entry = record {
-        target = record { target = p; here = record { listed = given.target_listed; held = hold_p }; is_target = given.is_target };
-        source = record { source = q; here = record { listed = given.source_listed; held = hold_q }; is_source = given.is_source };
+        target = target_there points (cell_of grid p k) (record { point = p; listed = given.target_listed; held = hold_p; passes = given.is_target });
+        source = source_there points (cell_of grid q l) (record { point = q; listed = given.source_listed; held = hold_q; passes = given.is_source });
         pair = pair_of grid points cap p q lp.0 lq.0 lp.1 lq.1 found.0 k l found.3;
       };
       accounts = record { target_held = hold_p; source_held = hold_q };

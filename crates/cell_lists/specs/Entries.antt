@@ -1,5 +1,5 @@
 -- The entries of the four lists, as predicates over pairs of cells of the tree, and what an entry accounts for.
-use Rattle.std.specs.Prelude.{ℕ, ◌≡◌, ◌<◌, ◌≤◌, List, Contains}
+use Rattle.std.specs.Prelude.{ℕ, ◌≡◌, ◌<◌, ◌≤◌, List, Contains, IsTrue}
 use Rattle.points.specs.declared.Point.{Point}
 use Rattle.points.specs.Points.{IsTarget, IsSource}
 use Rattle.cell_name.specs.Square.{Square, parent, Holds, Touches}

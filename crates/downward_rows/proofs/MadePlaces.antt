@@ -1,6 +1,6 @@
 -- A place that is made holds the local row of its cell.
 use Rattle.std.proofs.Common.{ℕ, ◌+◌, ◌<◌, ◌≤◌, ◌^◌, ◌≡◌, inl, inr, ◌⊎◌, Bool, true, false, cond, List, ◌++◌, length, ℤ, pos, ◌+ℤ◌, SFits, to_z, of_z, refl, ap, sym, subst, ◌∙◌, arith}
-use Rattle.std.specs.Prelude.{◌&&◌, nat_lt, slice_index_or}
+use Rattle.std.specs.Prelude.{◌&&◌, nat_lt, slice_index_or, IsTrue}
 use Rattle.std.proofs.lemmas.Bool.{true≢false}
 use Rattle.std.proofs.lemmas.Int.{ints, to_z-of_z}
 use Rattle.std.proofs.lemmas.List.{get_or_default, get_or_append_left}

@@ -1,5 +1,5 @@
 -- What the places of a field hold: multipole rows, local rows with their radii, and the boxes of the targets.
-use Rattle.std.specs.Prelude.{ℕ, ◌<◌, ◌≡◌, List, length, map, All}
+use Rattle.std.specs.Prelude.{ℕ, ◌<◌, ◌≡◌, List, length, map, All, IsTrue}
 use Rattle.std.specs.List.{AllZip}
 use Rattle.exact_math.specs.Ends.{zero_box}
 use Rattle.exact_math.specs.Units.{unit}

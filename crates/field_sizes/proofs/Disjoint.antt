@@ -18,6 +18,7 @@ use Rattle.quadtree.specs.Tree.{AreInGrid, IsTreeCell, is_source_in}
 use Rattle.tree_field.specs.Lists.{TreeLists, AreTreeLists}
 use Rattle.exact_math.proofs.Lists.{All-from_members, AllPairs-both, rest_differ}
 use Rattle.field_sizes.specs.Sizes.{EntriesShareNoSource}
+use Rattle.quadtree.proofs.Occupants.{target_in}
 
 -- ---- sums over what tests keep
 -- a test passes for one of two members at most
@@ -85,16 +86,16 @@ module _ (grid : ℕ) (points : List Point) (cap : ℕ) (lists : TreeLists) (pos
   same_entry letter b c d p listed ec ed tc td =
       let in_c = and_parts (is_source p.kind) (holds_test c p.x p.y) tc in
       let in_d = and_parts (is_source p.kind) (holds_test d p.x p.y) td in
-      let t = ec.target in
-      let pair : IsTargetAndSource points t.target p = record { target_listed = t.here.listed; is_target = t.is_target; source_listed = listed; is_source = in_c.0 } in
-      let one = only_entry grid points cap letter b d t.target p positive inside pair ed (record { target_held = t.here.held; source_held = Holds-from_test d p.x p.y in_d.1 }) in
-      (one letter b c ec (record { target_held = t.here.held; source_held = Holds-from_test c p.x p.y in_c.1 })).2
+      let t = target_in points b ec.target in
+      let pair : IsTargetAndSource points t.point p = record { target_listed = t.listed; is_target = t.passes; source_listed = listed; is_source = in_c.0 } in
+      let one = only_entry grid points cap letter b d t.point p positive inside pair ed (record { target_held = t.held; source_held = Holds-from_test d p.x p.y in_d.1 }) in
+      (one letter b c ec (record { target_held = t.held; source_held = Holds-from_test c p.x p.y in_c.1 })).2
 
   -- and so no source lies in two of their cells
   not_in_both : (letter : Letter) (b : Square) → IsTreeCell grid points cap b → (p : Point) → Contains points p → AllPairs (NotBoth (λ c. is_source_in c p)) (lists.entries letter b)
   not_in_both letter b tb p listed =
       let es = are.entries_are letter b tb in
-      AllPairs-both (IsEntry grid points cap letter b) IsBefore (NotBoth (λ c. is_source_in c p)) (lists.entries letter b) es.entries es.ascending
+      AllPairs-both (IsEntry grid points cap letter b) IsBefore (NotBoth (λ c. is_source_in c p)) (lists.entries letter b) es.each es.ascending
       (λ c d ec ed before tc td. IsBefore-irrefl c d (same_entry letter b c d p listed ec ed tc td) before)
 
 pub entries_share_no_source : EntriesShareNoSource

@@ -22,5 +22,5 @@ one_list_entry grid points cap lists some inside are target source both =
       accounts = one.accounts;
       no_other = λ letter b c cell listed accounts.
           let of_tree = All-contains (IsTreeCell grid points cap) lists.cells b are.cells_are.each cell in
-          one.no_other letter b c (All-contains (IsEntry grid points cap letter b) (lists.entries letter b) c (are.entries_are letter b of_tree).entries listed) accounts;
+          one.no_other letter b c (All-contains (IsEntry grid points cap letter b) (lists.entries letter b) c (are.entries_are letter b of_tree).each listed) accounts;
     }

@@ -17,7 +17,7 @@ use Rattle.row_board.specs.Board.{IsBoard}
 use Rattle.row_board.specs.Laws.{IsFull, HoldsWholeField}
 use Rattle.row_board.specs.Parts.{BoardParts}
 use Rattle.row_recursions.specs.Rows.{row_of, AreSameRows}
-use Rattle.std.specs.Prelude.{slice_index_or}
+use Rattle.std.specs.Prelude.{slice_index_or, IsTrue}
 use Rattle.tree_field.specs.Field.{multipole_row, local_row, local_radius}
 use Rattle.tree_field.specs.Lists.{TreeLists, AreTreeLists}
 use Rattle.solve_phase.specs.Field.{IsSolved}

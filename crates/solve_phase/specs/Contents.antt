@@ -1,5 +1,5 @@
 -- What the rows of a solve contain, apart from how they were made.
-use Rattle.std.specs.Prelude.{ℕ, ◌<◌, List}
+use Rattle.std.specs.Prelude.{ℕ, ◌<◌, List, IsTrue}
 use Rattle.cell_name.specs.Square.{Square, side}
 use Rattle.complex_box.specs.declared.CBox.{CBox}
 use Rattle.places.specs.Place.{place_at}

@@ -1,6 +1,6 @@
 -- On the path from the root to a target's leaf: local rows hold the cut terms of the V and X entries, and radii bound how far these are from the terms.
 use Rattle.std.proofs.Common.{◌≡◌, refl, sym, ap, ap₂, subst, subst₂, ◌∙◌, ℕ, zero, suc, ◌+◌, ◌<◌, ◌≤◌, arith, Bool, true, ◌&&◌, List, get_or}
-use Rattle.std.specs.Prelude.{◌==◌, filter, All}
+use Rattle.std.specs.Prelude.{◌==◌, filter, All, sum_by}
 use Rattle.std.proofs.lemmas.List.Elements.{All-filter, filter_passes}
 use Rattle.std.proofs.lemmas.Bool.{eqb-true, and_parts, false≢true}
 use Rattle.exact_math.specs.Ends.{add_box}

@@ -1,6 +1,6 @@
 -- Each target's box contains the direct sum: what the path of its leaf holds, the values of the W entries and the pairs of the U entries have each source once.
 use Rattle.std.proofs.Common.{◌≡◌, sym, ap₂, subst, ◌∙◌, ℕ, ◌+◌, ◌^◌, ◌<◌, ◌≤◌, arith, true, ◌&&◌, List, get_or}
-use Rattle.std.specs.Prelude.{◌==◌, pos}
+use Rattle.std.specs.Prelude.{◌==◌, pos, sum_by}
 use Rattle.std.proofs.lemmas.List.Folds.{list_any_at}
 use Rattle.exact_math.specs.Ends.{add_box, widen_box}
 use Rattle.exact_math.specs.Gaussian.{Gaussian}

@@ -1,6 +1,6 @@
 -- The terms of points at a place, 0 for a point at that place: pairs hold them, the direct sum is their sum, and what truncation compares is made of them.
 use Rattle.std.proofs.Common.{◌≡◌, refl, sym, ap, ap₂, subst, subst₂, ◌∙◌, arith, Bool, true, false, cond, not, ◌&&◌, List, get_or}
-use Rattle.std.specs.Prelude.{ℤ, pos, ◌+ℤ◌, ◌-ℤ◌, ◌*ℤ◌, ◌<ℤ◌, ◌^◌, [], ◌∷◌, map, All, if◌then◌else◌}
+use Rattle.std.specs.Prelude.{ℤ, pos, ◌+ℤ◌, ◌-ℤ◌, ◌*ℤ◌, ◌<ℤ◌, ◌^◌, [], ◌∷◌, map, All, if◌then◌else◌, filter}
 use Rattle.std.specs.Ordering.{int_eq}
 use Rattle.std.proofs.lemmas.Int.{ints}
 use Rattle.std.proofs.lemmas.Bool.{and_parts}

@@ -54,7 +54,7 @@ module _ (grid : ℕ) (points : List Point) (cap P : ℕ) (lists : TreeLists) (p
   All-entries Q h = All-flat_map Q (of_cell lists) lists.cells (λ b hb.
       let tb = All-contains (IsTreeCell grid points cap) lists.cells b are.cells_are.each hb in
       All-of_cell lists Q b (λ letter. All-from_members (λ c. Q (entry lists letter b c)) (lists.entries letter b) (λ c hc.
-      let e = All-contains (IsEntry grid points cap letter b) (lists.entries letter b) c (are.entries_are letter b tb).entries hc in
+      let e = All-contains (IsEntry grid points cap letter b) (lists.entries letter b) c (are.entries_are letter b tb).each hc in
       h letter b c tb (in_tree_of grid points cap letter b c e.pair).1 e)))
 
   pub entries_in_range : All (λ e. e.c < length lists.cells) given.entries
@@ -114,7 +114,7 @@ module _ (grid : ℕ) (points : List Point) (cap P : ℕ) (lists : TreeLists) (p
   of_letter_differ l b tb =
       let es = are.entries_are l b tb in
       AllPairs-map (λ x y. x ≢ y) (entry lists l b) (lists.entries l b)
-      (AllPairs-both (IsEntry grid points cap l b) IsBefore (λ c d. entry lists l b c ≢ entry lists l b d) (lists.entries l b) es.entries es.ascending
+      (AllPairs-both (IsEntry grid points cap l b) IsBefore (λ c d. entry lists l b c ≢ entry lists l b d) (lists.entries l b) es.each es.ascending
       (λ c d ec ed before e. IsBefore-irrefl c d (same_cells c d (in_tree_of grid points cap l b c ec.pair).1 (in_tree_of grid points cap l b d ed.pair).1 (ap (λ (z : Entry). z.c) e)) before))
 
   of_cell_differ : (b : Square) → IsTreeCell grid points cap b → AllPairs (λ x y. x ≢ y) (of_cell lists b)
