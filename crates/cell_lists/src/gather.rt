@@ -5,7 +5,7 @@ ghost use Rattle.std.specs.List.Sorted.{IsStrictlyIncreasing};
 ghost use Rattle.cell_lists.specs.EntryLists.{lists_of};
 ghost use Rattle.cell_lists.specs.Lists.{AreListsTo, AreLists, EachPairHasOneListed, VListsAreShort};
 ghost use Rattle.cell_lists.specs.Meetings.{MeetsAll};
-ghost use Rattle.cell_lists.specs.Picked.{AddsLists, AreListsOf};
+ghost use Rattle.cell_lists.specs.Picked.{AddsLists, ArePickedFor};
 ghost use Rattle.cell_lists.specs.Walks.{AreNumbers, AreColleagues, IsMet};
 ghost use Rattle.letters.specs.declared.Letter.{Letter};
 ghost use Rattle.quadtree.specs.TreeModel.{size, IsTree};
@@ -78,7 +78,7 @@ impl Gathering {
         requires number { b < size tree.now }
         requires near { AreColleagues tree.now self.old.near b }
         ensures near { OnOk result (AreColleagues tree.now self.new.near (b + 1)) }
-        ensures picked { OnOk result (AreListsOf tree.now b self.new.picked) }
+        ensures picked { OnOk result (ArePickedFor tree.now b self.new.picked) }
     {
         self.find(tree, b)?;
         meet(tree, &mut self.found, b)?;

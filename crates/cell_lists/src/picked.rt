@@ -3,7 +3,7 @@
 ghost use Rattle.std.specs.Prelude.{◌≡◌, ◌<◌, [], ◌∷◌, ◌++◌, OnOk};
 ghost use Rattle.std.specs.List.Sorted.{IsStrictlyIncreasing};
 ghost use Rattle.cell_lists.specs.Meetings.{MeetsAll};
-ghost use Rattle.cell_lists.specs.Picked.{picked_of, AreListsOf};
+ghost use Rattle.cell_lists.specs.Picked.{picked_of, ArePickedFor};
 ghost use Rattle.cell_lists.specs.Walks.{AreNumbers};
 ghost use Rattle.letters.specs.declared.Letter.{Letter};
 ghost use Rattle.quadtree.specs.TreeModel.{size};
@@ -63,7 +63,7 @@ impl Picked {
         requires numbers { AreNumbers tree.now met.now }
         requires ascending { IsStrictlyIncreasing met.now }
         requires whole { MeetsAll tree.now b met.now }
-        ensures { OnOk result (AreListsOf tree.now b self.new) }
+        ensures { OnOk result (ArePickedFor tree.now b self.new) }
     {
         self.clear();
         for c in met {

@@ -10,8 +10,21 @@ use Rattle.limits.proofs.Grids.{grid_positive, within_widest}
 use Rattle.limits.specs.Limits.{IsGrid}
 use Rattle.cell_name.specs.declared.cell.Cell.{Cell}
 use Rattle.cell_name.specs.Cell.{square}
-use Rattle.cell_name.specs.Square.{Square, root, ClosedHolds, side, half, corner_x, corner_y, IsInGrid, IsName, IsInsideGrid, Holds, Touches, square_at, parent}
+use Rattle.cell_name.specs.Square.{Square, root, ClosedHolds, side, half, corner_x, corner_y, IsInGrid, Holds, Touches, square_at, parent}
 use Rattle.cell_name.proofs.Axis.{piece_begins, piece_ends, only_piece, side-halves, half-begins, half-ends}
+
+-- the name of a cell of the grid
+pub record IsName (c : Square) : Type 0 where
+  pub level_in_grid : c.level ≤ c.grid
+  pub column : c.i < 2 ^ c.level
+  pub row : c.j < 2 ^ c.level
+
+-- the closed square of a cell lies in that of the grid
+pub record IsInsideGrid (c : Square) : Type 0 where
+  pub west : neg_ℤ (pos (half c.grid)) ≤ℤ corner_x c
+  pub east : (corner_x c +ℤ pos (side c)) ≤ℤ pos (half c.grid)
+  pub south : neg_ℤ (pos (half c.grid)) ≤ℤ corner_y c
+  pub north : (corner_y c +ℤ pos (side c)) ≤ℤ pos (half c.grid)
 
 abs-of_nonnegative : (z : ℤ) → pos 0 ≤ℤ z → pos (unsigned_abs z) ≡ z
 abs-of_nonnegative (pos n) h = refl

@@ -2,8 +2,8 @@
 use Rattle.std.proofs.Common.{ℕ, ◌<◌, List, get_or, ℤ, sym, subst, arith}
 use borrow.Author.Differences.{ints}
 use Rattle.std.proofs.lemmas.Option.{slice_get-get_or}
-use Rattle.cell_name.specs.Square.{Square, IsInGrid, IsName, IsInsideGrid, Holds}
-use Rattle.cell_name.proofs.Cells.{inside_from_name, square_at-name}
+use Rattle.cell_name.specs.Square.{Square, IsInGrid, Holds}
+use Rattle.cell_name.proofs.Cells.{IsName, IsInsideGrid, inside_from_name, square_at-name}
 use Rattle.limits.proofs.Grids.{grid_positive}
 use Rattle.quadtree.proofs.TreeChildren.{tree_cell_at}
 use Rattle.points.specs.declared.Point.{Point}
