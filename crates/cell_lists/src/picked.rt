@@ -59,7 +59,7 @@ impl Picked {
 
     /// Makes them the lists of a cell, from the cells that were met, ascending.
     pub(crate) fn pick(&mut self, tree: &Tree, b: usize, met: &[u32]) -> Result<(), AllocError>
-        requires number { b < size tree.now }
+        requires cell { b < size tree.now }
         requires numbers { AreNumbers tree.now met.now }
         requires ascending { IsStrictlyIncreasing met.now }
         requires whole { MeetsAll tree.now b met.now }

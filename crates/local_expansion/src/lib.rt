@@ -50,8 +50,8 @@ pub fn convert<const P: usize>(
     requires order { IsOrder P }
     requires len { length into.old ≡ P }
     requires distance { IsKernelDistance (number e) }
-    requires row { RowWithin P (2 ^ 80) (row_of row.cells.now) }
-    requires size { RowWithin P (2 ^ 110) (row_of into.old) }
+    requires size { RowWithin P (2 ^ 80) (row_of row.cells.now) }
+    requires sum { RowWithin P (2 ^ 110) (row_of into.old) }
     requires room { work.old.translations < 2 ^ 63 }
     ensures adds { RowsAdd P (row_of into.old) (converted P (kernel_entry (number e)) (row_of row.entry.cells.now)) (row_of into.new) }
     ensures contains { AddsFieldConverted P (number e) (row_of row.entry.cells.now) (row_of into.old) (row_of into.new) }
@@ -73,7 +73,7 @@ pub fn add_far_source<const P: usize>(into: &mut [CBox], cell: Cell, p: &Point)
     requires len { length into.old ≡ P }
     requires range { InRange cell.grid p.now }
     requires far { GaussianBeyond (3 * side_of cell) (offset_from cell (place p.now)) }
-    requires size { RowWithin P (2 ^ 110) (row_of into.old) }
+    requires sum { RowWithin P (2 ^ 110) (row_of into.old) }
     ensures len { length into.new ≡ P }
     ensures adds { RowsAdd P (row_of into.old) (far_coefficients_in (square cell) p.now) (row_of into.new) }
     ensures contains { AddsFieldOf P (side_of cell) (doubled_centre_of cell) (source_of p.now) (row_of into.old) (row_of into.new) }

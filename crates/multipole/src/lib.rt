@@ -38,7 +38,7 @@ pub fn add_source<const P: usize>(row: &mut [CBox], cell: Cell, p: &Point)
     requires len { length row.old ≡ P }
     requires range { InRange widest_grid p.now }
     requires inside { Holds (square cell) p.now.x p.now.y }
-    requires size { RowWithin P (2 ^ 80) (row_of row.old) }
+    requires sum { RowWithin P (2 ^ 80) (row_of row.old) }
     ensures len { length row.new ≡ P }
     ensures adds { RowsAdd P (row_of row.old) (moments_in (square cell) p.now) (row_of row.new) }
     ensures contains { AddsMomentsOf P (side_of cell) (doubled_centre_of cell) (source_of p.now) (row_of row.old) (row_of row.new) }
@@ -73,7 +73,7 @@ pub fn take_source<const P: usize>(row: &mut [CBox], cell: Cell, p: &Point)
 /// are at most 2^80 in size.
 pub fn at_multipole<const P: usize>(row: Row<P>, cell: Cell, x: i64, y: i64) -> CBox
     requires order { IsOrder P }
-    requires grid { IsInGrid cell.grid x y }
+    requires in_grid { IsInGrid cell.grid x y }
     requires far { GaussianBeyond (3 * side_of cell) (offset_from cell (gaussian x y)) }
     requires size { RowWithin P (2 ^ 80) (row_of row.cells.now) }
     ensures ends { box_ends result ≡ multipole_value P (row_of row.entry.cells.now) (side_of cell) (offset_from cell (gaussian x y)) }

@@ -48,7 +48,7 @@ impl Children {
 
 /// The numbers of the cells below the cell of each run, ascending.
 pub(crate) fn children_of(alloc: Global, runs: &[Run]) -> Result<Vec<Children>, AllocError>
-    requires few { length runs.now ≤ most_cells widest_grid }
+    requires length { length runs.now ≤ most_cells widest_grid }
     requires parents { All (λ r. r.parent < length runs.now) runs.now }
     requires four { (n : ℕ) → length (children_among (parents_of runs.now) n (length runs.now)) ≤ 4 }
     ensures { IfOk result (λ v. AreFamiliesTo (parents_of runs.now) v.items (length runs.now)) }

@@ -107,7 +107,7 @@ pub(crate) fn leaves_of(
     nodes: &[Node],
     positions: &[u32],
 ) -> Result<Vec<u32>, AllocError>
-    requires few { length nodes.now < 2 ^ 32 }
+    requires length { length nodes.now < 2 ^ 32 }
     requires below { All (λ k. k < count) positions.now }
     requires ranges { All (IsRange positions.now) nodes.now }
     requires apart { LeavesAreApart positions.now nodes.now }

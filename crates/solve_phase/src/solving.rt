@@ -112,7 +112,7 @@ pub fn solve<const P: usize>(
 ) -> Result<Field<P>, TreeFault>
     requires list { WithinLimits points.now }
     requires order { IsOrderOf (grid_of points.now.version) P }
-    requires cap { IsCapacity cap }
+    requires capacity { IsCapacity cap }
     ensures field { IfOk result (λ field. IsSolved points.now.list cap P field) }
     ensures rows { IfOk result (λ field. RowsContain points.now.list P field) }
     ensures contains { IfOk result (λ field. TargetsContain points.now.list field.values) }
