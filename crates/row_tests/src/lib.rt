@@ -10,8 +10,6 @@ mod locals;
 #[cfg(test)]
 mod moments;
 #[cfg(test)]
-mod order_32;
-#[cfg(test)]
 mod pairs;
 #[cfg(test)]
 mod radii;
