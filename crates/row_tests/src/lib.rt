@@ -10,6 +10,8 @@ mod locals;
 #[cfg(test)]
 mod moments;
 #[cfg(test)]
+mod order_32;
+#[cfg(test)]
 mod pairs;
 #[cfg(test)]
 mod radii;

@@ -44,8 +44,8 @@ ancestor_number-requires-2-clause-level c =
 pub ancestor_number-requires-clause-cell : goal.ancestor_number-requires-clause-cell
 ancestor_number-requires-clause-cell c = c.requires.first
 
-pub ancestor_number-requires-2-clause-number : goal.ancestor_number-requires-2-clause-number
-ancestor_number-requires-2-clause-number c = c.requires.second
+pub ancestor_number-requires-2-clause-cell : goal.ancestor_number-requires-2-clause-cell
+ancestor_number-requires-2-clause-cell c = c.requires.second
 
 pub returns-clause-first_in_range : goal.returns-clause-first_in_range
 returns-clause-first_in_range c = c.ancestor_number.ensures.in_range

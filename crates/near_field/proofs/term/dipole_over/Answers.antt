@@ -16,7 +16,7 @@ pub sum_of_products-twice-requires-clause-second : goal.sum_of_products-twice-re
 sum_of_products-twice-requires-clause-second c = small_square c.ranges.dx c.ranges.dy c.requires.size.0 c.requires.size.1
 
 pub norm-size-requires : goal.norm-size-requires
-norm-size-requires c = record { distance = (given_within c.ranges.dx c.requires.size.0, given_within c.ranges.dy c.requires.size.1) }
+norm-size-requires c = record { size = (given_within c.ranges.dx c.requires.size.0, given_within c.ranges.dy c.requires.size.1) }
 
 pub overflow_mul-result : goal.overflow_mul-result
 overflow_mul-result c =

@@ -43,8 +43,8 @@ with_pair-sum-requires-clause-range g c =
     subst (InRange widest_grid) (sym c.index.ensures)
     (range_in_widest c.basis.inside.tree.grid _ c.basis.invariant.is_tree.known_grid (c.basis.invariant.within.range (get_or c.members-k-items.result.now c.loop-k.k-index 0) c.index.result.now (subst (λ (b : BasisModel). get_or c.members-k-items.result.now c.loop-k.k-index 0 < length b.points) (sym c.basis.view_is) here)))
 
-pub with_pair-sum-requires-clause-size : goal.with_pair-sum-requires-clause-size
-with_pair-sum-requires-clause-size g c =
+pub with_pair-sum-requires-clause-sum : goal.with_pair-sum-requires-clause-sum
+with_pair-sum-requires-clause-sum g c =
     let is : IsBasis g.row.P c.args.basis.now = subst (IsBasis g.row.P) c.basis.view_is c.basis.invariant in
     let few = few_members g.row.P c.args.basis.now is c.args.c c.requires.cell c.members-k-items.result.now (c.members-k-items.ensures ∙ ap (λ (b : BasisModel). (node_of b.tree c.args.c).members) c.basis.view_is) in
     box_wider _ _ _ (omega (arith, few, c.loop-k-test.true)) c.loop-k.invariant.size
