@@ -70,7 +70,7 @@ impl<const P: usize> Board<P> {
     pub fn value(&self, k: usize) -> Option<CBox>
         requires { IsName self.now (Name.Value k) }
         ensures value { MatchOption result (is_filled self.now (Name.Value k) ≡ false) (IsFilledBox self.now k) }
-        ensures box { IfSome result (λ value. IsTargetBox P self.now.basis k value) }
+        ensures field { IfSome result (λ value. IsTargetBox P self.now.basis k value) }
         ensures size { IfSome result (λ value. BoxWithin (most_box self.now.basis.tree.grid) value) }
         ensures contains { IfSome result (λ value. BoxContains unit value (direct_sum (target_place self.now.basis k) self.now.basis.points)) }
     {

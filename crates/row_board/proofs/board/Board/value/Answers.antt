@@ -12,8 +12,8 @@ use Rattle.row_board.specs.Parts.{BoardParts}
 use Rattle.row_board.proofs.Values.{value_read}
 use Rattle.row_board.proofs.board.Board.value.Goals as goal
 
-pub returns-then-index-clause-box : goal.returns-then-index-clause-box
-returns-then-index-clause-box g c =
+pub returns-then-index-clause-field : goal.returns-then-index-clause-field
+returns-then-index-clause-field g c =
     let k = c.args.k in
     let value : CBox = c.index-then-index.result.now in
     let lt = subst (λ (b : BoardParts). k < length b.basis.targets) (sym c.self.view_is) c.requires in
