@@ -3,7 +3,7 @@ use Rattle.std.proofs.Common.{ℕ, ◌+◌, ◌-◌, ◌*◌, ◌^◌, ◌≤◌
 use Rattle.std.specs.Prelude.{sum_by}
 use Rattle.std.proofs.Math.Nat.{mul-le-mul_right}
 use Rattle.std.proofs.lemmas.Int.{ints}
-use Rattle.exact_math.specs.Ends.{BoxEndsWithin, add_box}
+use Rattle.exact_math.specs.Ends.{BoxEndsWithin, add_box, BoxEnds}
 use Rattle.exact_math.specs.Gaussian.{Gaussian}
 use Rattle.exact_math.specs.Within.{Within}
 use Rattle.exact_math.proofs.Orders.{order_bounds}
