@@ -65,22 +65,14 @@ fn across_the_grid(rt: HostRuntime) -> Result<(), Fail> {
     ];
     let field = field_of_order_8(rt.alloc(), &lines)?;
     counts_are(&rt, &field, (1, 0, 1));
-    values_are(
-        &rt,
-        &field,
-        1,
-        ((524_288, 524_289), (-524_289, -524_288)),
-    );
+    values_are(&rt, &field, 1, ((524_288, 524_289), (-524_289, -524_288)));
     Ok(())
 }
 
 /// The charges' cell and the target's are of level 20.
 #[test]
 fn charges_next_to_a_target(rt: HostRuntime) -> Result<(), Fail> {
-    let field = field_of_order_8(
-        rt.alloc(),
-        &[(8, "charge 0 0 1\n"), (1, "target 1 0\n")],
-    )?;
+    let field = field_of_order_8(rt.alloc(), &[(8, "charge 0 0 1\n"), (1, "target 1 0\n")])?;
     counts_are(&rt, &field, (22, 40, 8));
     values_are(&rt, &field, 1, ((8 * ONE, 8 * ONE), (0, 0)));
     Ok(())

@@ -18,7 +18,7 @@ use Rattle.tree_field.specs.Lists.{TreeLists, AreTreeLists}
 use Rattle.fmm_program.proofs.Complete.{deep_enough}
 use Rattle.fmm_program.proofs.FlushedEnds.{Ends-map, flushed_ends, plain}
 use Rattle.fmm_program.specs.Answers.{DepthAnswers}
-use Rattle.fmm_program.specs.Endings.{Ends, Flow, HasFault, Output, flow, untold}
+use Rattle.fmm_program.specs.Endings.{Ends, Flow, HasFault, Output, TellsFaults, flow, untold}
 use Rattle.fmm_program.specs.Runs.{SampleRun}
 use Rattle.fmm_program.specs.SampleAnswers.{SampleAnswers}
 use Rattle.fmm_program.specs.declared.status.Status.{Status}
@@ -53,8 +53,12 @@ module _ (seed n order cap : ℕ) where
     completes has Rejected ends r w = absurd ends.1
 
     -- a run that ended so has the facts of a run
-    pub sample_run : (status : Status) → Ends (SampleAnswers seed n order cap) status out cert → (status ≡ ReadFault → ⊥) → (status ≡ WriteFault → HasFault out) → SampleRun seed n order cap status out cert
+    sample_run : (status : Status) → Ends (SampleAnswers seed n order cap) status out cert → (status ≡ ReadFault → ⊥) → (status ≡ WriteFault → HasFault out) → SampleRun seed n order cap status out cert
     sample_run status ends read write = record { ends = ends; no_read_fault = read; complete = λ has no_write. completes has status ends read (λ h. no_write (write h)) }
+
+  -- a run at the order P
+  pub run_at : (P : ℕ) (out : Flow) (status : Status) → order ≡ P → Ends (SampleAnswers seed n P cap) status out untold → (status ≡ ReadFault → ⊥) → TellsFaults status out → SampleRun seed n order cap status out untold
+  run_at P out status e ends read write = sample_run out untold status (subst (λ m. Ends (SampleAnswers seed n m cap) status out untold) (sym e) ends) read write.failed
 
   -- after a flush, where the port of a certificate stays as it is
   pub flushed_sample : (before mid after cert : Option (List ℕ)) → Keeps mid after → (b m a c d : ℕ) (status result : Status) → (result ≡ status) ⊎ (result ≡ WriteFault)
@@ -85,7 +89,7 @@ module _ (seed n order cap : ℕ) where
     some : (lists : TreeLists) × AreTreeLists first_grid ((sample seed n).list) cap lists
     some = each_list_has_tree first_grid ((sample seed n).list) cap (omega arith) (in_grid first_grid ((sample seed n).list) limits.within.range)
 
-    summary : List ℕ
+    abbrev summary : List ℕ
     summary = summary_text seed (sample seed n).list order cap some.0
 
     summarized : SampleAnswers seed n order cap Done (plain summary)

@@ -23,6 +23,10 @@ use Rattle.fmm_program.specs.declared.status.Status.{Status}
 use Rattle.fmm_program.specs.declared.status.Status.TheVariants.{Done, Refused, Usage, Memory, ReadFault, WriteFault, Rejected}
 
 module _ (order cap : ℕ) (input : List ℕ) (out : Flow) (status : Status) where
+  -- at the order P
+  pub ends_at : (P : ℕ) → order ≡ P → Ends (SolveAnswers P cap input) status out untold → Ends (SolveAnswers order cap input) status out untold
+  ends_at P e = subst (λ m. Ends (SolveAnswers m cap input) status out untold) (sym e)
+
   -- the line of the first fault of a text
   pub fault_ends : (number : ℕ) (kind : TextKind) (line : List ℕ) → length input ≤ most_input → FirstFault input number kind → line ≡ fault_line number kind
       → Ends (OneLine Refused line) status out untold → Ends (SolveAnswers order cap input) status out untold

@@ -95,7 +95,8 @@ fn summarize<const P: usize, O: Sink>(
     out: &mut O,
 ) -> Status
     requires list { WithinLimits points.now }
-    requires order { IsOrderOf (grid_of points.now.version) P }
+    requires version { points.now.version ≡ 1 }
+    requires order { IsOrderOf first_grid P }
     requires cap { IsCapacity cap }
     ensures ends { (n : ℕ) → points.now ≡ sample seed n
         → Ends (SampleAnswers seed n P cap) result (flow (O.held out.old) (O.held out.new) (O.faults out.old) (O.faults out.new)) untold }

@@ -2,7 +2,7 @@
 ghost use Rattle.limits.specs.Limits.{widest_grid};
 ghost use Rattle.points.specs.Limits.{HasStrength, IsKindOf};
 
-use crate::known::{LARGE, SMALL, WIDE_LARGE, WIDE_SMALL, nine_charges};
+use crate::known::{LARGE, SMALL, WIDE_LARGE, nine_charges};
 use complex_box::{CBox, Row};
 use multipole::{add_source, at_multipole, take_source};
 use points::{Kind, Point};
@@ -30,25 +30,6 @@ fn there_and_back(rt: HostRuntime) {
     goes_and_comes(&rt, Kind::Dipole(3, -2), CBox::point(6 * half, -4 * half));
     goes_and_comes(&rt, Kind::Pole(3, -4), CBox::point(-7 * half, half));
     goes_and_comes(&rt, Kind::Target, CBox::zero());
-}
-
-/// The last two moments of nine charges in the corner of a cell of side 1: 9 times `((-1 - i)/2)^k` for `k` 30 and 31.
-#[test]
-fn moments_of_order_32(rt: HostRuntime) {
-    let nine = Point {
-        x: 0,
-        y: 0,
-        kind: Kind::Charge(9),
-    };
-    let mut row = [CBox::zero(); 32];
-    add_source::<32>(&mut row, WIDE_SMALL, &nine);
-    assert_eq!(rt;
-        (row[30], row[31]),
-        (
-            CBox::point(0, -301_989_888),
-            CBox::point(-150_994_944, 150_994_944)
-        )
-    );
 }
 
 /// The value at (8, 0) of the moments of nine charges, on both grids.

@@ -1,9 +1,9 @@
-//! A far cell at order 32, whose value is known from elsewhere.
+//! Moments at order 32 by hand, and a far cell, whose value is known from elsewhere.
 ghost use Rattle.std.specs.Prelude.{◌^◌};
 ghost use Rattle.row_recursions.specs.Rows.{row_of};
 ghost use Rattle.row_recursions.specs.Sizes.{RowWithin};
 
-use crate::known::SMALL;
+use crate::known::WIDE_SMALL;
 use cell_name::Cell;
 use complex_box::{CBox, Gauss, Row, Work};
 use kernel_table::Kernel;
@@ -24,8 +24,21 @@ fn nine_charges() -> [CBox; 32]
         kind: Kind::Charge(9),
     };
     let mut row = [CBox::zero(); 32];
-    add_source::<32>(&mut row, SMALL, &nine);
+    add_source::<32>(&mut row, WIDE_SMALL, &nine);
     row
+}
+
+/// The last two moments: 9 times `((-1 - i)/2)^k` for `k` 30 and 31.
+#[test]
+fn last_moments(rt: HostRuntime) {
+    let row = nine_charges();
+    assert_eq!(rt;
+        (row[30], row[31]),
+        (
+            CBox::point(0, -301_989_888),
+            CBox::point(-150_994_944, 150_994_944)
+        )
+    );
 }
 
 fn kernel_of_order_32(alloc: Global) -> Result<Kernel<32>, Fail> {
@@ -41,10 +54,10 @@ fn far_cell(rt: HostRuntime) -> Result<(), Fail> {
     let e = Gauss { re: 2, im: 0 };
     convert::<32>(&kernel, Row::new(&moments), e, &mut row, &mut Work::new());
     let cell = Cell {
-        level: 16,
-        i: 32770,
-        j: 32768,
-        grid: 16,
+        level: 20,
+        i: 524_290,
+        j: 524_288,
+        grid: 20,
     };
     assert_eq!(rt;
         ends(at_local::<32>(Row::new(&row), cell, 2, 0)),

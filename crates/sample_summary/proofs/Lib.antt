@@ -2,4 +2,5 @@
 mod Counting
 mod Greatest
 mod Grid
+mod Lines
 mod Worked

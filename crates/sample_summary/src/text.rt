@@ -6,7 +6,7 @@ ghost use Rattle.complex_box.specs.Box.{box_ends};
 ghost use Rattle.letters.specs.declared.Letter.TheVariants.{U, V, W, X};
 ghost use Rattle.limits.specs.Limits.{first_grid};
 ghost use Rattle.points.specs.Points.{is_source};
-ghost use Rattle.quadtree.specs.TreeModel.{size, node_of};
+ghost use Rattle.quadtree.specs.TreeModel.{size, node_of, IsTree};
 ghost use Rattle.report_lines.specs.Report.{work_line};
 ghost use Rattle.sample_summary.specs.Summary.{summary_text, width};
 ghost use Rattle.solve_phase.specs.Field.{IsSolved};
@@ -62,6 +62,7 @@ fn prepend_tree(text: &mut FrontText<TEXT>, tree: &Tree)
     ensures text { text.new ≡ codes "tree cells " ++ decimal (size tree.now)
         ++ codes " leaves " ++ decimal (count_by (λ n. (node_of tree.now n).is_leaf) (range_with_len 0 (size tree.now))) ++ codes "\n" ++ text.old }
     ensures room { length text.new ≤ 60 + length text.old }
+    ensures tree { IsTree tree.now }
 {
     text.prepend(b'\n');
     text.prepend_decimal(leaf_count(tree));

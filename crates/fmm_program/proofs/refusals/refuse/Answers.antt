@@ -5,3 +5,6 @@ use Rattle.fmm_program.proofs.refusals.refuse.Goals as goal
 
 pub returns-in-Err-clause-ends : goal.returns-in-Err-clause-ends
 returns-in-Err-clause-ends g c = (Refused, plain c.args.line.now, (refl, refl, refl), c.in-Err.ensures.bytes, (0, tt))
+
+pub returns-in-Ok-clause-ends : goal.returns-in-Ok-clause-ends
+returns-in-Ok-clause-ends g c = (plain c.args.line.now, (refl, refl, refl), c.in-Ok.ensures.bytes, tt)

@@ -6,3 +6,6 @@ use Rattle.fmm_program.proofs.refusals.refuse_words.Goals as goal
 
 pub returns-in-Err-clause-ends : goal.returns-in-Err-clause-ends
 returns-in-Err-clause-ends g c = (Usage, plain usage_line, (refl, refl, refl), c.in-Err.ensures.bytes, (0, tt))
+
+pub returns-in-Ok-clause-ends : goal.returns-in-Ok-clause-ends
+returns-in-Ok-clause-ends g c = (plain usage_line, (refl, refl, refl), c.in-Ok.ensures.bytes, tt)

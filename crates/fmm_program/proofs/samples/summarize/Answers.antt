@@ -11,4 +11,4 @@ returns-in-Err-clause-ends g c n e =
     depth_ends c.args.seed n g.row.P c.args.cap _ c.refuse_depth.result c.args.points.now e (c.refuse_depth.ensures.ends c.args.points.now c.args.cap c.in-Err.ensures.fault)
 
 pub summarize_field-requires : goal.summarize_field-requires
-summarize_field-requires g c = (omega arith, (c.requires.list, (c.in-Ok.ensures.field, c.in-Ok.ensures.grid ∙ ap grid_of c.requires.list.version)))
+summarize_field-requires g c = (omega arith, (c.requires.list, (c.in-Ok.ensures.field, c.in-Ok.ensures.grid ∙ ap grid_of c.requires.version)))

@@ -28,6 +28,11 @@ returns-in-Some-Solve-clause-certified g c order cap file form done =
     let carried_out = flushed_from c.solve.result c.flushed.result f.stays Done (λ h. cc) done in
     certified_flushed order cap _ _ _ _ _ _ _ f.kept _ _ _ c.solve.result form.is_order carried_out (c.solve.ensures.whole carried_out) run
 
+pub returns-in-Some-Solve-clause-usage : goal.returns-in-Some-Solve-clause-usage
+returns-in-Some-Solve-clause-usage g c form =
+    let asked : IsSolve c.args.words.now c.in-Some-Solve.command.order c.in-Some-Solve.command.cap c.in-Some-Solve.command.file.now = rw c.in-Some-Solve.field-0-is at c.in-Some-Solve.ensures.some in
+    absurd (form.no_solve _ _ _ asked)
+
 pub returns-in-Some-Solve-clause-usage_only : goal.returns-in-Some-Solve-clause-usage_only
 returns-in-Some-Solve-clause-usage_only g c e =
     let f = c.flushed.ensures in

@@ -23,7 +23,8 @@ returns-then-number-from-clause-none c n least most e =
 pub returns-clause-some : goal.returns-clause-some
 returns-clause-some c =
     let read = c.in_ok-number.ensures.some in
-    let same : read.0 ≡ c.in_ok-number.number = omega (arith, read.2, c.ranges.most.fits, c.if-from-number.false, c.from-else-number-from.ensures) in
-    (sym c.as_bytes.ensures.value ∙ is_decimal _ read.0 c.in_ok-number.number read.1 same (omega (arith, c.ranges.most.fits, c.if-from-number.false, c.from-else-number-from.ensures)),
-    omega (arith, c.if-number-from.false, c.from.ensures),
-    omega (arith, c.if-from-number.false, c.from-else-number-from.ensures))
+    let same : read.0 ≡ c.in_ok-number.number = omega (arith, read.2, c.ranges.most.fits, c.if-from-number.false, c.from-else-number-from.ensures) in (
+      sym c.as_bytes.ensures.value ∙ is_decimal _ read.0 c.in_ok-number.number read.1 same (omega (arith, c.ranges.most.fits, c.if-from-number.false, c.from-else-number-from.ensures)),
+      omega (arith, c.if-number-from.false, c.from.ensures),
+      omega (arith, c.if-from-number.false, c.from-else-number-from.ensures),
+    )
