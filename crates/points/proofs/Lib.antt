@@ -1,4 +1,3 @@
 -- Lemmas.
-pub mod Orders
 pub mod Ranges
 pub mod Slices
