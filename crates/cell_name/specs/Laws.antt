@@ -60,7 +60,9 @@ OffsetIsSmall = (c : Square) (x y : ℤ) → Holds c x y → (unsigned_abs (offs
 -- the centres of two cells of one level differ by as many sides as their columns and rows
 abbrev pub CentresDifferBySides : Type 0
 CentresDifferBySides =
-    (b c : Square) → b.grid ≡ c.grid → b.level ≡ c.level → (doubled_centre_x b ≡ doubled_centre_x c +ℤ pos (2 * side c) *ℤ (sides_between b c).re) × (doubled_centre_y b ≡ doubled_centre_y c +ℤ pos (2 * side c) *ℤ (sides_between b c).im)
+    (b c : Square) → b.grid ≡ c.grid → b.level ≡ c.level
+    → (doubled_centre_x b ≡ doubled_centre_x c +ℤ pos (2 * side c) *ℤ (sides_between b c).re)
+    × (doubled_centre_y b ≡ doubled_centre_y c +ℤ pos (2 * side c) *ℤ (sides_between b c).im)
 
 -- two cells of one level whose parents touch and that don't touch
 abbrev pub PairIsTwoOrThreeApart : Type 0
@@ -69,9 +71,11 @@ PairIsTwoOrThreeApart = (b c : Square) → b.grid ≡ c.grid → b.level ≡ c.l
 -- places in two cells of one level that don't touch
 abbrev pub PlacesAreASideApart : Type 0
 PlacesAreASideApart =
-    (b c : Square) (x y x' y' : ℤ) → b.grid ≡ c.grid → b.level ≡ c.level → (Touches b c → ⊥) → Holds b x y → Holds c x' y' → AreApart (side c) x x' ⊎ AreApart (side c) y y'
+    (b c : Square) (x y x' y' : ℤ) → b.grid ≡ c.grid → b.level ≡ c.level → (Touches b c → ⊥)
+    → Holds b x y → Holds c x' y' → AreApart (side c) x x' ⊎ AreApart (side c) y y'
 
 -- a place in a cell, seen from a cell that is no higher and doesn't touch it
 abbrev pub OffsetIsLarge : Type 0
 OffsetIsLarge =
-    (b c : Square) (x y : ℤ) → b.grid ≡ c.grid → b.level ≤ c.level → c.level ≤ c.grid → (Touches b c → ⊥) → Holds b x y → IsLarge (3 * side c) (offset_x c x) ⊎ IsLarge (3 * side c) (offset_y c y)
+    (b c : Square) (x y : ℤ) → b.grid ≡ c.grid → b.level ≤ c.level → c.level ≤ c.grid → (Touches b c → ⊥)
+    → Holds b x y → IsLarge (3 * side c) (offset_x c x) ⊎ IsLarge (3 * side c) (offset_y c y)

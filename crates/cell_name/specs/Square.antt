@@ -18,9 +18,12 @@ root grid = record { grid = grid; level = 0; i = 0; j = 0 }
 abbrev pub no_square : Square
 no_square = root 0
 
--- each level halves it
+-- the side of the cells of a level: each level halves it
+abbrev pub side_at : ℕ → ℕ → ℕ
+side_at grid level = 2 ^ (grid - level)
+
 abbrev pub side : Square → ℕ
-side c = 2 ^ (c.grid - c.level)
+side c = side_at c.grid c.level
 
 abbrev pub corner_x : Square → ℤ
 corner_x c = pos (c.i * side c) -ℤ pos (half c.grid)
@@ -69,7 +72,7 @@ pub record Touches (b c : Square) : Type 0 where
 
 -- the cell of a level that holds a place of the grid, by how far the place lies from the west and the south border
 abbrev pub square_at : ℕ → ℕ → ℤ → ℤ → Square
-square_at grid level x y = let s = 2 ^ (grid - level) in
+square_at grid level x y = let s = side_at grid level in
     record { grid = grid; level = level; i = unsigned_abs (x +ℤ pos (half grid)) / s; j = unsigned_abs (y +ℤ pos (half grid)) / s }
 
 -- the cell of the level above that has the cell as a quarter

@@ -34,7 +34,8 @@ after_failed_read feed = record {
   faults = next_count feed.faults;
 }
 
--- a sink: the bytes taken, the room that is left, the most that one write takes, the numbers of the writes that fail, and the counts of writes and of faults; a flush counts as a write
+-- a sink: the bytes taken, the room that is left, the most that one write takes, the numbers of the writes that fail,
+-- and the counts of writes and of faults; a flush counts as a write
 pub record Store : Type 0 where
   pub bytes : List ℕ
   pub room : ℕ

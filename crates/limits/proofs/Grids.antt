@@ -21,8 +21,8 @@ grid_cases grid is = grind (arith, rules)
 pub within_widest : WidestHasMost
 within_widest grid is =
     elim (grid_cases grid is) [
-      | inl e ↦ subst AreWithinWidest (sym e) (record { some = omega arith; bits = omega arith; points = omega arith; weight = omega arith; cells = omega arith; multipole = omega arith; local = omega arith; box = omega arith })
-      | inr e ↦ subst AreWithinWidest (sym e) (record { some = omega arith; bits = omega arith; points = omega arith; weight = omega arith; cells = omega arith; multipole = omega arith; local = omega arith; box = omega arith })
+      | inl e ↦ subst AreWithinWidest (sym e) (record { some = omega arith; bits = omega arith; points = omega arith; weight = omega arith; cells = omega arith; order = omega arith; multipole = omega arith; local = omega arith; box = omega arith })
+      | inr e ↦ subst AreWithinWidest (sym e) (record { some = omega arith; bits = omega arith; points = omega arith; weight = omega arith; cells = omega arith; order = omega arith; multipole = omega arith; local = omega arith; box = omega arith })
     ]
 
 pub grid_positive : (grid : ℕ) → IsGrid grid → 0 < grid

@@ -37,7 +37,8 @@ module _ (points : List Point) (cap : ℕ) (positions : List ℕ) (cells : List 
   pub record AreNodesTo (nodes : List Node) (n : ℕ) : Type 0 where
     pub as_many : length nodes ≡ n
     pub each :
-        (k : ℕ) → k < n → IsNodeOf points cap positions (slice_index_or cells k no_square) (slice_index parents k) (slice_index_or families k no_children) (slice_index_or nodes k blank_node)
+        (k : ℕ) → k < n
+        → IsNodeOf points cap positions (slice_index_or cells k no_square) (slice_index parents k) (slice_index_or families k no_children) (slice_index_or nodes k blank_node)
 
 -- a position of a leaf among the nodes
 pub record IsInLeaf (positions : List ℕ) (nodes : List Node) (n k : ℕ) : Type 0 where

@@ -31,6 +31,7 @@ target_counts Velocity b = record { first = count_ends b.re; second = neg_ends (
 
 -- the printed counts contain the parts of the fraction, in units of 10^-12
 abbrev pub CountsContain : Mode → TargetCounts → ComplexRatio → Type 0
-CountsContain Field c z = record { first : Contains (pos (10 ^ 12)) c.first.lo c.first.hi (re_part z); second : Contains (pos (10 ^ 12)) c.second.lo c.second.hi (im_part z) }
+CountsContain Field c z =
+    record { first : Contains (pos (10 ^ 12)) c.first.lo c.first.hi (re_part z); second : Contains (pos (10 ^ 12)) c.second.lo c.second.hi (im_part z) }
 CountsContain Velocity c z =
     record { first : Contains (pos (10 ^ 12)) c.first.lo c.first.hi (re_part z); second : Contains (pos (10 ^ 12)) c.second.lo c.second.hi (neg_ratio (im_part z)) }

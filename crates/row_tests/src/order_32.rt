@@ -15,7 +15,7 @@ use std::test::Fail;
 use test_boxes::ends;
 
 /// The moments of nine charges of 1 in the corner of the small cell, as one of 9.
-fn nine_charges() -> [CBox; 32]
+fn moments_of_nine() -> [CBox; 32]
     ensures { RowWithin 32 (2 ^ 79) (row_of result) }
 {
     let nine = Point {
@@ -31,7 +31,7 @@ fn nine_charges() -> [CBox; 32]
 /// The last two moments: 9 times `((-1 - i)/2)^k` for `k` 30 and 31.
 #[test]
 fn last_moments(rt: HostRuntime) {
-    let row = nine_charges();
+    let row = moments_of_nine();
     assert_eq!(rt;
         (row[30], row[31]),
         (
@@ -49,7 +49,7 @@ fn kernel_of_order_32(alloc: Global) -> Result<Kernel<32>, Fail> {
 #[test]
 fn far_cell(rt: HostRuntime) -> Result<(), Fail> {
     let kernel = kernel_of_order_32(rt.alloc())?;
-    let moments = nine_charges();
+    let moments = moments_of_nine();
     let mut row = [CBox::zero(); 32];
     let e = Gauss { re: 2, im: 0 };
     convert::<32>(&kernel, Row::new(&moments), e, &mut row, &mut Work::new());

@@ -75,14 +75,17 @@ fn groups_text(alloc: Global, head: &str, easts: &[u16]) -> Result<Vec<u8>, Allo
     Ok(text)
 }
 
+/// How far the targets of a group stand to the east where a group has as many as it may.
+const EASTS: [u16; 7] = [512, 256, 128, 64, 32, 16, 8];
+
 /// A text of version 1 of as many points as a list may have, in more cells than a tree may have.
 pub fn full_text(alloc: Global) -> Result<Vec<u8>, AllocError> {
-    groups_text(alloc, "fmm 1 field\n", &[512, 256, 128, 64, 32, 16, 8])
+    groups_text(alloc, "fmm 1 field\n", &EASTS)
 }
 
 /// The same points in version 2, where their tree at capacity 8 has 75,109 cells.
 pub fn wide_text(alloc: Global) -> Result<Vec<u8>, AllocError> {
-    groups_text(alloc, "fmm 2 field\n", &[512, 256, 128, 64, 32, 16, 8])
+    groups_text(alloc, "fmm 2 field\n", &EASTS)
 }
 
 /// A text of 53,248 points, whose tree at capacity 8 has 62,805 cells.

@@ -45,8 +45,8 @@ fn corners(rt: HostRuntime) -> Result<(), Fail> {
     Ok(())
 }
 
-/// How many entries of U, V, W and X.
-fn totals_are(
+/// The tree of the lines has so many entries of U, V, W and X.
+fn entries_are(
     rt: &impl Abort,
     alloc: Global,
     lines: &[(u32, &str)],
@@ -69,12 +69,12 @@ fn totals_are(
 #[test]
 fn entries_of_two_places(rt: HostRuntime) -> Result<(), Fail> {
     let alloc = rt.alloc();
-    totals_are(&rt, alloc, &TWO_PLACES, [1, 0, 0, 0])?;
+    entries_are(&rt, alloc, &TWO_PLACES, [1, 0, 0, 0])?;
     let poles = (9, "pole 0 0 3 -4\n");
-    totals_are(&rt, alloc, &[poles, (9, "target 2 0\n")], [0, 1, 0, 0])?;
-    totals_are(&rt, alloc, &[poles, (1, "target 8 0\n")], [0, 0, 1, 0])?;
+    entries_are(&rt, alloc, &[poles, (9, "target 2 0\n")], [0, 1, 0, 0])?;
+    entries_are(&rt, alloc, &[poles, (1, "target 8 0\n")], [0, 0, 1, 0])?;
     let far = (1, "pole 8 0 3 -4\n");
-    totals_are(&rt, alloc, &[far, (9, "target 0 0\n")], [0, 0, 0, 1])
+    entries_are(&rt, alloc, &[far, (9, "target 0 0\n")], [0, 0, 0, 1])
 }
 
 #[test]

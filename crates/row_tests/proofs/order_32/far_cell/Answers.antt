@@ -20,7 +20,7 @@ convert-requires g c = (
         (
           search rules,
           (
-            subst (λ cells. RowWithin 32 (2 ^ 80) (row_of cells)) (sym c.new.ensures) (λ k h. box_wider (2 ^ 79) (2 ^ 80) _ (lit≤ tt) (c.nine_charges-moments.ensures k h)),
+            subst (λ cells. RowWithin 32 (2 ^ 80) (row_of cells)) (sym c.new.ensures) (λ k h. box_wider (2 ^ 79) (2 ^ 80) _ (lit≤ tt) (c.moments_of_nine-moments.ensures k h)),
             (zero_row 32 (2 ^ 110) c.zero-row.result c.zero-row.ensures.ends, search rules),
           ),
         ),
@@ -38,7 +38,7 @@ at_local-requires g c = (
       record { west = omega (arith, ints); east = omega (arith, ints); south = omega (arith, ints); north = omega (arith, ints) },
       subst (λ cells. RowWithin 32 (2 ^ 90) (row_of cells)) (sym c.new-3.ensures)
           (λ k h. box_wider (0 + 3 * 2 ^ 78) (2 ^ 90) _ (lit≤ tt) (c.convert.ensures.size (2 ^ 78) 0
-          (subst (λ cells. RowWithin 32 (2 ^ 79) (row_of cells)) (sym c.new.ensures) c.nine_charges-moments.ensures)
+          (subst (λ cells. RowWithin 32 (2 ^ 79) (row_of cells)) (sym c.new.ensures) c.moments_of_nine-moments.ensures)
           (zero_row 32 0 c.zero-row.result c.zero-row.ensures.ends) k h)),
     ),
   ),
