@@ -20,7 +20,8 @@ pub record ComesApartBelow (b c : Square) : Type 0 where
   pub parent_touches : Touches (parent c) b
   pub apart : Touches c b → ⊥
 
--- the condition of each letter: two leaves that touch, as a leaf touches itself; two cells of one level that come apart on it; a leaf and a cell that comes apart from it below
+-- the condition of each letter: two leaves that touch, as a leaf touches itself; two cells of one level that come apart on it;
+-- a leaf and a cell that comes apart from it below
 -- its level; and the last with the two cells exchanged
 abbrev pub IsPair : ℕ → List Point → ℕ → Letter → Square → Square → Type 0
 IsPair grid points cap U b c = IsLeaf grid points cap b × IsLeaf grid points cap c × Touches b c
@@ -72,4 +73,5 @@ NoOtherFor grid points cap b c letter b' c' =
 -- each target and source of a list within the grid, for any capacity of the leaves
 abbrev pub EachPairHasOneEntry : Type 0
 EachPairHasOneEntry =
-    (grid : ℕ) (points : List Point) (cap : ℕ) (target source : Point) → 0 < grid → AreInGrid grid points → IsTargetAndSource points target source → HasOneEntry grid points cap target source
+    (grid : ℕ) (points : List Point) (cap : ℕ) (target source : Point) → 0 < grid → AreInGrid grid points
+    → IsTargetAndSource points target source → HasOneEntry grid points cap target source

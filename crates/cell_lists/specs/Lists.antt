@@ -32,11 +32,13 @@ pub record HasOneListed (tree : TreeModel) (lists : EntryListsModel) (target sou
   pub in_range : b < size tree
   pub listed : Contains (list_at (lists_of lists letter) b) c
   pub accounts : Accounts (square_of tree b) (square_of tree c) target source
-  pub no_other : (letter' : Letter) (b' c' : ℕ) → b' < size tree → Contains (list_at (lists_of lists letter') b') c' → Accounts (square_of tree b') (square_of tree c') target source → (letter' ≡ letter) × (b' ≡ b) × (c' ≡ c)
+  pub no_other : (letter' : Letter) (b' c' : ℕ) → b' < size tree → Contains (list_at (lists_of lists letter') b') c'
+      → Accounts (square_of tree b') (square_of tree c') target source → (letter' ≡ letter) × (b' ≡ b) × (c' ≡ c)
 
 -- each target and source of the list of points
 abbrev pub EachPairHasOneListed : TreeModel → EntryListsModel → Type 0
-EachPairHasOneListed tree lists = OfEachList tree (λ points cap. (target source : Point) → IsTargetAndSource points target source → HasOneListed tree lists target source)
+EachPairHasOneListed tree lists =
+    OfEachList tree (λ points cap. (target source : Point) → IsTargetAndSource points target source → HasOneListed tree lists target source)
 
 -- no V list has more than 27 cells: the parent's colleagues have 36 quarters, and 9 of them touch
 abbrev pub VListsAreShort : EntryListsModel → Type 0

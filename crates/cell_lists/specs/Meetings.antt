@@ -7,4 +7,6 @@ use Rattle.cell_lists.specs.Numbers.{OfEachList}
 
 -- each cell that is in a list of `b` was met
 abbrev pub MeetsAll : TreeModel → ℕ → List ℕ → Type 0
-MeetsAll tree b met = OfEachList tree (λ points cap. (letter : Letter) (c : ℕ) → c < size tree → IsEntry tree.grid points cap letter (square_of tree b) (square_of tree c) → Contains met c)
+MeetsAll tree b met =
+    OfEachList tree (λ points cap.
+    (letter : Letter) (c : ℕ) → c < size tree → IsEntry tree.grid points cap letter (square_of tree b) (square_of tree c) → Contains met c)

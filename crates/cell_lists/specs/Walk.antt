@@ -22,4 +22,5 @@ IsEntryOf tree entry = OfEachList tree (λ points cap. IsEntry tree.grid points 
 -- no other entry accounts for a target and a source that two leaves of the tree hold
 abbrev pub IsOnlyEntry : TreeModel → ℕ → ℕ → Entry → Type 0
 IsOnlyEntry tree b c entry =
-    OfEachList tree (λ points cap. NoOtherFor tree.grid points cap (square_of tree b) (square_of tree c) entry.letter (square_of tree entry.b) (square_of tree entry.c))
+    OfEachList tree (λ points cap.
+    NoOtherFor tree.grid points cap (square_of tree b) (square_of tree c) entry.letter (square_of tree entry.b) (square_of tree entry.c))

@@ -18,14 +18,16 @@ pub record IsChild (tree : TreeModel) (n c : ℕ) : Type 0 where
 pub record IsColleague (tree : TreeModel) (b c : ℕ) : Type 0 where
   pub in_range : c < size tree
   pub touch : Touches (square_of tree b) (square_of tree c)
-  pub reached : ((square_of tree c).level ≡ (square_of tree b).level) ⊎ (IsTrue (node_of tree c).is_leaf × ((square_of tree c).level < (square_of tree b).level))
+  pub reached : ((square_of tree c).level ≡ (square_of tree b).level)
+      ⊎ (IsTrue (node_of tree c).is_leaf × ((square_of tree c).level < (square_of tree b).level))
 
 -- `c` is of the level of `b` and their parents touch, or it is a leaf above `b` that touches the parent of `b`
 pub record IsAround (tree : TreeModel) (b c : ℕ) : Type 0 where
   pub in_range : c < size tree
   pub below_root : 0 < (square_of tree b).level
   pub reached :
-      (((square_of tree c).level ≡ (square_of tree b).level) × Touches (parent (square_of tree b)) (parent (square_of tree c))) ⊎ (IsTrue (node_of tree c).is_leaf × ((square_of tree c).level < (square_of tree b).level) × Touches (parent (square_of tree b)) (square_of tree c))
+      (((square_of tree c).level ≡ (square_of tree b).level) × Touches (parent (square_of tree b)) (parent (square_of tree c)))
+      ⊎ (IsTrue (node_of tree c).is_leaf × ((square_of tree c).level < (square_of tree b).level) × Touches (parent (square_of tree b)) (square_of tree c))
 
 -- `c` is deeper than `b`, and its parent touches `b`
 pub record IsBelow (tree : TreeModel) (b c : ℕ) : Type 0 where
@@ -70,7 +72,8 @@ pub record AddsChildren (tree : TreeModel) (b start end : ℕ) (was now : List �
   pub more : List ℕ
   pub grown : now ≡ was ++ more
   pub numbers : AreNumbers tree now
-  pub added : (k c : ℕ) → start ≤ k → k < end → Touches (square_of tree (slice_index was k)) (square_of tree b) → IsChild tree (slice_index was k) c → Contains more c
+  pub added : (k c : ℕ) → start ≤ k → k < end → Touches (square_of tree (slice_index was k)) (square_of tree b)
+      → IsChild tree (slice_index was k) c → Contains more c
 
 -- the walk below `b` has come to a level: what it met stays, the last met cells are those of the level that touch `b`, and all above are met
 pub record MeetsBelow (tree : TreeModel) (b level start : ℕ) (was now : List ℕ) : Type 0 where

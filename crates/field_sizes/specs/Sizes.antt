@@ -17,7 +17,8 @@ use Rattle.tree_field.specs.Lists.{TreeLists, AreTreeLists}
 abbrev pub EntriesShareNoSource : Type 0
 EntriesShareNoSource =
     (grid : ℕ) (points : List Point) (cap : ℕ) (lists : TreeLists) → 0 < grid → AreInGrid grid points → AreTreeLists grid points cap lists
-    → (letter : Letter) (b : Square) → IsTreeCell grid points cap b → (w : Point → ℕ) → sum_by (λ c. sum_by w (sources_in points c)) (lists.entries letter b) ≤ sum_by w points
+    → (letter : Letter) (b : Square) → IsTreeCell grid points cap b → (w : Point → ℕ)
+    → sum_by (λ c. sum_by w (sources_in points c)) (lists.entries letter b) ≤ sum_by w points
 
 -- points in a grid that are not too heavy together for it, and the lists of their tree
 pub record IsLimited (points : List Point) (cap : ℕ) (lists : TreeLists) : Type 0 where
@@ -36,12 +37,18 @@ pub record RowsWithin (points : List Point) (cap P : ℕ) (lists : TreeLists) (c
   pub local : RowWithin P (most_local lists.grid) (local_row points cap P lists c)
 
 abbrev pub RowSizes : Type 0
-RowSizes = (points : List Point) (cap P : ℕ) (lists : TreeLists) → IsOrder P → IsLimited points cap lists → (c : Square) → IsTreeCell lists.grid points cap c → RowsWithin points cap P lists c
+RowSizes =
+    (points : List Point) (cap P : ℕ) (lists : TreeLists) → IsOrder P → IsLimited points cap lists
+    → (c : Square) → IsTreeCell lists.grid points cap c → RowsWithin points cap P lists c
 
 -- the radius of a cell
 abbrev pub RadiusSizes : Type 0
-RadiusSizes = (points : List Point) (cap P : ℕ) (lists : TreeLists) → IsOrder P → IsLimited points cap lists → (c : Square) → IsTreeCell lists.grid points cap c → local_radius points cap P lists c ≤ 2 ^ 48 * most_weight lists.grid
+RadiusSizes =
+    (points : List Point) (cap P : ℕ) (lists : TreeLists) → IsOrder P → IsLimited points cap lists → (c : Square)
+    → IsTreeCell lists.grid points cap c → local_radius points cap P lists c ≤ 2 ^ 48 * most_weight lists.grid
 
 -- the boxes of the targets
 abbrev pub BoxSizes : Type 0
-BoxSizes = (points : List Point) (cap P : ℕ) (lists : TreeLists) → IsOrder P → IsLimited points cap lists → All (λ t. BoxEndsWithin (most_box lists.grid) (target_box points cap P lists (place t))) (targets points)
+BoxSizes =
+    (points : List Point) (cap P : ℕ) (lists : TreeLists) → IsOrder P → IsLimited points cap lists
+    → All (λ t. BoxEndsWithin (most_box lists.grid) (target_box points cap P lists (place t))) (targets points)

@@ -11,6 +11,7 @@ use Rattle.near_field.specs.Pair.{is_at, term_of}
 abbrev pub acts_on : Gaussian → Point → Bool
 acts_on t p = is_source p.kind && not (is_at t p)
 
--- the sum of a/(t - z) over the charges, vortices and poles and of b/(t - z)^2 over the dipoles that act on t, in the order of the list, as a fraction of whole numbers
+-- the sum of a/(t - z) over the charges, vortices and poles and of b/(t - z)^2 over the dipoles that act on t,
+-- in the order of the list, as a fraction of whole numbers
 abbrev pub direct_sum : Gaussian → List Point → ComplexRatio
 direct_sum t points = sum_terms (term_of t) (filter (acts_on t) points)

@@ -38,7 +38,8 @@ strength_of (Pole re im) = re ∷ im ∷ []
 abbrev pub numbers_of : Point → List ℤ
 numbers_of p = p.x ∷ p.y ∷ strength_of p.kind
 
--- The line, without its line feed, is that of the point p in a text of this version: the name of a kind of the version, a space, and the numbers. They may have any number of digits.
+-- The line, without its line feed, is that of the point p in a text of this version:
+-- the name of a kind of the version, a space, and the numbers. They may have any number of digits.
 pub record LineSpells (version : ℕ) (line : List ℕ) (p : Point) : Type 0 where
   pub kind : IsKindOf (grid_of version) p.kind
   pub numbers : List ℕ

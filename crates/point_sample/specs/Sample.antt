@@ -10,7 +10,8 @@ use Rattle.points.specs.declared.Point.{Point}
 use Rattle.points.specs.declared.Points.{Points}
 use Rattle.point_sample.specs.Generator.{draw, state_after}
 
--- A coordinate from the low end of the grid of version 1 on. At scale 0 it may be anywhere on the side of the grid, and each scale leaves a quarter of the one before.
+-- A coordinate from the low end of the grid of version 1 on.
+-- At scale 0 it may be anywhere on the side of the grid, and each scale leaves a quarter of the one before.
 abbrev pub coordinate : ℕ → ℕ → ℤ
 coordinate r scale = pos (r / 4 ^ scale) -ℤ pos (half first_grid)
 
@@ -23,9 +24,11 @@ abbrev pub kind_of : ℕ → ℕ → ℕ → Kind
 kind_of choice r s =
     if nat_lt (choice % 4) 2 then Charge (component 1000 r) else (if choice % 4 == 2 then Dipole (component 100 r) (component 100 s) else Target)
 
--- The point of the next five draws from the state x: two for the place, one for the scale and the kind, and two for the strength. The lowest two bits of the third draw choose the kind, and the two bits above them are the scale.
+-- The point of the next five draws from the state x: two for the place, one for the scale and the kind, and two for the strength.
+-- The lowest two bits of the third draw choose the kind, and the two bits above them are the scale.
 unfoldable pub next_point : ℕ → Point
-next_point x = record { x = coordinate (draw x 1) (draw x 3 / 4 % 4); y = coordinate (draw x 2) (draw x 3 / 4 % 4); kind = kind_of (draw x 3) (draw x 4) (draw x 5) }
+next_point x =
+    record { x = coordinate (draw x 1) (draw x 3 / 4 % 4); y = coordinate (draw x 2) (draw x 3 / 4 % 4); kind = kind_of (draw x 3) (draw x 4) (draw x 5) }
 
 -- The sample of a seed, a field list of version 1 with n points: five draws were taken for each point before the point number k, counted from 0.
 abbrev pub sample : ℕ → ℕ → Points

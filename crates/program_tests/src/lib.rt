@@ -17,3 +17,5 @@ mod texts;
 mod trees;
 #[cfg(test)]
 mod versions;
+#[cfg(test)]
+mod wide;

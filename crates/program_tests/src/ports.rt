@@ -45,7 +45,7 @@ fn sink_of(alloc: Global, step: usize, failing: &[u64]) -> Result<MemSink, Fail>
     requires { 0 < step }
 {
     let failing = Vec::from_slice(alloc, failing)?;
-    Ok(MemSink::with_room(alloc, 4096, step, failing)?)
+    Ok(MemSink::with_room(alloc, 4_194_304, step, failing)?)
 }
 
 /// The sink holds these bytes.

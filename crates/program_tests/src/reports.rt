@@ -8,18 +8,18 @@ use std::test::Fail;
 
 /// What is known of a report.
 #[derive(Clone, Copy)]
-struct Report<'a> {
-    order: &'a str,
-    cap: &'a str,
+pub struct Report<'a> {
+    pub order: &'a str,
+    pub cap: &'a str,
     /// Lines with their numbers from 0: the first two, that of a target with entries of all four letters, and the last
     /// three.
-    lines: &'a [(usize, &'a str)],
+    pub lines: &'a [(usize, &'a str)],
     /// How many lines and bytes it has.
-    size: (usize, usize),
+    pub size: (usize, usize),
 }
 
 /// The report has these lines and this size.
-fn is_report(rt: &impl Abort, bytes: &[u8], known: &Report<'_>) -> Result<(), Fail> {
+pub fn is_report(rt: &impl Abort, bytes: &[u8], known: &Report<'_>) -> Result<(), Fail> {
     let text = str::from_utf8(bytes)?;
     for &(number, line) in known.lines {
         assert_eq!(rt; text.lines().nth(number), Some(line));

@@ -28,11 +28,14 @@ FullBoard = (P : ℕ) (b : BoardParts) → IsBoard P b → IsFull b → HoldsWho
 
 -- what the multipole rows and the local rows of all cells take together, and the boxes of all targets: the translations and pairs of the field
 pub record TakesWorkOfField (b : BasisModel) (lists : TreeLists) : Type 0 where
-  pub translations_are : sum_by (shifts_into b.points b.tree) (range_with_len 0 (size b.tree)) + sum_by (translations_into b) (range_with_len 0 (size b.tree)) ≡ translations b.points lists
+  pub translations_are : sum_by (shifts_into b.points b.tree) (range_with_len 0 (size b.tree))
+      + sum_by (translations_into b) (range_with_len 0 (size b.tree)) ≡ translations b.points lists
   pub pairs_are : sum_by (pairs_of_target b) (range_with_len 0 (length b.targets)) ≡ pairs b.points lists
 
 abbrev pub FullWork : Type 0
-FullWork = (P : ℕ) (b : BoardParts) (lists : TreeLists) → IsBoard P b → AreTreeLists b.basis.tree.grid b.basis.points b.basis.cap lists → TakesWorkOfField b.basis lists
+FullWork =
+    (P : ℕ) (b : BoardParts) (lists : TreeLists) → IsBoard P b
+    → AreTreeLists b.basis.tree.grid b.basis.points b.basis.cap lists → TakesWorkOfField b.basis lists
 
 -- what a place needs is a place of the board
 abbrev pub NeedsAreNames : Type 0

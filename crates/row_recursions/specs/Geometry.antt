@@ -38,7 +38,8 @@ FarPlaces = (b c : Square) (x y : ℤ) → b.grid ≡ c.grid → b.level ≤ c.l
 -- a quarter of a cell has half its side, and its centre lies half of that away in both directions
 pub record IsQuarter (c : Square) (right top : ℕ) : Type 0 where
   pub half : side c ≡ 2 * side (child c right top)
-  pub centre : doubled_centre (child c right top) ≡ add_gaussian (doubled_centre c) (scale_gaussian (side (child c right top)) (gaussian (quarter_sign right) (quarter_sign top)))
+  pub centre : doubled_centre (child c right top)
+      ≡ add_gaussian (doubled_centre c) (scale_gaussian (side (child c right top)) (gaussian (quarter_sign right) (quarter_sign top)))
 
 abbrev pub QuartersOfCells : Type 0
 QuartersOfCells = (c : Square) (right top : ℕ) → right ≤ 1 → top ≤ 1 → c.level < c.grid → IsQuarter c right top

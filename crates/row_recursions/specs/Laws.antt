@@ -19,7 +19,8 @@ NoMoments = (P s : ℕ) (c : Gaussian) → HoldsMoments P s c [] (λ k. zero_box
 
 -- one source
 abbrev pub SourceMoments : Type 0
-SourceMoments = (P s : ℕ) (c : Gaussian) (x : Source) → 1 ≤ s → HoldsMoments P s c (x ∷ []) (source_moment s (pole_of x) (dipole_of x) (doubled_offset x.place c))
+SourceMoments =
+    (P s : ℕ) (c : Gaussian) (x : Source) → 1 ≤ s → HoldsMoments P s c (x ∷ []) (source_moment s (pole_of x) (dipole_of x) (doubled_offset x.place c))
 
 -- the sources of two rows about one centre
 abbrev pub SumOfMoments : Type 0
@@ -48,7 +49,8 @@ SumOfFields = (P s : ℕ) (b : Gaussian) (f g : Gaussian → ComplexRatio) (m n 
 
 -- a field has one list of coefficients, whatever rows hold it
 abbrev pub OneField : Type 0
-OneField = (P s : ℕ) (b : Gaussian) (field : Gaussian → ComplexRatio) (m n : ℕ → BoxEnds) → 1 ≤ s → (h : HoldsField P s b field m) (k : HoldsField P s b field n)
+OneField =
+    (P s : ℕ) (b : Gaussian) (field : Gaussian → ComplexRatio) (m n : ℕ → BoxEnds) → 1 ≤ s → (h : HoldsField P s b field m) (k : HoldsField P s b field n)
     → (l : ℕ) → l < P → SameComplex (h.coefficient l) (k.coefficient l)
 
 -- from the row of a cell to a cell of its side e sides away: the cut terms of its sources, which are written in e and in the offsets from both centres

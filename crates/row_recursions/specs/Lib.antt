@@ -1,4 +1,5 @@
--- What contracts rest on: the rounded recursions on rows, the exact moments and fields that rows stand for, the laws between them, and the words for points and cells.
+-- What contracts rest on: the rounded recursions on rows, the exact moments and fields that rows stand for,
+-- the laws between them, and the words for points and cells.
 pub mod Cells
 pub mod Contents
 pub mod Fields

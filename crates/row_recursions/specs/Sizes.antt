@@ -13,7 +13,8 @@ RowWithin P n m = (k : ℕ) → k < P → BoxEndsWithin n (m k)
 
 -- the moments of a source in its cell: 2^40 (|a| + k |b|)
 abbrev pub MomentSizes : Type 0
-MomentSizes = (s : ℕ) (a b o : Gaussian) (k : ℕ) → 1 ≤ s → GaussianWithin s o → BoxEndsWithin (2 ^ 40 * (abs_gaussian a + k * abs_gaussian b)) (source_moment s a b o k)
+MomentSizes =
+    (s : ℕ) (a b o : Gaussian) (k : ℕ) → 1 ≤ s → GaussianWithin s o → BoxEndsWithin (2 ^ 40 * (abs_gaussian a + k * abs_gaussian b)) (source_moment s a b o k)
 
 -- a row shifted up
 abbrev pub UpSizes : Type 0
@@ -21,11 +22,14 @@ UpSizes = (P n : ℕ) (q : Gaussian) (m : ℕ → BoxEnds) → GaussianWithin 1 
 
 -- the contribution of a far source: 2^40 (|a| + (l + 1) |b|)
 abbrev pub FarSizes : Type 0
-FarSizes = (s : ℕ) (a b zeta : Gaussian) (l : ℕ) → 1 ≤ s → GaussianBeyond (3 * s) zeta → BoxEndsWithin (2 ^ 40 * (abs_gaussian a + suc l * abs_gaussian b)) (far_source s a b zeta l)
+FarSizes =
+    (s : ℕ) (a b zeta : Gaussian) (l : ℕ) → 1 ≤ s → GaussianBeyond (3 * s) zeta
+    → BoxEndsWithin (2 ^ 40 * (abs_gaussian a + suc l * abs_gaussian b)) (far_source s a b zeta l)
 
 -- the contribution of a row to that of a cell 2 or 3 sides away: half as much again
 abbrev pub ConvertedSizes : Type 0
-ConvertedSizes = (P n : ℕ) (e : Gaussian) (m : ℕ → BoxEnds) → P ≤ 32 → IsKernelDistance e → RowWithin P (2 * n) m → RowWithin P (3 * n) (converted P (kernel_entry e) m)
+ConvertedSizes =
+    (P n : ℕ) (e : Gaussian) (m : ℕ → BoxEnds) → P ≤ 32 → IsKernelDistance e → RowWithin P (2 * n) m → RowWithin P (3 * n) (converted P (kernel_entry e) m)
 
 -- a row shifted down
 abbrev pub DownSizes : Type 0
@@ -37,4 +41,6 @@ LocalValueSizes = (P n s : ℕ) (o : Gaussian) (m : ℕ → BoxEnds) → 1 ≤ s
 
 -- the value of a multipole row at a far place
 abbrev pub MultipoleValueSizes : Type 0
-MultipoleValueSizes = (P n s : ℕ) (zeta : Gaussian) (m : ℕ → BoxEnds) → 1 ≤ s → GaussianBeyond (3 * s) zeta → RowWithin P n m → BoxEndsWithin (P * n) (multipole_value P m s zeta)
+MultipoleValueSizes =
+    (P n s : ℕ) (zeta : Gaussian) (m : ℕ → BoxEnds) → 1 ≤ s → GaussianBeyond (3 * s) zeta
+    → RowWithin P n m → BoxEndsWithin (P * n) (multipole_value P m s zeta)

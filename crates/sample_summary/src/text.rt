@@ -27,7 +27,8 @@ const TEXT: usize = 512;
 /// `sample SEED N order P cap CAP`
 fn prepend_sample(text: &mut FrontText<TEXT>, seed: u32, n: u64, order: u64, cap: u32)
     requires { 101 + length text.old ≤ TEXT }
-    ensures { text.new ≡ codes "sample " ++ decimal seed ++ codes " " ++ decimal n ++ codes " order " ++ decimal order ++ codes " cap " ++ decimal cap ++ codes "\n" ++ text.old }
+    ensures { text.new ≡ codes "sample " ++ decimal seed ++ codes " " ++ decimal n
+        ++ codes " order " ++ decimal order ++ codes " cap " ++ decimal cap ++ codes "\n" ++ text.old }
 {
     text.prepend(b'\n');
     text.prepend_decimal(u64::from(cap));
@@ -74,8 +75,10 @@ fn prepend_tree(text: &mut FrontText<TEXT>, tree: &Tree)
 /// `lists u NU v NV w NW x NX`
 fn prepend_lists(text: &mut FrontText<TEXT>, lists: &EntryLists)
     requires { 98 + length text.old ≤ TEXT }
-    ensures text { text.new ≡ codes "lists u " ++ decimal (sum_by (λ list. length list) (lists_of lists.now U)) ++ codes " v " ++ decimal (sum_by (λ list. length list) (lists_of lists.now V))
-        ++ codes " w " ++ decimal (sum_by (λ list. length list) (lists_of lists.now W)) ++ codes " x " ++ decimal (sum_by (λ list. length list) (lists_of lists.now X)) ++ codes "\n" ++ text.old }
+    ensures text { text.new ≡ codes "lists u " ++ decimal (sum_by (λ list. length list) (lists_of lists.now U))
+        ++ codes " v " ++ decimal (sum_by (λ list. length list) (lists_of lists.now V))
+        ++ codes " w " ++ decimal (sum_by (λ list. length list) (lists_of lists.now W))
+        ++ codes " x " ++ decimal (sum_by (λ list. length list) (lists_of lists.now X)) ++ codes "\n" ++ text.old }
     ensures length { length text.new ≤ 98 + length text.old }
 {
     text.prepend(b'\n');

@@ -26,4 +26,5 @@ ContainsField P points lists c row = HoldsField P (side c) (doubled_centre c) (l
 pub record RowsContain (points : List Point) (P : ℕ) (f : FieldParts) : Type 0 where
   pub moments : (n : ℕ) → n < size f.basis.tree → ContainsMoments P points (square_of f.basis.tree n) (place_at f.up n).row
   pub fields : OfTreeLists f.basis.tree.grid points f.basis.cap (λ lists.
-      (n : ℕ) → n < size f.basis.tree → IsTrue (has_target points (square_of f.basis.tree n)) → ContainsField P points lists (square_of f.basis.tree n) (place_at f.local n).row)
+      (n : ℕ) → n < size f.basis.tree → IsTrue (has_target points (square_of f.basis.tree n))
+      → ContainsField P points lists (square_of f.basis.tree n) (place_at f.local n).row)

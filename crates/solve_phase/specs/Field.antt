@@ -19,7 +19,8 @@ pub record IsFieldOver (points : List Point) (cap P : ℕ) (lists : TreeLists) (
   pub few : f.translations ≤ sum_by (λ b. length (lists.entries V b)) lists.cells + 2 * length lists.cells
   pub pairs_are : f.pairs ≡ pairs points lists
 
--- the field of the points with a leaf capacity at an order: the tree is theirs, all rows and radii are those of the field, and so are boxes and counts over the lists of the tree
+-- the field of the points with a leaf capacity at an order:
+-- the tree is theirs, all rows and radii are those of the field, and so are boxes and counts over the lists of the tree
 pub record IsSolved (points : List Point) (cap P : ℕ) (f : FieldParts) : Type 0 where
   pub order : IsOrder P
   pub points_are : f.basis.points ≡ points

@@ -20,4 +20,6 @@ pub record HoldsSame (P : ℕ) (b : BoardParts) (f : FieldParts) : Type 0 where
 
 -- a board and a field of the same points with the same capacity, order and grid
 abbrev pub FullBoardIsSolved : Type 0
-FullBoardIsSolved = (P : ℕ) (b : BoardParts) (f : FieldParts) → IsBoard P b → IsFull b → IsSolved b.basis.points b.basis.cap P f → f.basis.tree.grid ≡ b.basis.tree.grid → HoldsSame P b f
+FullBoardIsSolved =
+    (P : ℕ) (b : BoardParts) (f : FieldParts) → IsBoard P b → IsFull b → IsSolved b.basis.points b.basis.cap P f
+    → f.basis.tree.grid ≡ b.basis.tree.grid → HoldsSame P b f

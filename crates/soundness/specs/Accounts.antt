@@ -14,7 +14,8 @@ pub record LeafSource : Type 0 where
   pub point : Point
   pub leaf : ℕ
 
--- A target's place, the node it stands in, and its box. In the field of a list this node is a leaf, as its name says; the rules (`TargetStands`) allow any that has the place.
+-- A target's place, the node it stands in, and its box. In the field of a list this node is a leaf, as its name says;
+-- the rules (`TargetStands`) allow any that has the place.
 pub record LeafTarget : Type 0 where
   pub place : Gaussian
   pub leaf : ℕ

@@ -1,4 +1,5 @@
--- The rules of an accounting: each multipole row, each local row and radius of a node with a target under it, and each box includes what the method computes from the others that are
+-- The rules of an accounting: each multipole row, each local row and radius of a node with a target under it,
+-- and each box includes what the method computes from the others that are
 -- given, each V, W and X entry has its places apart, and each source is accounted for exactly once at each target.
 use Rattle.std.specs.Prelude.{ℕ, ◌≡◌, ◌<◌, ◌≤◌, true, false, All}
 use Rattle.std.specs.List.{count_by}

@@ -17,4 +17,6 @@ RulesImplyContainment = (P : ℕ) (A : Accounting) → 2 ≤ P → Rules P A →
 
 -- and so counts that enclose the box of a target contain it
 abbrev pub RulesImplyCounts : Type 0
-RulesImplyCounts = (P : ℕ) (A : Accounting) → 2 ≤ P → Rules P A → All (λ t. (re im : Ends) → EncloseBox t.box re im → CountsHold re im (direct_sum t.place (points_of A.sources))) A.targets
+RulesImplyCounts =
+    (P : ℕ) (A : Accounting) → 2 ≤ P → Rules P A
+    → All (λ t. (re im : Ends) → EncloseBox t.box re im → CountsHold re im (direct_sum t.place (points_of A.sources))) A.targets

@@ -1,4 +1,5 @@
--- What the sources, the children and the entries of a cell add to its rows, to its radius and to the box of a place, at order P: one sum each, for whatever names them, with their
+-- What the sources, the children and the entries of a cell add to its rows, to its radius and to the box of a place, at order P:
+-- one sum each, for whatever names them, with their
 -- rows, cells, sources and weights given. The field is the recursion of these sums over a tree, and the rules of an accounting include them.
 use Rattle.std.specs.Prelude.{ℕ, ◌+◌, List, fold, sum_by}
 use Rattle.exact_math.specs.Ends.{BoxEnds, zero_box, add_box}
@@ -55,6 +56,7 @@ module _ {E : Type 0} (cell : E → Square) (row : E → ℕ → BoxEnds) where
     abbrev pub w_values : Gaussian → List E → BoxEnds
     w_values z es = total_box (λ e. multipole_value P (row e) (side (cell e)) (offset (cell e) z)) es
 
--- ---- the radius of a local row, in units of 2^-40: the parent's, and what the V and the X entries of a cell of the side s can lose by the weights of their sources
+-- ---- the radius of a local row, in units of 2^-40
+-- the parent's, and what the V and the X entries of a cell of the side s can lose by the weights of their sources
 abbrev pub radius_of : {E : Type 0} → ℕ → (E → ℕ) → ℕ → ℕ → List E → List E → ℕ
 radius_of P weight s above vs xs = above + (sum_by (λ e. pair_loss P (weight e) s) vs + sum_by (λ e. single_loss P (weight e) s) xs)

@@ -1,4 +1,5 @@
--- The field of a list as an accounting, as its certificate has it: its cells by their numbers in the list of cells, its sources and targets with their leaves, its entries, rows, radii
+-- The field of a list as an accounting, as its certificate has it:
+-- its cells by their numbers in the list of cells, its sources and targets with their leaves, its entries, rows, radii
 -- and boxes.
 use Rattle.std.specs.Prelude.{ℕ, suc, Bool, cond, ◌&&◌, ◌==◌, nat_lt, List, [], ◌∷◌, ◌++◌, length, map, filter, slice_index_or}
 use Rattle.std.specs.List.{flat_map}

@@ -18,4 +18,6 @@ FieldContains = (grid : ℕ) (points : List Point) (cap P : ℕ) (lists : TreeLi
 
 -- the field's accounting meets the rules, at each order
 abbrev pub FieldMeetsRules : Type 0
-FieldMeetsRules = (grid : ℕ) (points : List Point) (cap P : ℕ) (lists : TreeLists) → 0 < grid → AreInGrid grid points → AreTreeLists grid points cap lists → Rules P (accounting grid points cap P lists)
+FieldMeetsRules =
+    (grid : ℕ) (points : List Point) (cap P : ℕ) (lists : TreeLists) → 0 < grid → AreInGrid grid points
+    → AreTreeLists grid points cap lists → Rules P (accounting grid points cap P lists)

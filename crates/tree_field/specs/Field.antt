@@ -1,4 +1,5 @@
--- The field of the method: rows and radii of the cells of the tree, and the box of each target. Rows and boxes count units of 2^-40; a row is a function of its index.
+-- The field of the method: rows and radii of the cells of the tree, and the box of each target.
+-- Rows and boxes count units of 2^-40; a row is a function of its index.
 use Rattle.std.specs.Prelude.{ℕ, zero, suc, ◌+◌, ◌-◌, pos, not, cond, List, map, filter, sum_by}
 use Rattle.exact_math.specs.Ends.{BoxEnds, zero_box, add_box, widen_box}
 use Rattle.exact_math.specs.Gaussian.{Gaussian}
@@ -61,7 +62,8 @@ module _ (points : List Point) where
 
     -- ---- what the entries bring
     module _ (P : ℕ) (lists : TreeLists) where
-      -- the local row of a cell of a level: nothing at the root, and below it the parent's brought down, the rows of the V entries converted, and the sources of the X entries
+      -- the local row of a cell of a level: nothing at the root, and below it the parent's brought down,
+      -- the rows of the V entries converted, and the sources of the X entries
       unfoldable pub local_at_level : ℕ → Square → ℕ → BoxEnds
       local_at_level zero b k = zero_box
       local_at_level (suc level) b k =
@@ -79,7 +81,8 @@ module _ (points : List Point) where
       abbrev pub local_radius : Square → ℕ
       local_radius b = radius_at_level b.level b
 
-      -- the box of a place in the leaf b: the value of its local row, the values of the rows of its W entries and the pairs of its U entries, widened by what all entries can lose
+      -- the box of a place in the leaf b: the value of its local row, the values of the rows of its W entries and the pairs of its U entries,
+      -- widened by what all entries can lose
       abbrev pub box_in : Square → Gaussian → BoxEnds
       box_in b z =
           let value = local_value P (local_row b) (side b) (offset b z) in

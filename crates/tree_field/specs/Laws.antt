@@ -17,7 +17,9 @@ use Rattle.tree_field.specs.Work.{translations}
 
 -- of a cell with no more points than a leaf may have, or of the last level
 abbrev pub LeafRows : Type 0
-LeafRows = (points : List Point) (cap : ℕ) (c : Square) → (count_in points c ≤ cap) ⊎ (c.grid ≤ c.level) → (k : ℕ) → multipole_row points cap c k ≡ leaf_row points c k
+LeafRows =
+    (points : List Point) (cap : ℕ) (c : Square) → (count_in points c ≤ cap) ⊎ (c.grid ≤ c.level)
+    → (k : ℕ) → multipole_row points cap c k ≡ leaf_row points c k
 
 -- of another cell: its quarters' that have a source, shifted up
 abbrev pub InnerRows : Type 0
@@ -38,7 +40,8 @@ RootRadius = (points : List Point) (cap P : ℕ) (lists : TreeLists) (b : Square
 
 abbrev pub Radii : Type 0
 Radii = (points : List Point) (cap P : ℕ) (lists : TreeLists) (b : Square) → 0 < b.level
-    → local_radius points cap P lists b ≡ radius_of P (weight_in points P) (side b) (local_radius points cap P lists (parent b)) (lists.entries V b) (lists.entries X b)
+    → local_radius points cap P lists b
+    ≡ radius_of P (weight_in points P) (side b) (local_radius points cap P lists (parent b)) (lists.entries V b) (lists.entries X b)
 
 -- each list of points within a grid has a tree with its entries
 abbrev pub EachListHasTree : Type 0
@@ -51,4 +54,5 @@ OneTree = (grid : ℕ) (points : List Point) (cap : ℕ) (these others : TreeLis
 
 -- the translations are at most the V entries and twice the cells
 abbrev pub TranslationsAreFew : Type 0
-TranslationsAreFew = (points : List Point) (lists : TreeLists) → translations points lists ≤ sum_by (λ b. length (lists.entries V b)) lists.cells + 2 * length lists.cells
+TranslationsAreFew =
+    (points : List Point) (lists : TreeLists) → translations points lists ≤ sum_by (λ b. length (lists.entries V b)) lists.cells + 2 * length lists.cells

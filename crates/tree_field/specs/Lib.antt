@@ -1,4 +1,5 @@
--- What contracts cite: the lists of a tree, the field of the method over them, its accounting, that this meets the rules and so the boxes contain the direct sum, and the counts of
+-- What contracts cite: the lists of a tree, the field of the method over them, its accounting,
+-- that this meets the rules and so the boxes contain the direct sum, and the counts of
 -- translations and pairs.
 pub mod Accounting
 pub mod Contains
