@@ -1,7 +1,7 @@
 -- The entries of the four lists, as predicates over pairs of cells of the tree, and what an entry accounts for.
-use Rattle.std.specs.Prelude.{ℕ, ◌≡◌, ◌<◌, ◌≤◌, List, Contains, IsTrue}
+use Rattle.std.specs.Prelude.{ℕ, ◌≡◌, ◌<◌, ◌≤◌, List, Contains, IsTrue, not}
 use Rattle.points.specs.declared.Point.{Point}
-use Rattle.points.specs.Points.{IsTarget, IsSource}
+use Rattle.points.specs.Points.{is_source}
 use Rattle.cell_name.specs.Square.{Square, parent, Holds, Touches}
 use Rattle.quadtree.specs.Tree.{IsTreeCell, IsLeaf, AreInGrid, has_target, has_source}
 use Rattle.letters.specs.declared.Letter.{Letter}
@@ -61,9 +61,9 @@ pub record HasOneEntry (grid : ℕ) (points : List Point) (cap : ℕ) (target so
 -- a target and a source of the list
 pub record IsTargetAndSource (points : List Point) (target source : Point) : Type 0 where
   pub target_listed : Contains points target
-  pub is_target : IsTarget target.kind
+  pub is_target : IsTrue (not (is_source target.kind))
   pub source_listed : Contains points source
-  pub is_source : IsSource source.kind
+  pub is_source : IsTrue (is_source source.kind)
 
 -- no other entry than the one named accounts for what the leaves `b` and `c` hold
 abbrev pub NoOtherFor : ℕ → List Point → ℕ → Square → Square → Letter → Square → Square → Type 0

@@ -26,7 +26,7 @@ use Rattle.tree_field.specs.Lists.{TreeLists, AreTreeLists}
 use Rattle.tree_field.specs.Work.{translations, pairs}
 use Rattle.report_lines.specs.Counts.{target_counts}
 use Rattle.field_report.specs.FieldText.{field_line, field_text, target_text}
-use Rattle.report_lines.specs.Report.{report_head, target_line, work_line, last_lines}
+use Rattle.report_lines.specs.Report.{report_head, target_line, work_line}
 use Rattle.field_report.proofs.Pieces.{AppendsPrefix-then, AppendsPrefix-front, Writes-then}
 
 targets-append : (xs ys : List Point) → targets (xs ++ ys) ≡ targets xs ++ targets ys
@@ -167,23 +167,23 @@ of-same mode grid list points limit cap P lists F e k h =
 
 -- ---- the whole report, in three pieces
 module _ (points : Points) (order cap : ℕ) (lists : TreeLists) (made summed : ℕ) (made_is : made ≡ translations points.list lists) (summed_is : summed ≡ pairs points.list lists) where
-  whole : report_head points.mode order cap ++ (target_text points.mode points.list cap order lists points.list ++ last_lines made summed) ≡ field_text points order cap lists
+  whole : report_head points.mode order cap ++ (target_text points.mode points.list cap order lists points.list ++ (work_line made summed ++ codes "end\n")) ≡ field_text points order cap lists
   whole =
-      ap₂ (λ m n. report_head points.mode order cap ++ (target_text points.mode points.list cap order lists points.list ++ last_lines m n)) made_is summed_is
+      ap₂ (λ m n. report_head points.mode order cap ++ (target_text points.mode points.list cap order lists points.list ++ (work_line m n ++ codes "end\n"))) made_is summed_is
       ∙ sym (append_assoc (report_head points.mode order cap) _ _)
       ∙ sym (append_assoc (report_head points.mode order cap ++ target_text points.mode points.list cap order lists points.list) (work_line (translations points.list lists) (pairs points.list lists)) (codes "end\n"))
 
   pub head-exit : (before after : Option (List ℕ)) → AppendsPrefix before after (report_head points.mode order cap) → AppendsPrefix before after (field_text points order cap lists)
-  head-exit before after p = subst (AppendsPrefix before after) whole (AppendsPrefix-front before after (report_head points.mode order cap) (target_text points.mode points.list cap order lists points.list ++ last_lines made summed) p)
+  head-exit before after p = subst (AppendsPrefix before after) whole (AppendsPrefix-front before after (report_head points.mode order cap) (target_text points.mode points.list cap order lists points.list ++ (work_line made summed ++ codes "end\n")) p)
 
   pub targets-exit : (before mid after : Option (List ℕ)) → Appends before mid (report_head points.mode order cap) → AppendsPrefix mid after (target_text points.mode points.list cap order lists points.list)
       → AppendsPrefix before after (field_text points order cap lists)
   targets-exit before mid after p q = subst (AppendsPrefix before after) whole
-      (AppendsPrefix-then before mid after (report_head points.mode order cap) (target_text points.mode points.list cap order lists points.list ++ last_lines made summed) p
-      (AppendsPrefix-front mid after (target_text points.mode points.list cap order lists points.list) (last_lines made summed) q))
+      (AppendsPrefix-then before mid after (report_head points.mode order cap) (target_text points.mode points.list cap order lists points.list ++ (work_line made summed ++ codes "end\n")) p
+      (AppendsPrefix-front mid after (target_text points.mode points.list cap order lists points.list) (work_line made summed ++ codes "end\n") q))
 
   pub end-written : {T E : Type 0} (result : Result T E) (before first second after : Option (List ℕ)) → Appends before first (report_head points.mode order cap) → Appends first second (target_text points.mode points.list cap order lists points.list)
-      → Writes result second after (last_lines made summed) → Writes result before after (field_text points order cap lists)
+      → Writes result second after (work_line made summed ++ codes "end\n") → Writes result before after (field_text points order cap lists)
   end-written result before first second after p q r = subst (Writes result before after) whole
-      (Writes-then result before first after (report_head points.mode order cap) (target_text points.mode points.list cap order lists points.list ++ last_lines made summed) p
-      (Writes-then result first second after (target_text points.mode points.list cap order lists points.list) (last_lines made summed) q r))
+      (Writes-then result before first after (report_head points.mode order cap) (target_text points.mode points.list cap order lists points.list ++ (work_line made summed ++ codes "end\n")) p
+      (Writes-then result first second after (target_text points.mode points.list cap order lists points.list) (work_line made summed ++ codes "end\n") q r))

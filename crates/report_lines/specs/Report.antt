@@ -45,11 +45,7 @@ report_head mode order cap = codes "fmm report 1 " ++ mode_word mode ++ codes " 
 abbrev pub work_line : ℕ → ℕ → List ℕ
 work_line translations pairs = codes "work translations " ++ decimal translations ++ codes " pairs " ++ decimal pairs ++ line_feed ∷ []
 
--- the last two lines
-abbrev pub last_lines : ℕ → ℕ → List ℕ
-last_lines translations pairs = work_line translations pairs ++ codes "end\n"
-
 -- the report: its head, a line for each target in the order of the list, the counts of work, and `end`
 abbrev pub report_text : Mode → ℕ → ℕ → List TargetLine → ℕ → ℕ → List ℕ
 report_text mode order cap lines translations pairs =
-    report_head mode order cap ++ flat_map (target_line mode) lines ++ last_lines translations pairs
+    report_head mode order cap ++ flat_map (target_line mode) lines ++ work_line translations pairs ++ codes "end\n"

@@ -1,6 +1,6 @@
 //! The first line of a report, and its last two.
-ghost use Rattle.std.specs.Prelude.{◌≡◌, ◌≤◌, length};
-ghost use Rattle.report_lines.specs.Report.{report_head, last_lines, mode_word};
+ghost use Rattle.std.specs.Prelude.{◌≡◌, ◌≤◌, ◌++◌, length, codes};
+ghost use Rattle.report_lines.specs.Report.{report_head, work_line, mode_word};
 ghost use Rattle.io_ports.specs.Bytes.{Writes};
 ghost use Rattle.io_ports.specs.Faults.{HasCause};
 
@@ -30,7 +30,7 @@ pub fn write_head<S: Sink>(mode: Mode, order: u32, cap: u32, sink: &mut S) -> Re
 ///
 /// `WriteFault` where a write failed. What was appended then is a prefix of the lines.
 pub fn write_end<S: Sink>(translations: u64, pairs: u64, sink: &mut S) -> Result<(), WriteFault>
-    ensures bytes { Writes result (S.held sink.old) (S.held sink.new) (last_lines translations pairs) }
+    ensures bytes { Writes result (S.held sink.old) (S.held sink.new) (work_line translations pairs ++ codes "end\n") }
     ensures cause { HasCause (S.faults sink.old) (S.faults sink.new) result }
 {
     let lines = end_text(translations, pairs);
@@ -65,7 +65,7 @@ fn head_text(mode: Mode, order: u32, cap: u32) -> FrontText<LINE>
 
 // The last two lines.
 fn end_text(translations: u64, pairs: u64) -> FrontText<LINE>
-    ensures { result ≡ last_lines translations pairs }
+    ensures { result ≡ (work_line translations pairs ++ codes "end\n") }
 {
     let mut lines = FrontText::new();
     lines.prepend_word(b"\nend\n");
