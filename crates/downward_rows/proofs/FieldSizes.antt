@@ -5,11 +5,11 @@ use Rattle.std.proofs.lemmas.Bool.{true≢false, cases_Bool}
 use mathlib.Core.Logic.{⊎_elim}
 use Rattle.exact_math.specs.Ends.{zero_box}
 use Rattle.complex_box.proofs.Sizes.{zero_within}
-use Rattle.field_sizes.proofs.Bounds.{radii_within}
+use Rattle.tree_field.proofs.Bounds.{radii_within}
 use Rattle.soundness.proofs.RowTotals.{wider}
 use Rattle.limits.proofs.Grids.{within_widest}
 use Rattle.limits.specs.Limits.{most_multipole, most_local, widest_grid}
-use Rattle.places.specs.Place.{PlaceModel}
+use Rattle.field_basis.specs.Place.{PlaceModel}
 use Rattle.quadtree.specs.TreeModel.{size, square_of, node_of}
 use Rattle.row_recursions.specs.Rows.{row_of}
 use Rattle.row_recursions.specs.Sizes.{RowWithin}

@@ -9,7 +9,7 @@ use Rattle.cell_lists.proofs.CellNumbers.{first_level, level_positive, parent_be
 use Rattle.cell_lists.specs.ListAt.{list_at}
 use Rattle.complex_box.specs.Counts.{Counts}
 use Rattle.complex_box.specs.declared.CBox.{CBox}
-use Rattle.places.specs.Place.{PlaceModel, no_place, place_at}
+use Rattle.field_basis.specs.Place.{PlaceModel, no_place, place_at}
 use Rattle.quadtree.specs.TreeModel.{IsTree, size, square_of, node_of}
 use Rattle.row_recursions.specs.Rows.{row_of, AreSameRows}
 use Rattle.row_recursions.specs.Sizes.{RowWithin}

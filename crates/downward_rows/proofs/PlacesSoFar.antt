@@ -3,7 +3,7 @@ use Rattle.std.proofs.Common.{ℕ, ◌+◌, ◌-◌, ◌≡◌, ◌<◌, inl, in
 use Rattle.std.proofs.lemmas.List.{set-append_right, length-set}
 use Rattle.std.specs.Prelude.{slice_set}
 use Rattle.std.proofs.lemmas.Bool.{cases_lt}
-use Rattle.places.specs.Place.{PlaceModel, OthersStay, no_place, place_at}
+use Rattle.field_basis.specs.Place.{PlaceModel, OthersStay, no_place, place_at}
 
 -- what holds of the places before n and of the one that is written there
 pub one_place_more : (Q : ℕ → PlaceModel → Type 0) (old moved : List PlaceModel) (n : ℕ) (x : PlaceModel) → n < length old → OthersStay n old moved

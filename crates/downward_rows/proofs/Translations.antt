@@ -8,7 +8,7 @@ use Rattle.std.proofs.lemmas.List.Sums.{sum_by-cons}
 use Rattle.cell_lists.proofs.CellNumbers.{first_level}
 use Rattle.cell_lists.specs.ListAt.{list_at}
 use Rattle.letters.specs.declared.Letter.TheVariants.{V}
-use Rattle.places.specs.Place.{PlaceModel, no_place, place_at, all_translations}
+use Rattle.field_basis.specs.Place.{PlaceModel, no_place, place_at, all_translations}
 use Rattle.quadtree.specs.TreeModel.{size, square_of, node_of}
 use Rattle.exact_math.proofs.Lists.{All-from_members, range_below}
 use Rattle.soundness.proofs.Sums.{sum_by-map, sum_by-same}

@@ -8,7 +8,7 @@ use Rattle.cell_name.specs.declared.cell.Cell.{Cell}
 use Rattle.cell_lists.proofs.TreeNumbers.{read_at}
 use Rattle.complex_box.specs.declared.CBox.{CBox}
 use Rattle.kernel_table.specs.Kernel.{kernel_entry}
-use Rattle.places.specs.Place.{PlaceModel, no_place, place_at}
+use Rattle.field_basis.specs.Place.{PlaceModel, no_place, place_at}
 use Rattle.quadtree.specs.TreeModel.{TreeModel, size, square_of}
 use Rattle.row_recursions.specs.Rows.{row_of, converted}
 use Rattle.row_recursions.specs.Sizes.{RowWithin}

@@ -2,9 +2,9 @@
 use Rattle.std.proofs.Common.{ℕ, ◌<◌, ◌≤◌, ◌^◌, arith}
 use Rattle.exact_math.proofs.Orders.{order_bounds}
 use Rattle.cell_name.specs.Square.{side}
-use Rattle.field_sizes.proofs.Disjoint.{entries_share_no_source}
-use Rattle.field_sizes.proofs.EntrySums.{sum_by-entries}
-use Rattle.field_sizes.proofs.Radii.{pair_loss-within, single_loss-within}
+use Rattle.tree_field.proofs.Disjoint.{entries_share_no_source}
+use Rattle.tree_field.proofs.EntrySums.{sum_by-entries}
+use Rattle.tree_field.proofs.Radii.{pair_loss-within, single_loss-within}
 use Rattle.letters.specs.declared.Letter.TheVariants.{V, X}
 use Rattle.limits.proofs.Grids.{within_widest}
 use Rattle.quadtree.specs.TreeModel.{size, square_of}

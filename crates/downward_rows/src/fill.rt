@@ -3,7 +3,7 @@ ghost use Rattle.std.specs.Prelude.{◌≡◌, ◌+◌, ◌^◌, ◌<◌, length
 ghost use Rattle.cell_lists.specs.ListAt.{list_at};
 ghost use Rattle.field_basis.specs.Counts.{translated, translations_into};
 ghost use Rattle.field_basis.specs.FieldPlaces.{AreMultipolePlaces, HasLocalPlace, IsLocalPlace};
-ghost use Rattle.places.specs.Place.{OthersStay, place_at};
+ghost use Rattle.field_basis.specs.Place.{OthersStay, place_at};
 ghost use Rattle.quadtree.specs.TreeModel.{size, node_of};
 ghost use Rattle.row_recursions.specs.Rows.{row_of, AreSameRows};
 ghost use Rattle.row_recursions.specs.Sizes.{RowWithin};
@@ -15,7 +15,7 @@ use crate::x_entries::add_x_entries;
 use complex_box::{CBox, Row, Work, clear};
 use field_basis::Basis;
 use local_shift::shift_down;
-use places::Place;
+use field_basis::Place;
 
 /// Makes the local row of cell `n`, which is below the root, from its parent's.
 fn make_row<const P: usize>(

@@ -3,13 +3,13 @@ ghost use Rattle.std.specs.Prelude.{◌≡◌, ℕ, ◌<◌, length};
 ghost use Rattle.downward_rows.specs.Translations.{all_translations_into};
 ghost use Rattle.field_basis.specs.Counts.{translations_into};
 ghost use Rattle.field_basis.specs.FieldPlaces.{AreAllLocalPlaces, AreAllMultipolePlaces};
-ghost use Rattle.places.specs.Place.{all_translations, place_at};
+ghost use Rattle.field_basis.specs.Place.{all_translations, place_at};
 ghost use Rattle.quadtree.specs.TreeModel.{size};
 
 use crate::fill::fill_place;
 use complex_box::Work;
 use field_basis::Basis;
-use places::Place;
+use field_basis::Place;
 
 /// Makes the local rows of all cells and their radii, from the first to the last, whatever rows stood in their places, and keeps in each place
 /// how many translations its row took: together one for each V entry and one for each cell below the root that has a target.

@@ -1,7 +1,7 @@
 //! The radii of local rows.
 ghost use Rattle.std.specs.Prelude.{◌≡◌, ◌+◌, ◌^◌, ◌≤◌, ◌<◌, pos, ◌≤ℤ◌, ◌+ℤ◌};
 ghost use Rattle.quadtree.specs.TreeModel.{size};
-ghost use Rattle.places.specs.Place.{most_radius};
+ghost use Rattle.field_basis.specs.Place.{most_radius};
 ghost use Rattle.downward_rows.specs.Radii.{v_losses_of, x_losses_of};
 
 use error_ledger::Ledger;

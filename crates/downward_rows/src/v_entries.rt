@@ -6,7 +6,7 @@ ghost use Rattle.cell_lists.specs.ListAt.{list_at};
 ghost use Rattle.quadtree.specs.TreeModel.{size};
 ghost use Rattle.row_recursions.specs.Rows.{row_of, RowsAdd};
 ghost use Rattle.row_recursions.specs.Sizes.{RowWithin};
-ghost use Rattle.places.specs.Place.{place_at};
+ghost use Rattle.field_basis.specs.Place.{place_at};
 ghost use Rattle.field_basis.specs.Counts.{translated};
 ghost use Rattle.field_basis.specs.FieldPlaces.{AreMultipolePlaces, IsMultipolePlace};
 ghost use Rattle.downward_rows.specs.Entries.{IsVEntryAt, v_entry, v_rows_of};
@@ -16,7 +16,7 @@ use cell_name::Cell;
 use complex_box::{CBox, Gauss, Work};
 use field_basis::Basis;
 use local_expansion::convert;
-use places::Place;
+use field_basis::Place;
 
 /// How many sides the centre of `b` lies from that of `c`, for cells of one level.
 fn sides_between(b: Cell, c: Cell) -> Gauss

@@ -27,7 +27,7 @@ use Rattle.tree_field.specs.Field.{weight_in}
 use Rattle.exact_math.proofs.Lists.{range_below}
 use Rattle.tree_field.proofs.Program.{nodes_of_tree}
 use Rattle.soundness.proofs.Sums.{sum_by-map}
-use Rattle.field_sizes.proofs.CellWeights.{weighs}
+use Rattle.tree_field.proofs.CellWeights.{weighs}
 use Rattle.field_basis.specs.Trees.{IsTreeOfPoints}
 use Rattle.field_basis.specs.Weights.{IsWeight}
 use Rattle.quadtree.specs.Tree.{is_source_in}

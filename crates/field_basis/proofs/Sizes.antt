@@ -9,8 +9,8 @@ use Rattle.quadtree.proofs.Limits.{in_grid}
 use Rattle.quadtree.proofs.TreeChildren.{tree_cell_at}
 use Rattle.quadtree.specs.Tree.{AreInGrid, IsTreeCell}
 use Rattle.quadtree.specs.TreeModel.{size, square_of}
-use Rattle.field_sizes.proofs.Bounds.{rows_within}
-use Rattle.field_sizes.specs.Sizes.{IsLimited, RowsWithin}
+use Rattle.tree_field.proofs.Bounds.{rows_within}
+use Rattle.tree_field.specs.Sizes.{IsLimited, RowsWithin}
 use Rattle.row_recursions.specs.Sizes.{RowWithin}
 use Rattle.tree_field.proofs.EachList.{each_list_has_tree}
 use Rattle.tree_field.specs.Field.{multipole_row, local_row}

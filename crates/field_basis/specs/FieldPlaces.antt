@@ -7,7 +7,7 @@ use Rattle.complex_box.specs.Box.{box_ends, BoxContains}
 use Rattle.near_field.specs.DirectSum.{direct_sum}
 use Rattle.points.specs.Points.{place}
 use Rattle.complex_box.specs.declared.CBox.{CBox}
-use Rattle.places.specs.Place.{PlaceModel, place_at}
+use Rattle.field_basis.specs.Place.{PlaceModel, place_at}
 use Rattle.points.specs.declared.Point.{Point}
 use Rattle.quadtree.specs.TreeModel.{TreeModel, size, square_of, IsTreeOf}
 use Rattle.row_recursions.specs.Rows.{row_of, AreSameRows}

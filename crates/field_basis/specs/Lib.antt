@@ -4,6 +4,11 @@ pub mod Basis
 pub mod Counts
 pub mod FieldPlaces
 pub mod Inside
+pub mod InsidePlace
+pub mod InsideTarget
+pub mod Lent
+pub mod Place
+pub mod Target
 pub mod Targets
 pub mod Trees
 pub mod Weights

@@ -3,7 +3,13 @@
 #![tactic(auto)]
 
 mod basis;
+mod place;
+mod target;
 mod targets;
+mod totals;
 mod weights;
 
 pub use basis::Basis;
+pub use place::Place;
+pub use target::TargetPlace;
+pub use totals::{all_pairs, all_translations};

@@ -5,13 +5,13 @@ ghost use Rattle.io_ports.specs.Bytes.{Writes};
 ghost use Rattle.io_ports.specs.Faults.{HasCause};
 ghost use Rattle.limits.specs.Limits.{grid_of};
 ghost use Rattle.points.specs.Limits.{InRange, WithinLimits};
-ghost use Rattle.solve_phase.specs.Field.{IsSolved};
+ghost use Rattle.field_solve.specs.Field.{IsSolved};
 ghost use Rattle.tree_field.specs.Lists.{OfTreeLists};
 
 use io_ports::{Sink, WriteFault};
 use points::{Mode, Point, Points};
 use report_lines::{write_end, write_head, write_target};
-use solve_phase::Field;
+use field_solve::Field;
 
 // Appends the lines of all targets, in the order of the list, whose points are in range of the field's grid.
 fn write_targets<const P: usize, S: Sink>(

@@ -12,7 +12,7 @@ use cell_name::Cell;
 use io_ports::{Sink, put};
 use line_text::FrontText;
 use particle_text::TextKind;
-use solve_phase::SolveFault;
+use field_solve::SolveFault;
 
 // A line grows from its end to its front, in at most this many bytes.
 const LINE: usize = 128;

@@ -5,7 +5,7 @@ ghost use Rattle.limits.specs.Limits.{first_grid, grid_of, most_points};
 ghost use Rattle.points.specs.Limits.{IsOrderOf, WithinLimits};
 ghost use Rattle.point_sample.specs.Sample.{sample};
 ghost use Rattle.quadtree.specs.Faults.{HasTree};
-ghost use Rattle.solve_phase.specs.Field.{IsSolved};
+ghost use Rattle.field_solve.specs.Field.{IsSolved};
 ghost use Rattle.fmm_program.specs.Endings.{IsEnding, TellsFaults, flow, untold};
 ghost use Rattle.fmm_program.specs.Runs.{SampleRun};
 ghost use Rattle.fmm_program.specs.SampleAnswers.{SampleAnswers};
@@ -20,7 +20,7 @@ use limits::{FIRST_GRID, most_order};
 use point_sample::{most_sampled, sample_points};
 use points::Points;
 use sample_summary::write_summary;
-use solve_phase::Field;
+use field_solve::Field;
 use std::alloc::Global;
 
 /// The command `sample SEED N ORDER CAP`.
@@ -103,7 +103,7 @@ fn summarize<const P: usize, O: Sink>(
     ensures write { TellsFaults result (flow (O.held out.old) (O.held out.new) (O.faults out.old) (O.faults out.new)) }
     ensures read { result ≡ Status.ReadFault → ⊥ }
 {
-    match solve_phase::solve::<P>(alloc, points, cap) {
+    match field_solve::solve::<P>(alloc, points, cap) {
         Ok(field) => summarize_field(seed, points, cap, &field, out),
         Err(fault) => refuse_depth(fault, out),
     }

@@ -7,7 +7,7 @@ ghost use Rattle.io_ports.specs.Faults.{Rose};
 ghost use Rattle.limits.specs.Limits.{grid_of};
 ghost use Rattle.points.specs.Limits.{IsOrderOf, WithinLimits};
 ghost use Rattle.quadtree.specs.Faults.{HasTree};
-ghost use Rattle.solve_phase.specs.Field.{IsSolved};
+ghost use Rattle.field_solve.specs.Field.{IsSolved};
 ghost use Rattle.fmm_program.specs.Answers.{IsRead, SolveAnswers, most_input};
 ghost use Rattle.fmm_program.specs.Endings.{IsEnding, TellsFaults, flow, untold};
 ghost use Rattle.fmm_program.specs.Runs.{SolveRun};
@@ -20,7 +20,7 @@ use io_ports::{InFault, Sink, Source, read_all};
 use limits::{grid_of, most_order};
 use particle_text::{ParseFault, parse};
 use points::Points;
-use solve_phase::Field;
+use field_solve::Field;
 use std::alloc::Global;
 
 /// The greatest number of bytes of an input.
@@ -63,7 +63,7 @@ fn answer_points<const P: usize, O: Sink>(
     ensures write { TellsFaults result (flow (O.held out.old) (O.held out.new) (O.faults out.old) (O.faults out.new)) }
     ensures read { result ≡ Status.ReadFault → ⊥ }
 {
-    match solve_phase::solve::<P>(alloc, points, cap) {
+    match field_solve::solve::<P>(alloc, points, cap) {
         Ok(field) => answer_field(points, cap, &field, out),
         Err(fault) => refuse_depth(fault, out),
     }

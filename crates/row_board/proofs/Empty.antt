@@ -10,7 +10,7 @@ use Rattle.complex_box.specs.Rows.{at, zero_cbox, IsZero}
 use Rattle.complex_box.specs.declared.CBox.{CBox}
 use Rattle.field_basis.specs.Basis.{IsBasis}
 use Rattle.field_basis.specs.FieldPlaces.{HasNoRow}
-use Rattle.places.specs.Place.{PlaceModel, no_place, place_at}
+use Rattle.field_basis.specs.Place.{PlaceModel, no_place, place_at}
 use Rattle.row_board.specs.Board.{IsBoard, IsZeroPlace, AreEmptyPlaces, NoneIsMarked}
 use Rattle.row_board.specs.Names.{is_filled}
 use Rattle.row_board.specs.Parts.{BoardParts}

@@ -9,7 +9,7 @@ use Rattle.complex_box.specs.Box.{box_ends}
 use Rattle.complex_box.specs.Rows.{zero_cbox}
 use Rattle.complex_box.specs.declared.CBox.{CBox}
 use Rattle.field_basis.specs.FieldPlaces.{HasNoRow, IsLocalPlace, IsMultipolePlace, IsTargetBox}
-use Rattle.places.specs.Place.{PlaceModel, place_at, OthersStay}
+use Rattle.field_basis.specs.Place.{PlaceModel, place_at, OthersStay}
 use Rattle.row_board.specs.Board.{IsBoard, IsOfField, IsZeroPlace, IsSamePlace, OtherPlacesStay}
 use Rattle.row_board.specs.Names.{IsName, is_filled}
 use Rattle.row_board.specs.Parts.{BoardParts}

@@ -4,7 +4,7 @@ use Rattle.std.proofs.lemmas.Bool.{cases_Bool, true≢false}
 use mathlib.Core.Logic.{⊎_elim}
 use Rattle.field_basis.proofs.Sizes.{inside}
 use Rattle.field_basis.specs.FieldPlaces.{HasNoRow, IsMultipolePlace, IsLocalPlace}
-use Rattle.places.specs.Place.{PlaceModel, place_at}
+use Rattle.field_basis.specs.Place.{PlaceModel, place_at}
 use Rattle.quadtree.proofs.TreeChildren.{tree_cell_at}
 use Rattle.quadtree.specs.TreeModel.{size, square_of, node_of}
 use Rattle.tree_field.proofs.MultipoleRows.{multipole_row-zero}

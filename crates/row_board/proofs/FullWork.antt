@@ -9,7 +9,7 @@ use Rattle.field_basis.proofs.PlaceSums.{sum_by_number}
 use Rattle.field_basis.proofs.Sizes.{inside}
 use Rattle.field_basis.specs.Basis.{BasisModel, IsBasis}
 use Rattle.field_basis.specs.Counts.{translations_into, pairs_of_target}
-use Rattle.places.specs.Place.{PlaceModel, no_place}
+use Rattle.field_basis.specs.Place.{PlaceModel, no_place}
 use Rattle.quadtree.specs.TreeModel.{size, leaf_of}
 use Rattle.soundness.proofs.Sums.{sum_by-map}
 use Rattle.target_values.proofs.Pairs.{count_at, pairs_are}

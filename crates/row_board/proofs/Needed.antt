@@ -11,7 +11,7 @@ use Rattle.field_basis.proofs.Trees.{some_tree, tree_of_basis}
 use Rattle.field_basis.specs.Basis.{BasisModel, target_leaf}
 use Rattle.field_basis.specs.FieldPlaces.{AreMultipolePlaces, HasLocalPlace, IsMultipolePlace}
 use Rattle.letters.specs.declared.Letter.TheVariants.{V}
-use Rattle.places.specs.Place.{PlaceModel, place_at}
+use Rattle.field_basis.specs.Place.{PlaceModel, place_at}
 use Rattle.points.specs.declared.Point.{Point}
 use Rattle.exact_math.proofs.Lists.{All-from_members, Contains-into_map}
 use Rattle.quadtree.specs.TreeModel.{size, square_of, node_of}

@@ -8,7 +8,7 @@ use Rattle.complex_box.specs.declared.CBox.{CBox}
 use Rattle.field_basis.specs.Basis.{BasisModel, IsBasis}
 use Rattle.field_basis.specs.Counts.{shifts_into, translations_into, pairs_of_target, translated, paired}
 use Rattle.field_basis.specs.FieldPlaces.{IsMultipolePlace, IsLocalPlace, HasNoRow, IsTargetBox}
-use Rattle.places.specs.Place.{PlaceModel, place_at}
+use Rattle.field_basis.specs.Place.{PlaceModel, place_at}
 use Rattle.quadtree.specs.TreeModel.{size}
 use Rattle.row_board.specs.Names.{IsName, is_filled}
 use Rattle.row_board.specs.Parts.{BoardParts}

@@ -2,7 +2,7 @@
 use Rattle.std.specs.Prelude.{Bool, List}
 use Rattle.complex_box.specs.declared.CBox.{CBox}
 use Rattle.field_basis.specs.Basis.{BasisModel}
-use Rattle.places.specs.Place.{PlaceModel}
+use Rattle.field_basis.specs.Place.{PlaceModel}
 
 -- what the rows are made from, a place for the multipole row and one for the local row of each cell, the boxes of the targets, and which of these are filled
 pub record BoardParts : Type 0 where

@@ -9,7 +9,7 @@ ghost use Rattle.points.specs.Points.{is_source};
 ghost use Rattle.quadtree.specs.TreeModel.{size, node_of, IsTree};
 ghost use Rattle.report_lines.specs.Report.{work_line};
 ghost use Rattle.sample_summary.specs.Summary.{summary_text, width};
-ghost use Rattle.solve_phase.specs.Field.{IsSolved};
+ghost use Rattle.field_solve.specs.Field.{IsSolved};
 ghost use Rattle.tree_field.specs.Lists.{OfTreeLists};
 
 use crate::numbers::{leaf_count, source_count};
@@ -19,7 +19,7 @@ use letters::Letter;
 use line_text::FrontText;
 use points::Point;
 use quadtree::Tree;
-use solve_phase::Field;
+use field_solve::Field;
 
 /// The seven lines grow from their end to their front, in at most this many bytes.
 const TEXT: usize = 512;

@@ -9,7 +9,7 @@ ghost use Rattle.sample_summary.specs.Summary.{width};
 use complex_box::CBox;
 use fixed_interval::Interval;
 use report_lines::to_count;
-use solve_phase::Field;
+use field_solve::Field;
 
 /// How far the printed counts of an interval are apart.
 fn width(i: Interval) -> u128

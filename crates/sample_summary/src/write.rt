@@ -4,13 +4,13 @@ ghost use Rattle.io_ports.specs.Bytes.{Writes};
 ghost use Rattle.io_ports.specs.Faults.{HasCause};
 ghost use Rattle.limits.specs.Limits.{first_grid};
 ghost use Rattle.sample_summary.specs.Summary.{summary_text};
-ghost use Rattle.solve_phase.specs.Field.{IsSolved};
+ghost use Rattle.field_solve.specs.Field.{IsSolved};
 ghost use Rattle.tree_field.specs.Lists.{OfTreeLists};
 
 use crate::text::summary_text;
 use io_ports::{Sink, WriteFault, put};
 use points::Points;
-use solve_phase::Field;
+use field_solve::Field;
 
 /// Appends the summary of a sample, the points that a seed gave and their field with a leaf capacity: its seven lines count points, cells,
 /// entries and work, and name the greatest widths of the printed counts over all targets, in units of 10^-12.

@@ -8,7 +8,7 @@ use Rattle.cell_name.specs.Cell.{square}
 use Rattle.cell_name.specs.Square.{no_square}
 use Rattle.field_basis.proofs.Sizes.{some_lists}
 use Rattle.field_basis.specs.FieldPlaces.{AreAllMultipolePlaces, IsLocalPlace, HasNoRow}
-use Rattle.places.specs.Place.{place_at}
+use Rattle.field_basis.specs.Place.{place_at}
 use Rattle.quadtree.proofs.Ascending.{same_list}
 use Rattle.quadtree.specs.Tree.{IsTreeCell, has_target, AreExactly}
 use Rattle.quadtree.specs.TreeModel.{squares, size, square_of, node_of}
@@ -20,9 +20,9 @@ use Rattle.row_recursions.specs.Rows.{row_of, AreSameRows}
 use Rattle.std.specs.Prelude.{slice_index_or, IsTrue}
 use Rattle.tree_field.specs.Field.{multipole_row, local_row, local_radius}
 use Rattle.tree_field.specs.Lists.{TreeLists, AreTreeLists}
-use Rattle.solve_phase.specs.Field.{IsSolved}
+use Rattle.field_solve.specs.Field.{IsSolved}
 use Rattle.solve_phase.specs.Laws.{HoldsSame}
-use Rattle.solve_phase.specs.Parts.{FieldParts}
+use Rattle.field_solve.specs.Parts.{FieldParts}
 
 module _ (P : ℕ) (b : BoardParts) (f : FieldParts) (is : IsBoard P b) (full : IsFull b) (solved : IsSolved b.basis.points b.basis.cap P f) (grids : f.basis.tree.grid ≡ b.basis.tree.grid) where
   whole : HoldsWholeField P b

@@ -1,5 +1,2 @@
--- The field that finished places make, what its rows contain, how large they are, and that a full board holds the same.
-pub mod Contents
-pub mod FieldOf
+-- That a full board holds the field of a solve.
 pub mod FullBoard
-pub mod Sizes

@@ -1,14 +1,14 @@
 -- A full board and the field of a solve.
 use Rattle.std.specs.Prelude.{ℕ, ◌≡◌, ◌<◌, map}
 use Rattle.complex_box.specs.Box.{box_ends}
-use Rattle.places.specs.Place.{place_at}
+use Rattle.field_basis.specs.Place.{place_at}
 use Rattle.quadtree.specs.TreeModel.{squares, size}
 use Rattle.row_board.specs.Board.{IsBoard}
 use Rattle.row_board.specs.Laws.{IsFull}
 use Rattle.row_board.specs.Parts.{BoardParts}
 use Rattle.row_recursions.specs.Rows.{row_of, AreSameRows}
-use Rattle.solve_phase.specs.Field.{IsSolved}
-use Rattle.solve_phase.specs.Parts.{FieldParts}
+use Rattle.field_solve.specs.Field.{IsSolved}
+use Rattle.field_solve.specs.Parts.{FieldParts}
 
 -- the same cells, for each of them the same first P boxes of its multipole row and of its local row and the same radius, and the same boxes of the targets
 pub record HoldsSame (P : ℕ) (b : BoardParts) (f : FieldParts) : Type 0 where

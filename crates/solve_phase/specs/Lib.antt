@@ -1,6 +1,2 @@
--- What the contracts cite: the parts of a field, the field of a list of points, what its rows contain, and that a full board holds the same.
-pub mod Contents
-pub mod Field
-pub mod Inside
+-- That a full board holds the field of a solve.
 pub mod Laws
-pub mod Parts

@@ -16,7 +16,7 @@ use Rattle.field_basis.proofs.Positions.{IsTargetPosition, position_at, leaf_at_
 use Rattle.field_basis.specs.Basis.{BasisModel, IsBasis, target_of, target_place, target_leaf}
 use Rattle.field_basis.specs.FieldPlaces.{HasLocalRow, IsLocalPlace, IsMultipolePlace, IsTargetBox}
 use Rattle.field_basis.specs.Targets.{no_point, point_at}
-use Rattle.field_sizes.proofs.Bounds.{boxes_within, losses_within}
+use Rattle.tree_field.proofs.Bounds.{boxes_within, losses_within}
 use Rattle.letters.specs.declared.Letter.{Letter}
 use Rattle.letters.specs.declared.Letter.TheVariants.{U, W}
 use Rattle.limits.proofs.Grids.{grid_positive, in_widest, within_widest}
@@ -24,7 +24,7 @@ use Rattle.limits.specs.Grid.{IsInGrid}
 use Rattle.limits.specs.Limits.{most_box, most_local, most_multipole, widest_grid}
 use Rattle.near_field.specs.DirectSum.{direct_sum}
 use Rattle.near_field.specs.Pair.{pair_box}
-use Rattle.places.specs.Place.{PlaceModel}
+use Rattle.field_basis.specs.Place.{PlaceModel}
 use Rattle.points.specs.Limits.{total_weight}
 use Rattle.points.specs.Points.{place}
 use Rattle.points.specs.declared.Point.{Point}

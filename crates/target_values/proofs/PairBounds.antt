@@ -12,7 +12,7 @@ use Rattle.field_basis.specs.Targets.{no_point}
 use Rattle.quadtree.proofs.TreeChildren.{tree_cell_at}
 use Rattle.letters.specs.declared.Letter.TheVariants.{U}
 use Rattle.limits.proofs.Grids.{grid_positive}
-use Rattle.field_sizes.proofs.Disjoint.{entries_share_no_source}
+use Rattle.tree_field.proofs.Disjoint.{entries_share_no_source}
 use Rattle.near_field.specs.Pair.{is_at}
 use Rattle.points.specs.declared.Point.{Point}
 use Rattle.quadtree.specs.TreeModel.{size, square_of, node_of}

@@ -20,7 +20,7 @@ use Rattle.field_basis.specs.Targets.{point_at}
 use Rattle.limits.proofs.Grids.{grid_positive}
 use Rattle.limits.specs.Limits.{most_box}
 use Rattle.near_field.specs.DirectSum.{direct_sum}
-use Rattle.places.specs.Target.{TargetModel, no_target, target_at, values_of, all_pairs}
+use Rattle.field_basis.specs.Target.{TargetModel, no_target, target_at, values_of, all_pairs}
 use Rattle.points.specs.Points.{place}
 use Rattle.points.specs.declared.Point.{Point}
 use Rattle.quadtree.specs.TreeModel.{leaf_of}

@@ -6,7 +6,7 @@ use Rattle.cell_name.specs.Cell.{square}
 use Rattle.cell_name.specs.declared.cell.Cell.{Cell}
 use Rattle.field_basis.specs.Basis.{BasisModel, IsBasis, target_of, target_leaf}
 use Rattle.field_basis.specs.Targets.{no_point, point_at}
-use Rattle.places.specs.Place.{PlaceModel, no_place, place_at}
+use Rattle.field_basis.specs.Place.{PlaceModel, no_place, place_at}
 use Rattle.points.specs.declared.Point.{Point}
 use Rattle.quadtree.specs.TreeModel.{size, square_of, leaf_of}
 use Rattle.target_values.proofs.FieldBox.{position}

@@ -4,12 +4,12 @@ ghost use Rattle.complex_box.specs.Box.{BoxWithin};
 ghost use Rattle.field_basis.specs.Counts.{pairs_of_target};
 ghost use Rattle.field_basis.specs.FieldPlaces.{AreAllLocalPlaces, AreAllMultipolePlaces, AreAllPairs, AreTargetBoxes, TargetsContain};
 ghost use Rattle.limits.specs.Limits.{most_box};
-ghost use Rattle.places.specs.Target.{all_pairs, target_at, values_of};
+ghost use Rattle.field_basis.specs.Target.{all_pairs, target_at, values_of};
 
 use crate::value::target_value;
 use complex_box::Work;
 use field_basis::Basis;
-use places::{Place, TargetPlace};
+use field_basis::{Place, TargetPlace};
 
 /// Writes the box of each target, in the order of the list, and the pairs that were summed for it: together those of the U entries of all
 /// cells. The boxes are those of the field and contain the direct sums at the targets, and no end is larger in size

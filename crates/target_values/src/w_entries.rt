@@ -6,7 +6,7 @@ ghost use Rattle.complex_box.specs.Box.{box_ends, BoxWithin};
 ghost use Rattle.exact_math.specs.Within.{GaussianBeyond};
 ghost use Rattle.field_basis.specs.FieldPlaces.{AreMultipolePlaces, IsMultipolePlace};
 ghost use Rattle.limits.specs.Grid.{IsInGrid};
-ghost use Rattle.places.specs.Place.{place_at};
+ghost use Rattle.field_basis.specs.Place.{place_at};
 ghost use Rattle.points.specs.Points.{place};
 ghost use Rattle.quadtree.specs.TreeModel.{size, square_of};
 ghost use Rattle.soundness.specs.Computed.{total_box};
@@ -17,7 +17,7 @@ use complex_box::CBox;
 use error_ledger::Ledger;
 use field_basis::Basis;
 use multipole::at_multipole;
-use places::Place;
+use field_basis::Place;
 use points::Point;
 
 /// The value of the multipole row of the cell `c` at a target far from it.

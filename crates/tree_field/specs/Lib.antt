@@ -3,8 +3,11 @@
 -- translations and pairs.
 pub mod Accounting
 pub mod Contains
+pub mod CutFields
 pub mod Field
 pub mod Laws
 pub mod Lists
 pub mod Program
+pub mod RowContents
+pub mod Sizes
 pub mod Work

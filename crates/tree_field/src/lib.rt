@@ -6,9 +6,13 @@
 //! `row_recursions`, cells and entries are the predicates of `quadtree` and `cell_lists`.
 #![tactic(auto)]
 
+mod contents;
 mod law;
+mod sizes;
 
+pub use contents::{local_rows_hold, multipole_rows_hold, values_hold};
 pub use law::{
     boxes_contain_the_sum, rows_of_neighbours, translations_are_few, tree_is_determined,
     trees_of_the_program,
 };
+pub use sizes::{entries_share_no_source, field_is_bounded};

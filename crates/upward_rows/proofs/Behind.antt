@@ -6,7 +6,7 @@ use Rattle.exact_math.specs.Ends.{BoxEndsWithin}
 use Rattle.complex_box.specs.declared.CBox.{CBox}
 use Rattle.field_basis.specs.FieldPlaces.{IsMultipolePlace}
 use Rattle.field_basis.specs.Trees.{IsTreeOfPoints}
-use Rattle.places.specs.Place.{OthersStay, PlaceModel, no_place, place_at}
+use Rattle.field_basis.specs.Place.{OthersStay, PlaceModel, no_place, place_at}
 use Rattle.points.specs.declared.Point.{Point}
 use Rattle.quadtree.specs.TreeModel.{TreeModel, size, square_of, IsTreeOf}
 use Rattle.row_recursions.specs.Rows.{row_of, AreSameRows}

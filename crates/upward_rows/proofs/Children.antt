@@ -7,7 +7,7 @@ use Rattle.std.proofs.lemmas.List.Sums.{length-filter, count_by-le-length}
 use Rattle.cell_name.specs.Quarters.{quarters}
 use Rattle.field_basis.specs.Counts.{shifts_into}
 use Rattle.field_basis.specs.Trees.{IsTreeOfPoints}
-use Rattle.places.specs.Place.{PlaceModel}
+use Rattle.field_basis.specs.Place.{PlaceModel}
 use Rattle.points.specs.declared.Point.{Point}
 use Rattle.quadtree.specs.Tree.{count_in, has_source}
 use Rattle.quadtree.specs.TreeModel.{TreeModel, size, square_of, node_of, children_of}

@@ -4,8 +4,8 @@ use Rattle.exact_math.specs.Ends.{BoxEnds}
 use Rattle.cell_name.specs.Quarters.{quarters}
 use Rattle.cell_name.specs.Square.{Square}
 use Rattle.field_basis.specs.Trees.{IsTreeOfPoints}
-use Rattle.field_sizes.proofs.CellWeights.{weight64_in, weight64_in-light}
-use Rattle.field_sizes.proofs.MultipoleSizes.{multipole_row-within}
+use Rattle.tree_field.proofs.CellWeights.{weight64_in, weight64_in-light}
+use Rattle.tree_field.proofs.MultipoleSizes.{multipole_row-within}
 use Rattle.soundness.proofs.RowTotals.{wider}
 use Rattle.limits.proofs.Grids.{within_widest}
 use Rattle.points.specs.declared.Point.{Point}

@@ -15,7 +15,7 @@ use Rattle.quadtree.specs.Members.{holds_point, holds_position, members_of}
 use Rattle.quadtree.proofs.PointKinds.{member_point}
 use Rattle.tree_field.specs.Field.{sources_in}
 use Rattle.exact_math.proofs.Lists.{filter-filter, filter_same}
-use Rattle.field_sizes.proofs.CellSources.{IsHeld, sum_by-filter}
+use Rattle.tree_field.proofs.CellSources.{IsHeld, sum_by-filter}
 use Rattle.quadtree.specs.Tree.{is_source_in}
 
 abbrev pub points_at : List Point → List ℕ → List Point

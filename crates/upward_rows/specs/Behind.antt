@@ -1,7 +1,7 @@
 -- The places of the last cells of a tree.
 use Rattle.std.specs.Prelude.{ℕ, ◌-◌, ◌≤◌, List, length, All}
 use Rattle.field_basis.specs.FieldPlaces.{IsMultipolePlace}
-use Rattle.places.specs.Place.{PlaceModel, place_at}
+use Rattle.field_basis.specs.Place.{PlaceModel, place_at}
 use Rattle.points.specs.declared.Point.{Point}
 use Rattle.quadtree.specs.TreeModel.{TreeModel, size}
 

@@ -4,7 +4,7 @@ ghost use Rattle.exact_math.specs.Orders.{IsOrder};
 ghost use Rattle.field_basis.specs.Counts.{shifts_into, translated};
 ghost use Rattle.field_basis.specs.FieldPlaces.{AreMultipolePlaces, IsMultipolePlace};
 ghost use Rattle.field_basis.specs.Trees.{IsTreeOfPoints};
-ghost use Rattle.places.specs.Place.{OthersStay, place_at};
+ghost use Rattle.field_basis.specs.Place.{OthersStay, place_at};
 ghost use Rattle.quadtree.specs.TreeModel.{IsTreeOf, size, square_of};
 ghost use Rattle.row_recursions.specs.Rows.{row_of, AreSameRows};
 ghost use Rattle.tree_field.specs.Field.{multipole_row};
@@ -14,7 +14,7 @@ ghost use Rattle.upward_rows.specs.Behind.{AreBehind};
 use crate::sources::sum_sources;
 use complex_box::{CBox, Work, clear};
 use multipole_shift::shift_up;
-use places::Place;
+use field_basis::Place;
 use points::Point;
 use quadtree::Tree;
 

@@ -4,13 +4,13 @@ ghost use Rattle.exact_math.specs.Orders.{IsOrder};
 ghost use Rattle.field_basis.specs.Counts.{shifts_into};
 ghost use Rattle.field_basis.specs.FieldPlaces.{AreAllMultipolePlaces};
 ghost use Rattle.field_basis.specs.Trees.{IsTreeOfPoints};
-ghost use Rattle.places.specs.Place.{all_translations, place_at};
+ghost use Rattle.field_basis.specs.Place.{all_translations, place_at};
 ghost use Rattle.quadtree.specs.TreeModel.{size, squares};
 ghost use Rattle.upward_rows.specs.Shifted.{is_shifted};
 
 use crate::fill::fill_place;
 use complex_box::Work;
-use places::Place;
+use field_basis::Place;
 use points::Point;
 use quadtree::Tree;
 

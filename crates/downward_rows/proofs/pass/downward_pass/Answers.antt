@@ -4,7 +4,7 @@ use Rattle.exact_math.proofs.Orders.{order_bounds}
 use Rattle.cell_lists.proofs.CellNumbers.{parent_before}
 use Rattle.cell_lists.specs.ListAt.{list_at}
 use Rattle.letters.specs.declared.Letter.TheVariants.{V}
-use Rattle.places.specs.Place.{place_at}
+use Rattle.field_basis.specs.Place.{place_at}
 use Rattle.quadtree.specs.TreeModel.{size, node_of}
 use Rattle.field_basis.proofs.Trees.{some_tree, tree_of_basis}
 use Rattle.field_basis.specs.Basis.{IsBasis}

@@ -1,6 +1,6 @@
 -- The places so far.
 use Rattle.std.proofs.Common.{◌≡◌, ℕ, ◌<◌}
-use Rattle.places.specs.Place.{place_at}
+use Rattle.field_basis.specs.Place.{place_at}
 use Rattle.field_basis.specs.Counts.{translations_into}
 use Rattle.field_basis.specs.FieldPlaces.{IsLocalPlace}
 use Rattle.downward_rows.proofs.pass.downward_pass.Given as goal

@@ -2,7 +2,7 @@ use Rattle.std.proofs.Common.{◌≡◌, ◌^◌, ap, ◌∙◌, subst, sym, lit
 use Rattle.exact_math.specs.Ends.{add_box}
 use Rattle.complex_box.specs.Box.{number}
 use Rattle.kernel_table.specs.Kernel.{IsKernelDistance}
-use Rattle.places.specs.Place.{place_at}
+use Rattle.field_basis.specs.Place.{place_at}
 use Rattle.quadtree.specs.TreeModel.{square_of}
 use Rattle.row_recursions.specs.Rows.{row_of}
 use Rattle.field_basis.specs.Basis.{IsBasis}

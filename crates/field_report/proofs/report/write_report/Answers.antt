@@ -4,7 +4,7 @@ use Rattle.std.specs.Prelude.{All}
 use Rattle.exact_math.proofs.Orders.{order_bounds}
 use Rattle.io_ports.specs.Bytes.{AppendsPrefix}
 use Rattle.points.specs.Limits.{InRange}
-use Rattle.solve_phase.specs.Field.{IsSolved}
+use Rattle.field_solve.specs.Field.{IsSolved}
 use Rattle.field_report.proofs.FieldTexts.{head-exit, targets-exit, end-written, of-same, on_grid}
 use Rattle.field_report.proofs.Pieces.{Writes-failed}
 use Rattle.field_report.proofs.report.write_report.Goals as goal

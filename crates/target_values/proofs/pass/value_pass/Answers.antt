@@ -5,7 +5,7 @@ use Rattle.cell_lists.specs.ListAt.{list_at}
 use Rattle.complex_box.specs.Box.{box_ends}
 use Rattle.field_basis.specs.Basis.{BasisModel, IsBasis, target_leaf}
 use Rattle.letters.specs.declared.Letter.TheVariants.{W}
-use Rattle.places.specs.Target.{no_target, target_at}
+use Rattle.field_basis.specs.Target.{no_target, target_at}
 use Rattle.target_values.proofs.FieldBox.{leaf_is}
 use Rattle.field_basis.proofs.Sizes.{inside}
 use Rattle.target_values.proofs.PassBoxes.{IsTargetPlaceOf, one_more, boxes_are, all_contain, all_small, all_pairs_are, all_pairs_few}

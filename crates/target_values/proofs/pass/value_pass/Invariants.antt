@@ -1,6 +1,6 @@
 -- The places so far.
 use Rattle.std.proofs.Common.{ℕ, ◌≡◌, ◌<◌, length}
-use Rattle.places.specs.Target.{target_at}
+use Rattle.field_basis.specs.Target.{target_at}
 use Rattle.target_values.proofs.PassBoxes.{IsTargetPlaceOf}
 use Rattle.target_values.proofs.pass.value_pass.Given as goal
 

@@ -15,7 +15,7 @@ use Rattle.field_basis.specs.Counts.{paired}
 use Rattle.field_basis.specs.FieldPlaces.{AreMultipolePlaces, IsTargetBox}
 use Rattle.soundness.proofs.RowTotals.{wider}
 use Rattle.limits.specs.Limits.{most_local, widest_grid}
-use Rattle.places.specs.Place.{PlaceModel, place_at}
+use Rattle.field_basis.specs.Place.{PlaceModel, place_at}
 use Rattle.points.specs.Points.{place}
 use Rattle.points.specs.declared.Point.{Point}
 use Rattle.quadtree.specs.TreeModel.{size, square_of}

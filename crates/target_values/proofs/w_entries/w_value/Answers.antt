@@ -10,7 +10,7 @@ use Rattle.soundness.proofs.RowTotals.{wider}
 use Rattle.limits.proofs.Grids.{in_widest}
 use Rattle.limits.specs.Grid.{IsInGrid}
 use Rattle.limits.specs.Limits.{most_multipole, widest_grid}
-use Rattle.places.specs.Place.{PlaceModel, place_at}
+use Rattle.field_basis.specs.Place.{PlaceModel, place_at}
 use Rattle.points.specs.Points.{place}
 use Rattle.quadtree.proofs.TreeChildren.{tree_cell_at}
 use Rattle.quadtree.specs.TreeModel.{square_of}

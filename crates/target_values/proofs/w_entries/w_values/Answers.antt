@@ -9,7 +9,7 @@ use Rattle.complex_box.proofs.Sizes.{add_box_within, box_wider}
 use Rattle.field_basis.specs.Basis.{BasisModel, IsBasis}
 use Rattle.field_basis.specs.FieldPlaces.{IsMultipolePlace}
 use Rattle.letters.specs.declared.Letter.TheVariants.{W}
-use Rattle.places.specs.Place.{place_at}
+use Rattle.field_basis.specs.Place.{place_at}
 use Rattle.points.specs.Points.{place}
 use Rattle.quadtree.specs.TreeModel.{size}
 use Rattle.soundness.specs.Computed.{total_box}

@@ -3,7 +3,7 @@ use Rattle.std.proofs.Common.{◌<◌, length, ◌∙◌, arith, subst, sym}
 use Rattle.std.proofs.lemmas.List.Elements.{All-contains}
 use Rattle.exact_math.proofs.Orders.{order_bounds}
 use Rattle.field_basis.specs.FieldPlaces.{IsMultipolePlace}
-use Rattle.places.specs.Place.{place_at}
+use Rattle.field_basis.specs.Place.{place_at}
 use Rattle.exact_math.proofs.Lists.{All-from_members}
 use Rattle.tree_field.specs.Program.{source_children}
 use Rattle.upward_rows.specs.Behind.{IsBehind}

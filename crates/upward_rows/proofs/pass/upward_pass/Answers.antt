@@ -9,7 +9,7 @@ use Rattle.complex_box.specs.Counts.{Counts}
 use Rattle.field_basis.specs.Counts.{shifts_into}
 use Rattle.field_basis.specs.FieldPlaces.{IsMultipolePlace}
 use Rattle.field_basis.proofs.PlaceSums.{sum_by_number}
-use Rattle.places.specs.Place.{PlaceModel, no_place, place_at}
+use Rattle.field_basis.specs.Place.{PlaceModel, no_place, place_at}
 use Rattle.quadtree.proofs.Limits.{in_grid}
 use Rattle.exact_math.proofs.Lists.{All-from_members}
 use Rattle.quadtree.specs.TreeModel.{size}

@@ -2,7 +2,7 @@
 use Rattle.std.proofs.Common.{ℕ, ◌≡◌, ◌<◌, ◌≤◌}
 use Rattle.field_basis.specs.Counts.{shifts_into}
 use Rattle.field_basis.specs.FieldPlaces.{IsMultipolePlace}
-use Rattle.places.specs.Place.{place_at}
+use Rattle.field_basis.specs.Place.{place_at}
 use Rattle.quadtree.specs.TreeModel.{size}
 use Rattle.upward_rows.proofs.pass.upward_pass.Given as goal
 

@@ -14,7 +14,7 @@ use Rattle.points.specs.Limits.{weight64}
 use Rattle.row_recursions.specs.Rows.{row_of}
 use Rattle.soundness.specs.Computed.{total_row}
 use Rattle.upward_rows.proofs.Points.{sources_at, sources_at-members, weight_so_far, more_yes, more_no, member_at, held_so_far}
-use Rattle.field_sizes.proofs.MultipoleSizes.{sources_within}
+use Rattle.tree_field.proofs.MultipoleSizes.{sources_within}
 use Rattle.upward_rows.proofs.Totals.{total_row-more}
 use Rattle.upward_rows.proofs.sources.sum_sources.Goals as goal
 use Rattle.upward_rows.proofs.sources.sum_sources.Goals.{then-is_source, else-is_source}

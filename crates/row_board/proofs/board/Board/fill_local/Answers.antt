@@ -6,7 +6,7 @@ use Rattle.std.specs.Vec.{with_items}
 use Rattle.exact_math.proofs.Orders.{order_bounds}
 use Rattle.cell_lists.specs.ListAt.{list_at}
 use Rattle.field_basis.specs.FieldPlaces.{AreMultipolePlaces, HasLocalPlace}
-use Rattle.places.specs.Place.{PlaceModel}
+use Rattle.field_basis.specs.Place.{PlaceModel}
 use Rattle.quadtree.specs.TreeModel.{node_of}
 use Rattle.row_board.specs.Inside.{parts}
 use Rattle.row_board.specs.Names.{IsName, needs, AreFilled}

@@ -5,7 +5,7 @@ use Rattle.exact_math.proofs.Orders.{order_bounds}
 use Rattle.cell_lists.specs.ListAt.{list_at}
 use Rattle.field_basis.specs.Basis.{target_leaf}
 use Rattle.field_basis.specs.FieldPlaces.{AreMultipolePlaces, HasLocalPlace}
-use Rattle.places.specs.Place.{PlaceModel}
+use Rattle.field_basis.specs.Place.{PlaceModel}
 use Rattle.row_board.specs.Inside.{parts}
 use Rattle.row_board.specs.Names.{IsName, needs, AreFilled}
 use Rattle.row_board.specs.Parts.{BoardParts}

@@ -1,0 +1,4 @@
+-- The field that finished places make, what its rows contain, how large they are, and that a full board holds the same.
+pub mod Contents
+pub mod FieldOf
+pub mod Sizes

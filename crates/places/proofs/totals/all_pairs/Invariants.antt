@@ -1,7 +1,0 @@
--- The places so far.
-use Rattle.std.proofs.Common.{◌≡◌, take}
-use Rattle.places.specs.Target.{all_pairs}
-use Rattle.places.proofs.totals.all_pairs.Given as goal
-
-abbrev pub invariant-loop-place : goal.invariant-loop-place
-invariant-loop-place l = l.total ≡ all_pairs (take l.place-index l.places)

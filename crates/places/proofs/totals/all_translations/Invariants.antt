@@ -1,7 +1,0 @@
--- The places so far.
-use Rattle.std.proofs.Common.{◌≡◌, take}
-use Rattle.places.specs.Place.{all_translations}
-use Rattle.places.proofs.totals.all_translations.Given as goal
-
-abbrev pub invariant-loop-place : goal.invariant-loop-place
-invariant-loop-place g l = l.total ≡ all_translations (take l.place-index l.places)
