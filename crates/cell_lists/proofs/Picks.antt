@@ -19,7 +19,7 @@ use Rattle.cell_lists.specs.Meetings.{MeetsAll}
 use Rattle.cell_lists.specs.Numbers.{OfEachList}
 use Rattle.cell_lists.specs.ListAt.{list_at}
 use Rattle.cell_lists.specs.declared.picked.Picked.{Picked}
-use Rattle.cell_lists.specs.Picked.{picked_of, AreListsOf, AddsLists}
+use Rattle.cell_lists.specs.Picked.{picked_of, ArePickedFor, AddsLists}
 use Rattle.cell_lists.specs.Walks.{AreNumbers, IsMet, IsBelow}
 use Rattle.cell_lists.proofs.CellNumbers.{level_in_grid}
 use Rattle.cell_lists.proofs.WalkSteps.{place_of, colleague_met, each_list_more, one_more, one_number}
@@ -40,16 +40,6 @@ pub record PicksTo (tree : TreeModel) (letter : Letter) (b : ℕ) (met : List �
   pub ascending : IsStrictlyIncreasing cells
   pub early : (c : ℕ) → Contains cells c → IsEarly met count c
   pub picked : OfEachList tree (λ points cap. ArePicked tree points cap letter b met count cells)
-
-pub picks_none : (tree : TreeModel) (letter : Letter) (b : ℕ) (met cells : List ℕ) → cells ≡ [] → PicksTo tree letter b met 0 cells
-picks_none tree letter b met cells e =
-    let P : List ℕ → Type 0 = λ l. PicksTo tree letter b met 0 l in
-    subst P (sym e) (record {
-      numbers = λ k d lt. absurd (omega arith);
-      ascending = λ k lt. absurd (omega arith);
-      early = λ c h. absurd (omega (arith, h.1));
-      picked = λ points cap inside h. record { sound = λ c h. absurd (omega (arith, h.1)); whole = λ k lt. absurd (omega arith) };
-    })
 
 -- a number above all others goes to the end
 increasing_push : (xs : List ℕ) (y : ℕ) → IsStrictlyIncreasing xs → ((x : ℕ) → Contains xs x → x < y) → IsStrictlyIncreasing (xs ++ y ∷ [])
@@ -177,7 +167,7 @@ numbers_from_listed tree xs ys h from k d lt = All-contains (λ c. c < size tree
 
 -- ---- the lists of one more cell
 
-pub lists_more : (tree : TreeModel) (was now : EntryListsModel) (b : ℕ) (picked : Picked) → AreListsTo tree was b → AddsLists was picked now → AreListsOf tree b picked → AreListsTo tree now (b + 1)
+pub lists_more : (tree : TreeModel) (was now : EntryListsModel) (b : ℕ) (picked : Picked) → AreListsTo tree was b → AddsLists was picked now → ArePickedFor tree b picked → AreListsTo tree now (b + 1)
 lists_more tree was now b picked h adds new = record { as_many = as_many; each = λ points cap inside is letter n lt. each points cap inside is letter n lt }
   where
     grown : (letter : Letter) → lists_of now letter ≡ lists_of was letter ++ picked_of picked letter ∷ []

@@ -18,9 +18,6 @@ use Rattle.cell_lists.proofs.CellNumbers.{level_in_grid, level_at_most, level_po
 pub place_of : (xs : List ℕ) (c : ℕ) → Contains xs c → IsFrom 0 xs c
 place_of xs c h = record { at = h.0; from = omega arith; inside = h.1; here = get_or_default xs h.0 0 c h.1 ∙ h.2 }
 
-pub Contains-place : (start : ℕ) (xs : List ℕ) (c : ℕ) → IsFrom start xs c → Contains xs c
-Contains-place start xs c h = let P : ℕ → Type 0 = λ v. Contains xs v in subst P h.here (Contains-get_or xs h.at 0 h.inside)
-
 pub place_below : (tree : TreeModel) (xs : List ℕ) (k : ℕ) → AreNumbers tree xs → k < length xs → slice_index xs k < size tree
 place_below tree xs k h lt = h k 0 lt
 
@@ -229,11 +226,6 @@ around_all tree b p count near found is lo hi up colleagues all h c (inr around)
 pub record Keeps (tree : TreeModel) (b : ℕ) (found : List ℕ) (count : ℕ) (near : List ℕ) : Type 0 where
   pub numbers : AreNumbers tree near
   pub whole : (k : ℕ) → k < count → Touches (square_of tree (slice_index found k)) (square_of tree b) → Contains near (slice_index found k)
-
-pub keeps_none : (tree : TreeModel) (b : ℕ) (found near : List ℕ) → near ≡ [] → Keeps tree b found 0 near
-keeps_none tree b found near e =
-    let P : List ℕ → Type 0 = λ l. AreNumbers tree l in
-    record { numbers = subst P (sym e) (λ k d lt. absurd (omega arith)); whole = λ k lt. absurd (omega arith) }
 
 pub keeps_more : (tree : TreeModel) (b : ℕ) (found : List ℕ) (count : ℕ) (near near' mine : List ℕ) → Keeps tree b found count near → near' ≡ near ++ mine → AreNumbers tree mine → (Touches (square_of tree (slice_index found count)) (square_of tree b) → Contains mine (slice_index found count)) → Keeps tree b found (count + 1) near'
 keeps_more tree b found count near near' mine h e numbers here =

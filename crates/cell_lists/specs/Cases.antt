@@ -1,4 +1,4 @@
--- Two chains of cells, one down to level `m` and one down to level `n`, and a relation `T` of their levels: where the letters stand.
+-- Two chains of cells, one down to level `m` and one down to level `n`, and a relation `T` of their levels: where the letters stand. No public contract cites it.
 use Rattle.std.specs.Prelude.{ℕ, ◌≡◌, ◌-◌, ◌<◌, ◌≤◌, min, cond, ltb}
 use Rattle.letters.specs.declared.Letter.{Letter}
 use Rattle.letters.specs.declared.Letter.TheVariants.{U, V, W, X}

@@ -1,4 +1,4 @@
--- The cells that a walk met are enough for the lists of a cell.
+-- The cells that a walk met are enough for the lists of a cell. No public contract cites it.
 use Rattle.std.specs.Prelude.{ℕ, ◌<◌, List, Contains}
 use Rattle.quadtree.specs.TreeModel.{TreeModel, size, square_of}
 use Rattle.letters.specs.declared.Letter.{Letter}

@@ -16,8 +16,8 @@ picked_of picked W = picked.w.items
 picked_of picked X = picked.x.items
 
 -- they are the lists of a cell
-abbrev pub AreListsOf : TreeModel → ℕ → Picked → Type 0
-AreListsOf tree b picked = OfEachList tree (λ points cap. (letter : Letter) → IsListOf tree points cap letter b (picked_of picked letter))
+abbrev pub ArePickedFor : TreeModel → ℕ → Picked → Type 0
+ArePickedFor tree b picked = OfEachList tree (λ points cap. (letter : Letter) → IsListOf tree points cap letter b (picked_of picked letter))
 
 -- each letter has one more list, the picked one
 pub record AddsLists (was : EntryListsModel) (picked : Picked) (now : EntryListsModel) : Type 0 where

@@ -6,7 +6,7 @@ use Rattle.quadtree.specs.TreeModel.{TreeModel, square_of}
 use Rattle.cell_lists.specs.Entries.{IsEntry, NoOtherFor}
 use Rattle.cell_lists.specs.Numbers.{OfEachList}
 
--- the ancestors of two cells, at a level of each, touch
+-- the ancestors of two cells, at a level of each, touch. No public contract cites it.
 abbrev pub AncestorsTouch : Square → Square → ℕ → ℕ → Type 0
 AncestorsTouch b c k l = Touches (ancestor b k) (ancestor c l)
 

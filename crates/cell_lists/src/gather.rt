@@ -5,7 +5,7 @@ ghost use Rattle.std.specs.List.Sorted.{IsStrictlyIncreasing};
 ghost use Rattle.cell_lists.specs.EntryLists.{lists_of};
 ghost use Rattle.cell_lists.specs.Lists.{AreListsTo, AreLists, EachPairHasOneListed, VListsAreShort};
 ghost use Rattle.cell_lists.specs.Meetings.{MeetsAll};
-ghost use Rattle.cell_lists.specs.Picked.{AddsLists, AreListsOf};
+ghost use Rattle.cell_lists.specs.Picked.{AddsLists, ArePickedFor};
 ghost use Rattle.cell_lists.specs.Walks.{AreNumbers, AreColleagues, IsMet};
 ghost use Rattle.letters.specs.declared.Letter.{Letter};
 ghost use Rattle.quadtree.specs.TreeModel.{size, IsTree};
@@ -21,7 +21,7 @@ use std::alloc::{AllocError, Global};
 /// From the cells around `b` makes those that may be in a list of it, ascending.
 fn meet(tree: &Tree, found: &mut Vec<u32>, b: usize) -> Result<(), AllocError>
     requires tree { IsTree tree.now }
-    requires number { b < size tree.now }
+    requires cell { b < size tree.now }
     requires numbers { AreNumbers tree.now found.old.items }
     requires around { (c : ℕ) → IsMet tree.now b c → Contains found.old.items c }
     ensures numbers { OnOk result (AreNumbers tree.now found.new.items) }
@@ -60,8 +60,8 @@ impl Gathering {
     /// Finds the cells around the next cell `b`, and adds its colleagues.
     fn find(&mut self, tree: &Tree, b: usize) -> Result<(), AllocError>
         requires tree { IsTree tree.now }
-        requires number { b < size tree.now }
-        requires near { AreColleagues tree.now self.old.near b }
+        requires cell { b < size tree.now }
+        requires colleagues { AreColleagues tree.now self.old.near b }
         ensures near { OnOk result (AreColleagues tree.now self.new.near (b + 1)) }
         ensures numbers { OnOk result (AreNumbers tree.now self.new.found.items) }
         ensures around { OnOk result ((c : ℕ) → IsMet tree.now b c → Contains self.new.found.items c) }
@@ -75,10 +75,10 @@ impl Gathering {
     /// Picks the lists of the next cell `b`.
     fn pick(&mut self, tree: &Tree, b: usize) -> Result<(), AllocError>
         requires tree { IsTree tree.now }
-        requires number { b < size tree.now }
-        requires near { AreColleagues tree.now self.old.near b }
+        requires cell { b < size tree.now }
+        requires colleagues { AreColleagues tree.now self.old.near b }
         ensures near { OnOk result (AreColleagues tree.now self.new.near (b + 1)) }
-        ensures picked { OnOk result (AreListsOf tree.now b self.new.picked) }
+        ensures picked { OnOk result (ArePickedFor tree.now b self.new.picked) }
     {
         self.find(tree, b)?;
         meet(tree, &mut self.found, b)?;

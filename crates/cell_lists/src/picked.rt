@@ -3,7 +3,7 @@
 ghost use Rattle.std.specs.Prelude.{◌≡◌, ◌<◌, [], ◌∷◌, ◌++◌, OnOk};
 ghost use Rattle.std.specs.List.Sorted.{IsStrictlyIncreasing};
 ghost use Rattle.cell_lists.specs.Meetings.{MeetsAll};
-ghost use Rattle.cell_lists.specs.Picked.{picked_of, AreListsOf};
+ghost use Rattle.cell_lists.specs.Picked.{picked_of, ArePickedFor};
 ghost use Rattle.cell_lists.specs.Walks.{AreNumbers};
 ghost use Rattle.letters.specs.declared.Letter.{Letter};
 ghost use Rattle.quadtree.specs.TreeModel.{size};
@@ -59,11 +59,11 @@ impl Picked {
 
     /// Makes them the lists of a cell, from the cells that were met, ascending.
     pub(crate) fn pick(&mut self, tree: &Tree, b: usize, met: &[u32]) -> Result<(), AllocError>
-        requires number { b < size tree.now }
+        requires cell { b < size tree.now }
         requires numbers { AreNumbers tree.now met.now }
         requires ascending { IsStrictlyIncreasing met.now }
         requires whole { MeetsAll tree.now b met.now }
-        ensures { OnOk result (AreListsOf tree.now b self.new) }
+        ensures { OnOk result (ArePickedFor tree.now b self.new) }
     {
         self.clear();
         for c in met {

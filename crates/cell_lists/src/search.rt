@@ -16,7 +16,7 @@ fn push_children(
     start: usize,
     b: usize,
 ) -> Result<(), AllocError>
-    requires number { b < size tree.now }
+    requires cell { b < size tree.now }
     requires numbers { AreNumbers tree.now found.old.items }
     ensures { OnOk result (AddsChildren tree.now b start (length found.old.items) found.old.items found.new.items) }
 {
@@ -33,7 +33,7 @@ fn push_children(
 
 /// Appends, where `b` is a leaf, the cells below its level whose parents touch it. Those of its level that touch it have been found.
 pub(crate) fn push_below(tree: &Tree, found: &mut Vec<u32>, b: usize) -> Result<(), AllocError>
-    requires number { b < size tree.now }
+    requires cell { b < size tree.now }
     requires numbers { AreNumbers tree.now found.old.items }
     requires found { HasTouching tree.now b found.old.items }
     ensures numbers { OnOk result (AreNumbers tree.now found.new.items) }
@@ -60,8 +60,8 @@ pub(crate) fn find_around(
     found: &mut Vec<u32>,
 ) -> Result<(), AllocError>
     requires tree { IsTree tree.now }
-    requires number { b < size tree.now }
-    requires near { AreColleagues tree.now near.now b }
+    requires cell { b < size tree.now }
+    requires colleagues { AreColleagues tree.now near.now b }
     ensures numbers { OnOk result (AreNumbers tree.now found.new.items) }
     ensures whole { OnOk result ((c : ℕ) → IsMet tree.now b c → Contains found.new.items c) }
 {
@@ -87,7 +87,7 @@ pub(crate) fn find_touching(
     b: usize,
     touching: &mut Vec<u32>,
 ) -> Result<(), AllocError>
-    requires number { b < size tree.now }
+    requires cell { b < size tree.now }
     requires numbers { AreNumbers tree.now found.now }
     ensures numbers { OnOk result (AreNumbers tree.now touching.new.items) }
     ensures whole { OnOk result (KeepsTouching tree.now b found.now touching.new.items) }

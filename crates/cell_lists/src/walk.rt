@@ -58,7 +58,7 @@ fn descend(b: Cell, c: Cell) -> Stop
 
 /// The number of a cell's ancestor.
 fn ancestor_number(tree: &Tree, n: usize, level: u8) -> usize
-    requires number { n < size tree.now }
+    requires cell { n < size tree.now }
     requires level { level ≤ (square_of tree.now n).level }
     ensures in_range { result < size tree.now }
     ensures ancestor { square_of tree.now result ≡ ancestor (square_of tree.now n) level }

@@ -10,8 +10,21 @@ use Rattle.limits.proofs.Grids.{grid_positive, within_widest}
 use Rattle.limits.specs.Limits.{IsGrid}
 use Rattle.cell_name.specs.declared.cell.Cell.{Cell}
 use Rattle.cell_name.specs.Cell.{square}
-use Rattle.cell_name.specs.Square.{Square, root, ClosedHolds, side, half, corner_x, corner_y, IsInGrid, IsName, IsInsideGrid, Holds, Touches, square_at, parent}
+use Rattle.cell_name.specs.Square.{Square, root, ClosedHolds, side, half, corner_x, corner_y, IsInGrid, Holds, Touches, square_at, parent}
 use Rattle.cell_name.proofs.Axis.{piece_begins, piece_ends, only_piece, side-halves, half-begins, half-ends}
+
+-- the name of a cell of the grid
+pub record IsCellName (c : Square) : Type 0 where
+  pub level_in_grid : c.level ≤ c.grid
+  pub column : c.i < 2 ^ c.level
+  pub row : c.j < 2 ^ c.level
+
+-- the closed square of a cell lies in that of the grid
+pub record IsInsideGrid (c : Square) : Type 0 where
+  pub west : neg_ℤ (pos (half c.grid)) ≤ℤ corner_x c
+  pub east : (corner_x c +ℤ pos (side c)) ≤ℤ pos (half c.grid)
+  pub south : neg_ℤ (pos (half c.grid)) ≤ℤ corner_y c
+  pub north : (corner_y c +ℤ pos (side c)) ≤ℤ pos (half c.grid)
 
 abs-of_nonnegative : (z : ℤ) → pos 0 ≤ℤ z → pos (unsigned_abs z) ≡ z
 abs-of_nonnegative (pos n) h = refl
@@ -212,7 +225,7 @@ piece_in_grid grid level i le lt =
 whole_is_two_halves : (grid : ℕ) → 0 < grid → 2 ^ grid ≡ 2 * half grid
 whole_is_two_halves grid h = let e : grid ≡ suc (grid - 1) = omega arith in ap (λ n. 2 ^ n) e ∙ pow-succ' 2 (grid - 1)
 
-pub inside_from_name : (c : Square) → 0 < c.grid → IsName c → IsInsideGrid c
+pub inside_from_name : (c : Square) → 0 < c.grid → IsCellName c → IsInsideGrid c
 inside_from_name c positive n =
     let ex = piece_in_grid c.grid c.level c.i n.level_in_grid n.column in
     let ey = piece_in_grid c.grid c.level c.j n.level_in_grid n.row in
@@ -239,7 +252,7 @@ pub half_small : (c : Cell) → half c.grid ≤ 2 ^ 19
 half_small c = half_at_most c.grid c.known_grid
 
 -- the cell of a place has a name of the grid
-pub square_at-name : (grid level : ℕ) (x y : ℤ) → 0 < grid → level ≤ grid → IsInGrid grid x y → IsName (square_at grid level x y)
+pub square_at-name : (grid level : ℕ) (x y : ℤ) → 0 < grid → level ≤ grid → IsInGrid grid x y → IsCellName (square_at grid level x y)
 square_at-name grid level x y positive le g =
     record {
       level_in_grid = le;

@@ -188,10 +188,6 @@ quarters_by_middle c x y lt h =
       northeast = by_columns_and_rows (child c 1 1) x y _ _ east north;
     }
 
--- cells that don't touch have no children that touch
-pub apart-children : (b c : Square) → 0 < c.level → c.level ≤ c.grid → (Touches (parent c) b → ⊥) → Touches c b → ⊥
-apart-children b c lo hi apart t = apart (Touches-parent b c lo hi t)
-
 -- the ancestor of a place's cell is the place's cell of the ancestor's level
 pub ancestor-square_at : (grid level above : ℕ) (x y : ℤ) → above ≤ level → level ≤ grid → ancestor (square_at grid level x y) above ≡ square_at grid above x y
 ancestor-square_at grid level above x y p q =

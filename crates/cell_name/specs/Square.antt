@@ -1,5 +1,5 @@
 -- The cells of the quadtree on a grid of `grid` bits, which has 2 ^ grid whole places in each direction and its origin in the middle.
-use Rattle.std.specs.Prelude.{ℕ, ◌+◌, ◌-◌, ◌*◌, ◌/◌, ◌^◌, ◌≤◌, ◌<◌, Bool, ◌&&◌, ℤ, pos, ◌+ℤ◌, ◌-ℤ◌, ◌≤ℤ◌, ◌<ℤ◌, int_le, int_lt, unsigned_abs, neg_ℤ}
+use Rattle.std.specs.Prelude.{ℕ, ◌+◌, ◌-◌, ◌*◌, ◌/◌, ◌^◌, ◌≤◌, ◌<◌, Bool, ◌&&◌, ℤ, pos, ◌+ℤ◌, ◌-ℤ◌, ◌≤ℤ◌, ◌<ℤ◌, int_le, int_lt, unsigned_abs}
 pub use Rattle.limits.specs.Grid.{half, IsInGrid}
 
 -- A cell by its name, with the bits of its grid: level 0 is the whole grid, and each level halves the side.
@@ -44,19 +44,6 @@ offset_x c x = (x +ℤ x) -ℤ doubled_centre_x c
 
 abbrev pub offset_y : Square → ℤ → ℤ
 offset_y c y = (y +ℤ y) -ℤ doubled_centre_y c
-
--- the name of a cell of the grid
-pub record IsName (c : Square) : Type 0 where
-  pub level_in_grid : c.level ≤ c.grid
-  pub column : c.i < 2 ^ c.level
-  pub row : c.j < 2 ^ c.level
-
--- the closed square of a cell lies in that of the grid
-pub record IsInsideGrid (c : Square) : Type 0 where
-  pub west : neg_ℤ (pos (half c.grid)) ≤ℤ corner_x c
-  pub east : (corner_x c +ℤ pos (side c)) ≤ℤ pos (half c.grid)
-  pub south : neg_ℤ (pos (half c.grid)) ≤ℤ corner_y c
-  pub north : (corner_y c +ℤ pos (side c)) ≤ℤ pos (half c.grid)
 
 -- the half-open square has the place
 pub record Holds (c : Square) (x y : ℤ) : Type 0 where

@@ -24,5 +24,5 @@ module _ (P : ℕ) (b : BasisModel) (is : IsBasis P b) (letter : Letter) (n : �
     number_in i d h = let Q : List ℕ → Type 0 = λ l. All (λ c. c < size b.tree) l in subst Q (sym same) the_list.numbers i d h
 
   -- the cells of the field's list
-  pub entries_by_number : (field : TreeLists) → AreTreeLists b.tree.grid b.points b.cap field → field.entries letter (square_of b.tree n) ≡ map (square_of b.tree) (list_at (lists_of b.lists letter) n)
-  entries_by_number field are = (lists_of_tree b.tree b.lists b.points b.cap field (in_grid b.tree.grid b.points is.within.range) is.is_tree is.lists_are are).entries letter n lt
+  pub entries_by_number : (lists : TreeLists) → AreTreeLists b.tree.grid b.points b.cap lists → lists.entries letter (square_of b.tree n) ≡ map (square_of b.tree) (list_at (lists_of b.lists letter) n)
+  entries_by_number lists are = (lists_of_tree b.tree b.lists b.points b.cap lists (in_grid b.tree.grid b.points is.within.range) is.is_tree is.lists_are are).entries letter n lt

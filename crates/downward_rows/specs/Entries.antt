@@ -1,4 +1,4 @@
--- What the entries of a cell add to its local row.
+-- What the entries of a cell add to its local row. No public contract cites it.
 use Rattle.std.specs.Prelude.{ℕ, ◌<◌, ◌≤◌, List, length, All}
 use Rattle.exact_math.specs.Ends.{BoxEnds, add_box}
 use Rattle.cell_name.specs.Square.{Square}

@@ -1,4 +1,4 @@
--- What the entries of a cell can lose by truncation.
+-- What the entries of a cell can lose by truncation. No public contract cites it.
 use Rattle.std.specs.Prelude.{ℕ, sum_by}
 use Rattle.cell_lists.specs.ListAt.{list_at}
 use Rattle.cell_name.specs.Square.{side}

@@ -32,7 +32,7 @@ fn add_position<const P: usize>(cell: Cell, points: &[Point], k: u32, into: &mut
 fn add_positions<const P: usize>(cell: Cell, points: &[Point], list: &[u32], into: &mut [CBox])
     requires order { IsOrder P }
     requires far { All (IsFarPosition points.now (square cell)) list.now }
-    requires few { length list.now ≤ most_points widest_grid }
+    requires length { length list.now ≤ most_points widest_grid }
     requires len { length into.old ≡ P }
     requires sum { RowWithin P (2 ^ 109) (row_of into.old) }
     ensures len { length into.new ≡ P }

@@ -1,6 +1,6 @@
 -- Gaussian integers as complex numbers.
 use mathlib.Core.Path.{◌≡◌, refl, sym, ap, ap₂, ◌∙◌}
-use Rattle.exact_math.specs.Gaussian.{Gaussian, add_gaussian, mul_gaussian, sub_gaussian, conj, norm_gaussian}
+use Rattle.exact_math.specs.Gaussian.{Gaussian, mul_gaussian, sub_gaussian, conj, norm_gaussian}
 use Rattle.exact_math.proofs.QuadraticExtension.{same_pair}
 use Rattle.exact_math.proofs.Rationals.{rational_ring, of_int, of_int-add, of_int-mul, ◌+ℚ◌, neg_ℚ}
 use Rattle.exact_math.proofs.ComplexRationals.{ℂ, complex, ◌*ℂ◌, ◌-ℂ◌, ◌+ℂ◌, parts-add, parts-neg, parts-mul, conjugate, norm}
@@ -17,10 +17,6 @@ value-mul g h =
     (of_int-add _ _ ∙ ap₂ ◌+ℚ◌ (of_int-mul _ _) (of_int-neg _ ∙ ap neg_ℚ (of_int-mul _ _)))
     (of_int-add _ _ ∙ ap₂ ◌+ℚ◌ (of_int-mul _ _) (of_int-mul _ _))
     ∙ sym (parts-mul _ _)
-
--- g + h
-pub value-add : (g h : Gaussian) → value (add_gaussian g h) ≡ value g +ℂ value h
-value-add g h = same_pair rational_ring _ _ (of_int-add g.re h.re) (of_int-add g.im h.im) ∙ sym (parts-add _ _)
 
 -- g - h
 pub value-sub : (g h : Gaussian) → value (sub_gaussian g h) ≡ value g -ℂ value h

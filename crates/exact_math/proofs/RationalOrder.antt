@@ -2,7 +2,7 @@
 --     search (nonneg, ..)      0 ≤ p, for p built by +, * and powers from parts that are known to be at least 0
 --     le_using c h k           p ≤ q from h : a ≤ b, taken c times: k proves p + c b ≤ q + c a
 --     le_equal (ring ..)       p ≤ q from p ≡ q
-use mathlib.Core.Path.{◌≡◌, sym, ap, subst, subst₂, ◌∙◌}
+use mathlib.Core.Path.{◌≡◌, sym, subst, subst₂, ◌∙◌}
 use mathlib.Core.Logic.{◌⊎◌, inl, inr, ⊎_elim}
 use Prim.Native.Nat.{ℕ, zero, suc, ◌<◌}
 use native.Mathlib.Omega.{arith}
@@ -193,27 +193,7 @@ absolute_neg p = ≤ℚ-antisym _ _
     (absolute_le _ _ (neg_le_absolute p) (subst (λ z. z ≤ℚ absolute p) (ring1 rational_ring p (λ p. search quotes depth 9) tt) (le_absolute p)))
     (absolute_le _ _ (subst (λ z. z ≤ℚ absolute (neg_ℚ p)) (ring1 rational_ring p (λ p. search quotes depth 9) tt) (neg_le_absolute (neg_ℚ p))) (le_absolute (neg_ℚ p)))
 
--- |p q| = |p| |q|
-pub absolute_mul : (p q : ℚ) → absolute (p *ℚ q) ≡ absolute p *ℚ absolute q
-absolute_mul p q = by_absolute (λ z. absolute (p *ℚ q) ≡ z *ℚ absolute q) p
-    (λ h. by_absolute (λ w. absolute (p *ℚ q) ≡ p *ℚ w) q
-    (λ k. absolute_is _ (*ℚ-nonneg p q h k))
-    (λ k. sym (absolute_neg _) ∙ ap absolute (ring2 rational_ring p q (λ p q. search quotes depth 9) tt) ∙ absolute_is _ (*ℚ-nonneg p (neg_ℚ q) h (negative k))))
-    (λ h. by_absolute (λ w. absolute (p *ℚ q) ≡ neg_ℚ p *ℚ w) q
-    (λ k. sym (absolute_neg _) ∙ ap absolute (ring2 rational_ring p q (λ p q. search quotes depth 9) tt) ∙ absolute_is _ (*ℚ-nonneg (neg_ℚ p) q (negative h) k))
-    (λ k. ap absolute (ring2 rational_ring p q (λ p q. search quotes depth 9) tt) ∙ absolute_is _ (*ℚ-nonneg (neg_ℚ p) (neg_ℚ q) (negative h) (negative k))))
-
--- the size of a sum is at most the sum of the sizes
-pub absolute_sum_below : (n : ℕ) (f : ℕ → ℚ) → absolute (sum_below rational_ring n f) ≤ℚ sum_below rational_ring n (λ k. absolute (f k))
-absolute_sum_below zero f = le_equal (absolute_is _ (≤ℚ-refl _))
-absolute_sum_below (suc n) f = ≤ℚ-trans _ _ _ (absolute_add _ _) (add_mono (absolute_sum_below n f) (≤ℚ-refl _))
-
 -- a c <= b d from a <= b and c <= d, all at least 0
 pub mul_mono_both : {a b c d : ℚ} → of_int (pos 0) ≤ℚ a → a ≤ℚ b → of_int (pos 0) ≤ℚ c → c ≤ℚ d → a *ℚ c ≤ℚ b *ℚ d
 mul_mono_both {a} {b} {c} {d} a≥0 h c≥0 k = ≤ℚ-trans _ _ _ (mul_mono a a≥0 k) (subst₂ (λ p q. p ≤ℚ q)
     (ring2 rational_ring a d (λ a d. search quotes depth 9) tt) (ring2 rational_ring b d (λ b d. search quotes depth 9) tt) (mul_mono d (≤ℚ-trans _ _ _ c≥0 k) h))
-
--- a^n <= b^n from a <= b, both at least 0
-pub pow_mono : (a b : ℚ) (n : ℕ) → of_int (pos 0) ≤ℚ a → a ≤ℚ b → pow rational_ring a n ≤ℚ pow rational_ring b n
-pow_mono a b zero h k = ≤ℚ-refl _
-pow_mono a b (suc n) h k = mul_mono_both h k (nonneg_pow a n h) (pow_mono a b n h k)

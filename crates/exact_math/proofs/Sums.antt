@@ -45,11 +45,6 @@ module _ (R : CommutativeRing) where
   sum_below-first zero f = R.add_comm _ _
   sum_below-first (suc n) f = ap (λ s. R.add s (f (suc n))) (sum_below-first n f) ∙ R.add_assoc _ _ _
 
-  -- a double sum, either index first
-  pub sum_below-exchange : (m n : ℕ) (f : ℕ → ℕ → R.carrier) → sum_below m (λ k. sum_below n (f k)) ≡ sum_below n (λ l. sum_below m (λ k. f k l))
-  sum_below-exchange zero n f = sym (sum_below-zero n)
-  sum_below-exchange (suc m) n f = ap (λ s. R.add s (sum_below n (f m))) (sum_below-exchange m n f) ∙ sym (sum_below-add n _ _)
-
   -- equal terms give equal sums
   pub sum_list-congruence : {A : Type 0} (f g : A → R.carrier) (xs : List A) → ((x : A) → f x ≡ g x) → sum_list f xs ≡ sum_list g xs
   sum_list-congruence f g [] h = refl

@@ -83,8 +83,3 @@ module _ (points : List Point) (cap : ℕ) (tree : TreeModel) (h : IsTreeOf tree
     held = (leaf_at_position tree points cap h k no_point is.inside).held;
     passes = ap not is.is_target;
   })
-
-pub leaf_in_tree : (points : List Point) (cap : ℕ) (tree : TreeModel) → IsTreeOf tree points cap → (positions : List ℕ) → positions ≡ target_positions points → (i : ℕ) → i < length positions → (b : ℕ) → b ≡ leaf_of tree (get_or positions i 0) → b < size tree
-leaf_in_tree points cap tree h positions e i lt b is =
-    let l = leaf_at_position tree points cap h (get_or positions i 0) no_point (position_at points positions e i lt).inside in
-    omega (arith, is, l.in_range)

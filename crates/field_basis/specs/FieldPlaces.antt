@@ -71,8 +71,8 @@ abbrev pub AreTargetBoxes : ℕ → BasisModel → List CBox → Type 0
 AreTargetBoxes P b values = OfLists b (λ lists. map box_ends values ≡ target_boxes b.points b.cap P lists)
 
 -- the box of each target contains the direct sum there
-abbrev pub BoxesContain : List Point → List CBox → Type 0
-BoxesContain points values = AllZip (λ t v. BoxContains unit v (direct_sum (place t) points)) (targets points) values
+abbrev pub TargetsContain : List Point → List CBox → Type 0
+TargetsContain points values = AllZip (λ t v. BoxContains unit v (direct_sum (place t) points)) (targets points) values
 
 -- the pairs of all targets
 abbrev pub AreAllPairs : BasisModel → ℕ → Type 0

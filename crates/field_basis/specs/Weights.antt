@@ -15,14 +15,10 @@ pub record IsWeight (w : ℤ) : Type 0 where
 pub record AreWeights (points : List Point) (P : ℕ) (tree : TreeModel) (weights : List ℤ) : Type 0 where
   pub each : (n : ℕ) → n < size tree → slice_index_or weights n (pos 0) ≡ pos (weight_in points P (square_of tree n))
 
--- what is counted of points over their tree: a copy of the points, the weights of the cells, and the positions of the targets
+-- what is counted of points over their tree: a copy of the points, the weights of the cells, and the positions of the targets. No public contract cites it.
 pub record AreCounted (points : List Point) (P : ℕ) (tree : TreeModel) (copied : List Point) (weights : List ℤ) (targets : List ℕ) : Type 0 where
   pub points_are : copied ≡ points
   pub weight_each : length weights ≡ size tree
   pub weights_are : AreWeights points P tree weights
   pub weights_small : All IsWeight weights
   pub targets_are : targets ≡ target_positions points
-
--- the weight of cell n
-abbrev pub stored_weight : List ℤ → ℕ → ℕ
-stored_weight weights n = unsigned_abs (slice_index_or weights n (pos 0))

@@ -35,9 +35,9 @@ impl<const P: usize> Model for Basis<P> {
 
     ghost Value = { BasisModel };
 
-    ghost use Rattle.field_basis.specs.Inside.{seen, stands};
+    ghost use Rattle.field_basis.specs.Inside.{basis_seen, stands};
 
-    ghost view = { seen };
+    ghost view = { basis_seen };
 
     ghost invariant = { stands };
 }

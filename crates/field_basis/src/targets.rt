@@ -8,7 +8,7 @@ use std::alloc::{AllocError, Global};
 
 /// The positions of the targets in the list, ascending. Condition: there are no more points than a list of the widest grid may have.
 pub(crate) fn target_positions(alloc: Global, points: &[Point]) -> Result<Vec<u32>, AllocError>
-    requires few { length points.now ≤ most_points widest_grid }
+    requires length { length points.now ≤ most_points widest_grid }
     ensures { IfOk result (λ v. v.items ≡ target_positions points.now) }
 {
     let mut positions = Vec::new(alloc);

@@ -14,7 +14,7 @@ use Rattle.report_lines.specs.Report.{TargetLine, report_text, target_line}
 abbrev pub field_line : Mode → List Point → ℕ → ℕ → TreeLists → Point → TargetLine
 field_line mode points cap P lists t = record { x = t.x; y = t.y; counts = target_counts mode (target_box points cap P lists (place t)) }
 
--- the lines of the targets among some of the points
+-- the lines of the targets among some of the points. No public contract cites it.
 abbrev pub target_text : Mode → List Point → ℕ → ℕ → TreeLists → List Point → List ℕ
 target_text mode points cap P lists some = flat_map (target_line mode) (map (field_line mode points cap P lists) (targets some))
 

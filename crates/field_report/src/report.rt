@@ -21,7 +21,7 @@ fn write_targets<const P: usize, S: Sink>(
     sink: &mut S,
 ) -> Result<(), WriteFault>
     requires range { All (InRange field.now.basis.tree.grid) points.now }
-    requires field { IsSolved points.now field.now.basis.cap P field.now }
+    requires solved { IsSolved points.now field.now.basis.cap P field.now }
     ensures bytes { OfTreeLists field.now.basis.tree.grid points.now field.now.basis.cap (λ lists.
         Writes result (S.held sink.old) (S.held sink.new) (target_text mode points.now field.now.basis.cap P lists points.now)) }
     ensures cause { HasCause (S.faults sink.old) (S.faults sink.new) result }
@@ -51,7 +51,7 @@ pub fn write_report<const P: usize, S: Sink>(
     sink: &mut S,
 ) -> Result<(), WriteFault>
     requires list { WithinLimits points.now }
-    requires field { IsSolved points.now.list cap P field.now }
+    requires solved { IsSolved points.now.list cap P field.now }
     requires grid { field.now.basis.tree.grid ≡ grid_of points.now.version }
     ensures bytes { OfTreeLists (grid_of points.now.version) points.now.list cap (λ lists.
         Writes result (S.held sink.old) (S.held sink.new) (field_text points.now P cap lists)) }

@@ -80,9 +80,3 @@ above_within P points capacity (suc levels) c few le =
 
 pub multipole_row-within : (P : ℕ) (points : List Point) (cap : ℕ) (c : Square) → P ≤ 64 → c.level ≤ c.grid → RowWithin P (2 ^ 40 * weight64_in points c) (multipole_row points cap c)
 multipole_row-within P points cap c few le = above_within P points cap (c.grid - c.level) c few (omega arith)
-
--- of points that are not too heavy for a grid
-pub multipole_row-light : (grid P : ℕ) (points : List Point) (cap : ℕ) (c : Square) → P ≤ 64 → c.level ≤ c.grid → total_weight points ≤ most_weight grid → RowWithin P (2 ^ 40 * most_weight grid) (multipole_row points cap c)
-multipole_row-light grid P points cap c few le light =
-    let w = weight64_in-light points c in
-    wider P (2 ^ 40 * weight64_in points c) (2 ^ 40 * most_weight grid) (multipole_row points cap c) (mul-le-mul_left (2 ^ 40) (omega (arith, w, light))) (multipole_row-within P points cap c few le)

@@ -149,3 +149,20 @@ fn near_charge(rt: HostRuntime) -> Result<(), Fail> {
     has_near_numbers(&rt, &field);
     Ok(())
 }
+
+/// Two charges whose terms cancel almost: the ends are the difference of two large ones.
+const CANCELLING: Ends = ((-116_456_717_637_057, -116_456_717_637_055), (0, 0));
+
+#[test]
+fn cancelling_charges(rt: HostRuntime) -> Result<(), Fail> {
+    let field = field_of(
+        rt.alloc(),
+        &[
+            (1, "charge 0 0 1048576\n"),
+            (1, "charge 1 0 -1048576\n"),
+            (1, "target 100 0\n"),
+        ],
+    )?;
+    values_are(&rt, &field, CANCELLING);
+    Ok(())
+}

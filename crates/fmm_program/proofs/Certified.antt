@@ -24,7 +24,7 @@ use Rattle.tree_field.specs.Field.{targets, target_box}
 use Rattle.tree_field.specs.Lists.{TreeLists}
 use Rattle.fmm_program.proofs.OneListEntry.{one_list_entry}
 use Rattle.fmm_program.specs.Answers.{IsCertified, IsReported, LineContains, SolveAnswers}
-use Rattle.fmm_program.specs.Endings.{Ends, flow, untold}
+use Rattle.fmm_program.specs.Endings.{IsEnding, flow, untold}
 use Rattle.fmm_program.specs.Runs.{CertifiedRun, SolveRun}
 use Rattle.fmm_program.specs.declared.status.Status.{Status}
 use Rattle.fmm_program.specs.declared.status.Status.TheVariants.{Done}
@@ -71,7 +71,7 @@ pub certified_flushed : (order cap : ℕ) (left rest : Option (List ℕ)) (r s :
     → IfSome left (λ _. rest ≡ Some []) → SolveRun order cap status (flow left rest r s) (flow before mid b m) untold → CertifiedRun order cap (flow left rest r s) (flow before after b a)
 certified_flushed order cap left rest r s before mid after kept b m a status is_order done nothing run =
     let came = run.came in
-    let e = subst (λ s. Ends (SolveAnswers order cap came.0) s (flow before mid b m) untold) done came.2 in
+    let e = subst (λ s. IsEnding (SolveAnswers order cap came.0) s (flow before mid b m) untold) done came.2 in
     record {
       input = came.0;
       bytes = e.0.out;

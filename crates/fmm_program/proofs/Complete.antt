@@ -5,8 +5,8 @@ use Rattle.particle_text.proofs.OneText.{one_list}
 use Rattle.limits.specs.Limits.{grid_of, most_order}
 use Rattle.points.specs.declared.Points.{Points}
 use Rattle.quadtree.specs.Faults.{HasTree}
-use Rattle.fmm_program.specs.Answers.{HasDepth, RefusesDepth, SolveAnswers}
-use Rattle.fmm_program.specs.Endings.{Ends, Flow, Output}
+use Rattle.fmm_program.specs.Answers.{HasField, RefusesDepth, SolveAnswers}
+use Rattle.fmm_program.specs.Endings.{IsEnding, Flow, Output}
 use Rattle.fmm_program.specs.declared.status.Status.{Status}
 use Rattle.fmm_program.specs.declared.status.Status.TheVariants.{Done, Refused, Usage, Memory, ReadFault, WriteFault, Rejected}
 
@@ -26,8 +26,8 @@ solve_plain order cap input WriteFault output a = absurd a
 solve_plain order cap input Rejected output a = absurd a
 
 module _ (order cap : ℕ) (input : List ℕ) (out cert : Flow) where
-  module _ (depth : HasDepth order cap input) where
-    refused : Ends (SolveAnswers order cap input) Refused out cert → ⊥
+  module _ (depth : HasField order cap input) where
+    refused : IsEnding (SolveAnswers order cap input) Refused out cert → ⊥
     refused (output, (inl long, e), p, q) = absurd (let l = long.0 in let w = depth.read.within in omega arith)
     refused (output, (inr (inl faulty), e), p, q) = never_both input depth.points faulty.1.0 faulty.1.1 depth.read.spelled faulty.1.2
     refused (output, (inr (inr (inl other)), e), p, q) =
@@ -37,7 +37,7 @@ module _ (order cap : ℕ) (input : List ℕ) (out cert : Flow) where
         let same = one_list input deep.0 depth.points deep.1.spelled depth.read.spelled in
         deep_enough deep.0 cap output.out (subst (λ (ps : Points). HasTree (grid_of ps.version) ps.list cap) (sym same) depth.has_tree) deep.3
 
-    pub completes : (status : Status) → Ends (SolveAnswers order cap input) status out cert → (status ≡ ReadFault → ⊥) → (status ≡ WriteFault → ⊥) → (status ≡ Done) ⊎ (status ≡ Memory)
+    pub completes : (status : Status) → IsEnding (SolveAnswers order cap input) status out cert → (status ≡ ReadFault → ⊥) → (status ≡ WriteFault → ⊥) → (status ≡ Done) ⊎ (status ≡ Memory)
     completes Done ends r w = inl refl
     completes Memory ends r w = inr refl
     completes Refused ends r w = absurd (refused ends)
@@ -47,8 +47,8 @@ module _ (order cap : ℕ) (input : List ℕ) (out cert : Flow) where
     completes Rejected ends r w = absurd ends.1
 
   -- no run of `solve` ends with the usage line, or with a rejected certificate
-  pub solve_is_no_usage : (status : Status) → Ends (SolveAnswers order cap input) status out cert → status ≡ Usage → ⊥
-  solve_is_no_usage status ends e = (subst (λ s. Ends (SolveAnswers order cap input) s out cert) e ends).1
+  pub solve_is_no_usage : (status : Status) → IsEnding (SolveAnswers order cap input) status out cert → status ≡ Usage → ⊥
+  solve_is_no_usage status ends e = (subst (λ s. IsEnding (SolveAnswers order cap input) s out cert) e ends).1
 
-  pub solve_rejects_none : (status : Status) → Ends (SolveAnswers order cap input) status out cert → status ≡ Rejected → ⊥
-  solve_rejects_none status ends e = (subst (λ s. Ends (SolveAnswers order cap input) s out cert) e ends).1
+  pub solve_rejects_none : (status : Status) → IsEnding (SolveAnswers order cap input) status out cert → status ≡ Rejected → ⊥
+  solve_rejects_none status ends e = (subst (λ s. IsEnding (SolveAnswers order cap input) s out cert) e ends).1

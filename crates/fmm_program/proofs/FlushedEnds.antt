@@ -6,27 +6,27 @@ use Rattle.std.specs.Io.KnownBytes.{Appends, Keeps}
 use Rattle.std.specs.declared.option.Option.{Option}
 use Rattle.io_ports.specs.Bytes.{AppendsPrefix}
 use Rattle.io_ports.specs.Faults.{Rose}
-use Rattle.fmm_program.specs.Endings.{Ends, Flow, OneLine, Output, TellsFaults, flow, untold}
+use Rattle.fmm_program.specs.Endings.{IsEnding, Flow, OneLine, Output, TellsFaults, flow, untold}
 use Rattle.fmm_program.specs.declared.status.Status.{Status}
 use Rattle.fmm_program.specs.declared.status.Status.TheVariants.{Done, Refused, Usage, Memory, ReadFault, WriteFault, Rejected}
 
 -- each of these answers is one of those
-pub Ends-map : (A B : Status → Output → Type 0) → ((status : Status) (output : Output) → A status output → B status output) → (out cert : Flow) (status : Status) → Ends A status out cert → Ends B status out cert
-Ends-map A B to out cert Done (output, a, p, q) = (output, to Done output a, p, q)
-Ends-map A B to out cert Refused (output, a, p, q) = (output, to Refused output a, p, q)
-Ends-map A B to out cert Usage (output, a, p, q) = (output, to Usage output a, p, q)
-Ends-map A B to out cert Rejected (output, a, p, q) = (output, to Rejected output a, p, q)
-Ends-map A B to out cert Memory e = e
-Ends-map A B to out cert ReadFault e = e
-Ends-map A B to out cert WriteFault (status, output, a, p, q) = (status, output, to status output a, p, q)
+pub IsEnding-map : (A B : Status → Output → Type 0) → ((status : Status) (output : Output) → A status output → B status output) → (out cert : Flow) (status : Status) → IsEnding A status out cert → IsEnding B status out cert
+IsEnding-map A B to out cert Done (output, a, p, q) = (output, to Done output a, p, q)
+IsEnding-map A B to out cert Refused (output, a, p, q) = (output, to Refused output a, p, q)
+IsEnding-map A B to out cert Usage (output, a, p, q) = (output, to Usage output a, p, q)
+IsEnding-map A B to out cert Rejected (output, a, p, q) = (output, to Rejected output a, p, q)
+IsEnding-map A B to out cert Memory e = e
+IsEnding-map A B to out cert ReadFault e = e
+IsEnding-map A B to out cert WriteFault (status, output, a, p, q) = (status, output, to status output a, p, q)
 
 -- nothing but this goes out
 abbrev pub plain : List ℕ → Output
 plain bytes = record { out = bytes; cert = [] }
 
 -- the same of the one answer of a line
-pub Ends-line : (B : Status → Output → Type 0) (ending : Status) (line : List ℕ) → B ending (plain line) → (out cert : Flow) (status : Status) → Ends (OneLine ending line) status out cert → Ends B status out cert
-Ends-line B ending line b = Ends-map (OneLine ending line) B (λ status output h. subst (λ s. B s output) (sym h.0) (subst (B ending) (sym (same output h.1 h.2)) b))
+pub IsEnding-line : (B : Status → Output → Type 0) (ending : Status) (line : List ℕ) → B ending (plain line) → (out cert : Flow) (status : Status) → IsEnding (OneLine ending line) status out cert → IsEnding B status out cert
+IsEnding-line B ending line b = IsEnding-map (OneLine ending line) B (λ status output h. subst (λ s. B s output) (sym h.0) (subst (B ending) (sym (same output h.1 h.2)) b))
   where
     same : (output : Output) → output.out ≡ line → output.cert ≡ [] → output ≡ plain line
     same output out cert = λ i. record { out = out i; cert = cert i }
@@ -76,7 +76,7 @@ module _ (answers : Status → Output → Type 0) (no_cert : (status : Status) (
   none_cut : (bytes : List ℕ) → AppendsPrefix cert cert bytes
   none_cut bytes = (0, Appends-nil cert)
 
-  stays : (status : Status) → ((status ≡ Memory) ⊎ (status ≡ ReadFault) → after ≡ mid) → Ends answers status (flow before mid b m) untold → Ends answers status (flow before after b a) (flow cert cert c d)
+  stays : (status : Status) → ((status ≡ Memory) ⊎ (status ≡ ReadFault) → after ≡ mid) → IsEnding answers status (flow before mid b m) untold → IsEnding answers status (flow before after b a) (flow cert cert c d)
   stays Done still (output, x, p, q) = (output, x, all output.out p, none Done output x)
   stays Refused still (output, x, p, q) = (output, x, all output.out p, none Refused output x)
   stays Usage still (output, x, p, q) = (output, x, all output.out p, none Usage output x)
@@ -85,7 +85,7 @@ module _ (answers : Status → Output → Type 0) (no_cert : (status : Status) (
   stays ReadFault still (e, q) = (still (inr refl) ∙ e, refl)
   stays WriteFault still (status, output, x, p, q) = (status, output, x, some output.out p, none_cut output.cert)
 
-  fails : (status : Status) → ((status ≡ Memory) ⊎ (status ≡ ReadFault) → ⊥) → Ends answers status (flow before mid b m) untold → Ends answers WriteFault (flow before after b a) (flow cert cert c d)
+  fails : (status : Status) → ((status ≡ Memory) ⊎ (status ≡ ReadFault) → ⊥) → IsEnding answers status (flow before mid b m) untold → IsEnding answers WriteFault (flow before after b a) (flow cert cert c d)
   fails Done other (output, x, p, q) = (Done, output, x, AppendsPrefix-whole before after output.out (all output.out p), none_cut output.cert)
   fails Refused other (output, x, p, q) = (Refused, output, x, AppendsPrefix-whole before after output.out (all output.out p), none_cut output.cert)
   fails Usage other (output, x, p, q) = (Usage, output, x, AppendsPrefix-whole before after output.out (all output.out p), none_cut output.cert)
@@ -95,9 +95,9 @@ module _ (answers : Status → Output → Type 0) (no_cert : (status : Status) (
   fails WriteFault other (status, output, x, p, q) = (status, output, x, some output.out p, none_cut output.cert)
 
   pub flushed_ends : (status result : Status) → (result ≡ status) ⊎ (result ≡ WriteFault) → ((status ≡ Memory) ⊎ (status ≡ ReadFault) → (result ≡ status) × (after ≡ mid))
-      → Ends answers status (flow before mid b m) untold → Ends answers result (flow before after b a) (flow cert cert c d)
-  flushed_ends status result (inl e) silent ends = subst (λ s. Ends answers s (flow before after b a) (flow cert cert c d)) (sym e) (stays status (λ h. (silent h).1) ends)
-  flushed_ends status result (inr e) silent ends = subst (λ s. Ends answers s (flow before after b a) (flow cert cert c d)) (sym e) (fails status (λ h. differ h (silent h).0) ends)
+      → IsEnding answers status (flow before mid b m) untold → IsEnding answers result (flow before after b a) (flow cert cert c d)
+  flushed_ends status result (inl e) silent ends = subst (λ s. IsEnding answers s (flow before after b a) (flow cert cert c d)) (sym e) (stays status (λ h. (silent h).1) ends)
+  flushed_ends status result (inr e) silent ends = subst (λ s. IsEnding answers s (flow before after b a) (flow cert cert c d)) (sym e) (fails status (λ h. differ h (silent h).0) ends)
     where
       differ : (status ≡ Memory) ⊎ (status ≡ ReadFault) → result ≡ status → ⊥
       differ (inl h) same = cc

@@ -16,9 +16,9 @@ use Rattle.sample_summary.specs.Summary.{summary_text}
 use Rattle.tree_field.proofs.EachList.{each_list_has_tree}
 use Rattle.tree_field.specs.Lists.{TreeLists, AreTreeLists}
 use Rattle.fmm_program.proofs.Complete.{deep_enough}
-use Rattle.fmm_program.proofs.FlushedEnds.{Ends-map, flushed_ends, plain}
+use Rattle.fmm_program.proofs.FlushedEnds.{IsEnding-map, flushed_ends, plain}
 use Rattle.fmm_program.specs.Answers.{DepthAnswers}
-use Rattle.fmm_program.specs.Endings.{Ends, Flow, HasFault, Output, TellsFaults, flow, untold}
+use Rattle.fmm_program.specs.Endings.{IsEnding, Flow, HasFault, Output, TellsFaults, flow, untold}
 use Rattle.fmm_program.specs.Runs.{SampleRun}
 use Rattle.fmm_program.specs.SampleAnswers.{SampleAnswers}
 use Rattle.fmm_program.specs.declared.status.Status.{Status}
@@ -37,13 +37,13 @@ sample_plain seed n order cap Rejected output a = absurd a
 module _ (seed n order cap : ℕ) where
   module _ (out cert : Flow) where
     -- no run of `sample` ends with the usage line, or with a rejected certificate
-    pub sample_is_no_usage : (status : Status) → Ends (SampleAnswers seed n order cap) status out cert → status ≡ Usage → ⊥
-    sample_is_no_usage status ends e = (subst (λ s. Ends (SampleAnswers seed n order cap) s out cert) e ends).1
+    pub sample_is_no_usage : (status : Status) → IsEnding (SampleAnswers seed n order cap) status out cert → status ≡ Usage → ⊥
+    sample_is_no_usage status ends e = (subst (λ s. IsEnding (SampleAnswers seed n order cap) s out cert) e ends).1
 
-    pub sample_rejects_none : (status : Status) → Ends (SampleAnswers seed n order cap) status out cert → status ≡ Rejected → ⊥
-    sample_rejects_none status ends e = (subst (λ s. Ends (SampleAnswers seed n order cap) s out cert) e ends).1
+    pub sample_rejects_none : (status : Status) → IsEnding (SampleAnswers seed n order cap) status out cert → status ≡ Rejected → ⊥
+    sample_rejects_none status ends e = (subst (λ s. IsEnding (SampleAnswers seed n order cap) s out cert) e ends).1
 
-    completes : HasTree first_grid (sample seed n).list cap → (status : Status) → Ends (SampleAnswers seed n order cap) status out cert → (status ≡ ReadFault → ⊥) → (status ≡ WriteFault → ⊥) → (status ≡ Done) ⊎ (status ≡ Memory)
+    completes : HasTree first_grid (sample seed n).list cap → (status : Status) → IsEnding (SampleAnswers seed n order cap) status out cert → (status ≡ ReadFault → ⊥) → (status ≡ WriteFault → ⊥) → (status ≡ Done) ⊎ (status ≡ Memory)
     completes has Done ends r w = inl refl
     completes has Memory ends r w = inr refl
     completes has Refused (output, a, p, q) r w = absurd (deep_enough (sample seed n) cap output.out has a.0)
@@ -53,12 +53,12 @@ module _ (seed n order cap : ℕ) where
     completes has Rejected ends r w = absurd ends.1
 
     -- a run that ended so has the facts of a run
-    sample_run : (status : Status) → Ends (SampleAnswers seed n order cap) status out cert → (status ≡ ReadFault → ⊥) → (status ≡ WriteFault → HasFault out) → SampleRun seed n order cap status out cert
+    sample_run : (status : Status) → IsEnding (SampleAnswers seed n order cap) status out cert → (status ≡ ReadFault → ⊥) → (status ≡ WriteFault → HasFault out) → SampleRun seed n order cap status out cert
     sample_run status ends read write = record { ends = ends; no_read_fault = read; complete = λ has no_write. completes has status ends read (λ h. no_write (write h)) }
 
   -- a run at the order P
-  pub run_at : (P : ℕ) (out : Flow) (status : Status) → order ≡ P → Ends (SampleAnswers seed n P cap) status out untold → (status ≡ ReadFault → ⊥) → TellsFaults status out → SampleRun seed n order cap status out untold
-  run_at P out status e ends read write = sample_run out untold status (subst (λ m. Ends (SampleAnswers seed n m cap) status out untold) (sym e) ends) read write.failed
+  pub run_at : (P : ℕ) (out : Flow) (status : Status) → order ≡ P → IsEnding (SampleAnswers seed n P cap) status out untold → (status ≡ ReadFault → ⊥) → TellsFaults status out → SampleRun seed n order cap status out untold
+  run_at P out status e ends read write = sample_run out untold status (subst (λ m. IsEnding (SampleAnswers seed n m cap) status out untold) (sym e) ends) read write.failed
 
   -- after a flush, where the port of a certificate stays as it is
   pub flushed_sample : (before mid after cert : Option (List ℕ)) → Keeps mid after → (b m a c d : ℕ) (status result : Status) → (result ≡ status) ⊎ (result ≡ WriteFault)
@@ -73,8 +73,8 @@ module _ (seed n order cap : ℕ) where
       read (inr e) h = cc
 
   -- points that have no tree
-  pub depth_ends : (out : Flow) (status : Status) (points : Points) → points ≡ sample seed n → Ends (DepthAnswers points cap) status out untold → Ends (SampleAnswers seed n order cap) status out untold
-  depth_ends out status points e ends = Ends-map (DepthAnswers (sample seed n) cap) (SampleAnswers seed n order cap) deep out untold status (subst (λ (ps : Points). Ends (DepthAnswers ps cap) status out untold) e ends)
+  pub depth_ends : (out : Flow) (status : Status) (points : Points) → points ≡ sample seed n → IsEnding (DepthAnswers points cap) status out untold → IsEnding (SampleAnswers seed n order cap) status out untold
+  depth_ends out status points e ends = IsEnding-map (DepthAnswers (sample seed n) cap) (SampleAnswers seed n order cap) deep out untold status (subst (λ (ps : Points). IsEnding (DepthAnswers ps cap) status out untold) e ends)
     where
       deep : (status : Status) (output : Output) → DepthAnswers (sample seed n) cap status output → SampleAnswers seed n order cap status output
       deep Refused output a = a
@@ -98,15 +98,15 @@ module _ (seed n order cap : ℕ) where
   -- what goes out with the summary, all of it or a part of it
   module _ (before after : Option (List ℕ)) where
     pub summary_ends : (points : Points) → points ≡ sample seed n → WithinLimits points → HasTree (grid_of points.version) points.list cap
-        → ((lists : TreeLists) → AreTreeLists first_grid points.list cap lists → Appends before after (summary_text seed points.list order cap lists)) → Ends (SampleAnswers seed n order cap) Done (flow before after 0 0) untold
+        → ((lists : TreeLists) → AreTreeLists first_grid points.list cap lists → Appends before after (summary_text seed points.list order cap lists)) → IsEnding (SampleAnswers seed n order cap) Done (flow before after 0 0) untold
     summary_ends points e =
-        subst (λ (ps : Points). WithinLimits ps → HasTree (grid_of ps.version) ps.list cap → ((lists : TreeLists) → AreTreeLists first_grid ps.list cap lists → Appends before after (summary_text seed ps.list order cap lists)) → Ends (SampleAnswers seed n order cap) Done (flow before after 0 0) untold)
+        subst (λ (ps : Points). WithinLimits ps → HasTree (grid_of ps.version) ps.list cap → ((lists : TreeLists) → AreTreeLists first_grid ps.list cap lists → Appends before after (summary_text seed ps.list order cap lists)) → IsEnding (SampleAnswers seed n order cap) Done (flow before after 0 0) untold)
         (sym e)
         (λ limits has h. (plain (summary limits has), summarized limits has, h (some limits has).0 (some limits has).1, tt))
 
     pub part_ends : (points : Points) → points ≡ sample seed n → WithinLimits points → HasTree (grid_of points.version) points.list cap
-        → ((lists : TreeLists) → AreTreeLists first_grid points.list cap lists → AppendsPrefix before after (summary_text seed points.list order cap lists)) → Ends (SampleAnswers seed n order cap) WriteFault (flow before after 0 0) untold
+        → ((lists : TreeLists) → AreTreeLists first_grid points.list cap lists → AppendsPrefix before after (summary_text seed points.list order cap lists)) → IsEnding (SampleAnswers seed n order cap) WriteFault (flow before after 0 0) untold
     part_ends points e =
-        subst (λ (ps : Points). WithinLimits ps → HasTree (grid_of ps.version) ps.list cap → ((lists : TreeLists) → AreTreeLists first_grid ps.list cap lists → AppendsPrefix before after (summary_text seed ps.list order cap lists)) → Ends (SampleAnswers seed n order cap) WriteFault (flow before after 0 0) untold)
+        subst (λ (ps : Points). WithinLimits ps → HasTree (grid_of ps.version) ps.list cap → ((lists : TreeLists) → AreTreeLists first_grid ps.list cap lists → AppendsPrefix before after (summary_text seed ps.list order cap lists)) → IsEnding (SampleAnswers seed n order cap) WriteFault (flow before after 0 0) untold)
         (sym e)
         (λ limits has h. (Done, plain (summary limits has), summarized limits has, h (some limits has).0 (some limits has).1, (0, tt)))

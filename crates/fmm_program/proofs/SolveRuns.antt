@@ -15,34 +15,34 @@ use Rattle.quadtree.specs.Faults.{HasTree}
 use Rattle.tree_field.proofs.EachList.{each_list_has_tree}
 use Rattle.tree_field.specs.Lists.{TreeLists, AreTreeLists}
 use Rattle.fmm_program.proofs.Complete.{completes, solve_plain}
-use Rattle.fmm_program.proofs.FlushedEnds.{Ends-line, Ends-map, flushed_ends, plain}
+use Rattle.fmm_program.proofs.FlushedEnds.{IsEnding-line, IsEnding-map, flushed_ends, plain}
 use Rattle.fmm_program.specs.Answers.{DepthAnswers, IsRead, SolveAnswers, fault_line, most_input}
-use Rattle.fmm_program.specs.Endings.{Ends, Flow, HasFault, OneLine, Output, flow, untold}
+use Rattle.fmm_program.specs.Endings.{IsEnding, Flow, HasFault, OneLine, Output, flow, untold}
 use Rattle.fmm_program.specs.Runs.{SolveRun}
 use Rattle.fmm_program.specs.declared.status.Status.{Status}
 use Rattle.fmm_program.specs.declared.status.Status.TheVariants.{Done, Refused, Usage, Memory, ReadFault, WriteFault, Rejected}
 
 module _ (order cap : ℕ) (input : List ℕ) (out : Flow) (status : Status) where
   -- at the order P
-  pub ends_at : (P : ℕ) → order ≡ P → Ends (SolveAnswers P cap input) status out untold → Ends (SolveAnswers order cap input) status out untold
-  ends_at P e = subst (λ m. Ends (SolveAnswers m cap input) status out untold) (sym e)
+  pub ends_at : (P : ℕ) → order ≡ P → IsEnding (SolveAnswers P cap input) status out untold → IsEnding (SolveAnswers order cap input) status out untold
+  ends_at P e = subst (λ m. IsEnding (SolveAnswers m cap input) status out untold) (sym e)
 
   -- the line of the first fault of a text
   pub fault_ends : (number : ℕ) (kind : TextKind) (line : List ℕ) → length input ≤ most_input → FirstFault input number kind → line ≡ fault_line number kind
-      → Ends (OneLine Refused line) status out untold → Ends (SolveAnswers order cap input) status out untold
-  fault_ends number kind line within fault e = Ends-line (SolveAnswers order cap input) Refused line (inr (inl (within, (number, kind, fault, e))), refl) out untold status
+      → IsEnding (OneLine Refused line) status out untold → IsEnding (SolveAnswers order cap input) status out untold
+  fault_ends number kind line within fault e = IsEnding-line (SolveAnswers order cap input) Refused line (inr (inl (within, (number, kind, fault, e))), refl) out untold status
 
   -- more came than an input may have
-  pub long_ends : most_input < length input → Ends (OneLine Refused (codes "refused long\n")) status out untold → Ends (SolveAnswers order cap input) status out untold
-  long_ends longer = Ends-line (SolveAnswers order cap input) Refused (codes "refused long\n") (inl (longer, refl), refl) out untold status
+  pub long_ends : most_input < length input → IsEnding (OneLine Refused (codes "refused long\n")) status out untold → IsEnding (SolveAnswers order cap input) status out untold
+  long_ends longer = IsEnding-line (SolveAnswers order cap input) Refused (codes "refused long\n") (inl (longer, refl), refl) out untold status
 
   -- the version of the points has no such order
-  pub order_ends : (points : Points) → IsRead input points → most_order (grid_of points.version) < order → Ends (OneLine Refused (codes "refused order\n")) status out untold → Ends (SolveAnswers order cap input) status out untold
-  order_ends points read above = Ends-line (SolveAnswers order cap input) Refused (codes "refused order\n") (inr (inr (inl (points, read, above, refl))), refl) out untold status
+  pub order_ends : (points : Points) → IsRead input points → most_order (grid_of points.version) < order → IsEnding (OneLine Refused (codes "refused order\n")) status out untold → IsEnding (SolveAnswers order cap input) status out untold
+  order_ends points read above = IsEnding-line (SolveAnswers order cap input) Refused (codes "refused order\n") (inr (inr (inl (points, read, above, refl))), refl) out untold status
 
   -- points that have no tree
-  pub depth_ends : (points : Points) → IsRead input points → order ≤ most_order (grid_of points.version) → Ends (DepthAnswers points cap) status out untold → Ends (SolveAnswers order cap input) status out untold
-  depth_ends points read most = Ends-map (DepthAnswers points cap) (SolveAnswers order cap input) deep out untold status
+  pub depth_ends : (points : Points) → IsRead input points → order ≤ most_order (grid_of points.version) → IsEnding (DepthAnswers points cap) status out untold → IsEnding (SolveAnswers order cap input) status out untold
+  depth_ends points read most = IsEnding-map (DepthAnswers points cap) (SolveAnswers order cap input) deep out untold status
     where
       deep : (status : Status) (output : Output) → DepthAnswers points cap status output → SolveAnswers order cap input status output
       deep Refused output a = (inr (inr (inr (points, read, most, a.0))), a.1)
@@ -61,10 +61,10 @@ module _ (order cap : ℕ) (input : List ℕ) (points : Points) (read : IsRead i
   reported : SolveAnswers order cap input Done (plain (field_text points order cap some.0))
   reported = (record { depth = record { points = points; read = read; has_order = most; has_tree = has }; lists = some.0; lists_are = some.1; report = refl }, refl)
 
-  pub report_ends : ((lists : TreeLists) → AreTreeLists (grid_of points.version) points.list cap lists → Appends before after (field_text points order cap lists)) → Ends (SolveAnswers order cap input) Done (flow before after 0 0) untold
+  pub report_ends : ((lists : TreeLists) → AreTreeLists (grid_of points.version) points.list cap lists → Appends before after (field_text points order cap lists)) → IsEnding (SolveAnswers order cap input) Done (flow before after 0 0) untold
   report_ends h = (plain (field_text points order cap some.0), reported, h some.0 some.1, tt)
 
-  pub part_ends : ((lists : TreeLists) → AreTreeLists (grid_of points.version) points.list cap lists → AppendsPrefix before after (field_text points order cap lists)) → Ends (SolveAnswers order cap input) WriteFault (flow before after 0 0) untold
+  pub part_ends : ((lists : TreeLists) → AreTreeLists (grid_of points.version) points.list cap lists → AppendsPrefix before after (field_text points order cap lists)) → IsEnding (SolveAnswers order cap input) WriteFault (flow before after 0 0) untold
   part_ends h = (Done, plain (field_text points order cap some.0), reported, h some.0 some.1, (0, tt))
 
 -- what was left came, all of it
@@ -90,7 +90,7 @@ told_any (Some xs) P Q h p = h xs p
 
 module _ (order cap : ℕ) (left rest : Option (List ℕ)) (r s : ℕ) (status : Status) where
   abbrev EndsFor : Flow → Flow → List ℕ → Type 0
-  EndsFor out cert input = Ends (SolveAnswers order cap input) status out cert
+  EndsFor out cert input = IsEnding (SolveAnswers order cap input) status out cert
 
   -- a run that ended so has the facts of a run
   solve_run : (out cert : Flow) → IfSome left (EndsFor out cert) → (input : List ℕ) × Consumes left rest input × EndsFor out cert input
@@ -109,7 +109,7 @@ module _ (order cap : ℕ) (left rest : Option (List ℕ)) (r s : ℕ) (status :
       solve_run out untold (told_all left rest bytes (EndsFor out untold) whole ends) (bytes, all_came left rest bytes whole, ends) (λ h. absurd (read h)) write
 
   -- it was too long
-  pub long_run : (out : Flow) (bytes : List ℕ) → Consumes left rest bytes → most_input < length bytes → Ends (OneLine Refused (codes "refused long\n")) status out untold → (status ≡ Refused) ⊎ (status ≡ WriteFault)
+  pub long_run : (out : Flow) (bytes : List ℕ) → Consumes left rest bytes → most_input < length bytes → IsEnding (OneLine Refused (codes "refused long\n")) status out untold → (status ≡ Refused) ⊎ (status ≡ WriteFault)
       → (status ≡ WriteFault → HasFault out) → SolveRun order cap status (flow left rest r s) out untold
   long_run out bytes p l ends only write =
       solve_run out untold (told_long left rest bytes (EndsFor out untold) p l (λ input longer. long_ends order cap input out status longer ends))

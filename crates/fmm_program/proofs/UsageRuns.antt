@@ -4,7 +4,7 @@ use Rattle.std.specs.Io.KnownBytes.{Keeps}
 use Rattle.std.specs.declared.option.Option.{Option}
 use Rattle.fmm_program.proofs.FlushedEnds.{flushed_ends}
 use Rattle.fmm_program.specs.Answers.{usage_line}
-use Rattle.fmm_program.specs.Endings.{Ends, OneLine, Output, flow, untold}
+use Rattle.fmm_program.specs.Endings.{IsEnding, OneLine, Output, flow, untold}
 use Rattle.fmm_program.specs.Runs.{UsageRun}
 use Rattle.fmm_program.specs.declared.status.Status.{Status}
 use Rattle.fmm_program.specs.declared.status.Status.TheVariants.{Usage, Memory, ReadFault, WriteFault}
@@ -14,7 +14,7 @@ usage_plain status output a = a.2
 
 -- after a flush, where the port of a certificate stays as it is
 pub flushed_usage : (before mid after cert : Option (List ℕ)) → Keeps mid after → (b m a c d : ℕ) (status result : Status) → (result ≡ status) ⊎ (result ≡ WriteFault)
-    → ((status ≡ Memory) ⊎ (status ≡ ReadFault) → (result ≡ status) × (after ≡ mid)) → (status ≡ Usage) ⊎ (status ≡ WriteFault) → Ends (OneLine Usage usage_line) status (flow before mid b m) untold
+    → ((status ≡ Memory) ⊎ (status ≡ ReadFault) → (result ≡ status) × (after ≡ mid)) → (status ≡ Usage) ⊎ (status ≡ WriteFault) → IsEnding (OneLine Usage usage_line) status (flow before mid b m) untold
     → UsageRun result (flow before after b a) (flow cert cert c d)
 flushed_usage before mid after cert kept b m a c d status result stays silent only ends =
     record { ends = flushed_ends (OneLine Usage usage_line) usage_plain before mid after cert kept b m a c d status result stays silent ends; only = by stays only }

@@ -71,7 +71,7 @@ Refuses order cap input line =
     ⊎ ((points : Points) × IsRead input points × (order ≤ most_order (grid_of points.version)) × RefusesDepth points cap line)))
 
 -- the input is a text of a version that has the order, with no crowded place, whose tree has no more cells than a tree may have
-pub record HasDepth (order cap : ℕ) (input : List ℕ) : Type 0 where
+pub record HasField (order cap : ℕ) (input : List ℕ) : Type 0 where
   pub points : Points
   pub read : IsRead input points
   pub has_order : order ≤ most_order (grid_of points.version)
@@ -79,7 +79,7 @@ pub record HasDepth (order cap : ℕ) (input : List ℕ) : Type 0 where
 
 -- it is such a text, and the bytes are the report of the field over the lists of its tree
 pub record IsReported (order cap : ℕ) (input out : List ℕ) : Type 0 where
-  pub depth : HasDepth order cap input
+  pub depth : HasField order cap input
   pub lists : TreeLists
   pub lists_are : AreTreeLists (grid_of depth.points.version) depth.points.list cap lists
   pub report : out ≡ field_text depth.points order cap lists
@@ -90,7 +90,7 @@ SolveAnswers order cap input Done output = IsReported order cap input output.out
 SolveAnswers order cap input Refused output = Refuses order cap input output.out × (output.cert ≡ [])
 SolveAnswers order cap input _ output = ⊥
 
--- the answer to points that have no tree
+-- the answer to points that have no tree. No public contract cites it.
 abbrev pub DepthAnswers : Points → ℕ → Status → Output → Type 0
 DepthAnswers points cap Refused output = RefusesDepth points cap output.out × (output.cert ≡ [])
 DepthAnswers points cap _ output = ⊥

@@ -27,7 +27,7 @@ pub record Flow : Type 0 where
 abbrev pub flow : Option (List ℕ) → Option (List ℕ) → ℕ → ℕ → Flow
 flow before after faults_before faults_after = record { before = before; after = after; faults_before = faults_before; faults_after = faults_after }
 
--- a port that tells nothing
+-- a port that tells nothing. No public contract cites it.
 abbrev pub untold : Flow
 untold = flow None None 0 0
 
@@ -52,10 +52,10 @@ OneLine ending line status output = (status ≡ ending) × (output.out ≡ line)
 
 -- How a run ended that has `answers` for each status: both sinks took all of an output, a part of it after a write fault,
 -- and nothing after a read fault or want of memory.
-abbrev pub Ends : (Status → Output → Type 0) → Status → Flow → Flow → Type 0
-Ends answers WriteFault out cert =
+abbrev pub IsEnding : (Status → Output → Type 0) → Status → Flow → Flow → Type 0
+IsEnding answers WriteFault out cert =
     (status : Status) × (output : Output) × answers status output
     × AppendsPrefix out.before out.after output.out × AppendsPrefix cert.before cert.after output.cert
-Ends answers Memory out cert = (out.after ≡ out.before) × (cert.after ≡ cert.before)
-Ends answers ReadFault out cert = (out.after ≡ out.before) × (cert.after ≡ cert.before)
-Ends answers status out cert = (output : Output) × answers status output × Appends out.before out.after output.out × Appends cert.before cert.after output.cert
+IsEnding answers Memory out cert = (out.after ≡ out.before) × (cert.after ≡ cert.before)
+IsEnding answers ReadFault out cert = (out.after ≡ out.before) × (cert.after ≡ cert.before)
+IsEnding answers status out cert = (output : Output) × answers status output × Appends out.before out.after output.out × Appends cert.before cert.after output.cert

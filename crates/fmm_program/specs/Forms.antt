@@ -18,17 +18,17 @@ abbrev pub IsNoSolve : List (List ℕ) → Type 0
 IsNoSolve words = (order cap : ℕ) (file : List ℕ) → IsSolve words order cap file → ⊥
 
 -- the words are of no form
-pub record IsUsage (words : List (List ℕ)) : Type 0 where
+pub record IsNoForm (words : List (List ℕ)) : Type 0 where
   pub no_solve : IsNoSolve words
   pub no_sample : (seed n order cap : ℕ) → IsSample words seed n order cap → ⊥
 
--- the words ask for this command
+-- the words ask for this command. No public contract cites it.
 abbrev pub Asks : List (List ℕ) → Command → Type 0
 Asks words (Solve c) = IsSolve words c.order c.cap c.file.now
 Asks words (Sample c) = IsSample words c.seed c.count c.order c.cap
 
 -- what is to be opened for these words
 abbrev pub Opens : List (List ℕ) → Opening → Type 0
-Opens words Nothing = IsUsage words ⊎ ((seed : ℕ) × (n : ℕ) × (order : ℕ) × (cap : ℕ) × IsSample words seed n order cap)
+Opens words Nothing = IsNoForm words ⊎ ((seed : ℕ) × (n : ℕ) × (order : ℕ) × (cap : ℕ) × IsSample words seed n order cap)
 Opens words SolveInput = (order : ℕ) × (cap : ℕ) × IsSolve words order cap (codes "-")
 Opens words (SolveFile file) = (order : ℕ) × (cap : ℕ) × (file.now ≢ codes "-") × IsSolve words order cap file.now

@@ -1,6 +1,6 @@
 //! The command that the words ask for, and what it needs open.
 ghost use Rattle.std.specs.Prelude.{IfSome, IfNone};
-ghost use Rattle.fmm_program.specs.Forms.{Asks, IsUsage, Opens};
+ghost use Rattle.fmm_program.specs.Forms.{Asks, IsNoForm, Opens};
 
 use crate::samples::{SampleCommand, asked_sample};
 use crate::words::{SolveCommand, Words, asked_solve};
@@ -26,7 +26,7 @@ pub enum Opening<'a> {
 /// The command that the words ask for; `None` where they are of no form.
 pub(crate) fn asked(words: &Words) -> Option<Command<'_>>
     ensures some { IfSome result (Asks words.now) }
-    ensures none { IfNone result (IsUsage words.now) }
+    ensures none { IfNone result (IsNoForm words.now) }
 {
     if let Some(command) = asked_solve(words) {
         return Some(Command::Solve(command));

@@ -5,7 +5,7 @@ ghost use Rattle.limits.specs.Limits.{grid_of};
 ghost use Rattle.points.specs.declared.Points.{Points};
 ghost use Rattle.quadtree.specs.Faults.{IsFaultOf};
 ghost use Rattle.fmm_program.specs.Answers.{DepthAnswers, crowded_line, fault_line, kind_word, usage_line};
-ghost use Rattle.fmm_program.specs.Endings.{Ends, OneLine, TellsFaults, flow, untold};
+ghost use Rattle.fmm_program.specs.Endings.{IsEnding, OneLine, TellsFaults, flow, untold};
 
 use crate::status::Status;
 use cell_name::Cell;
@@ -22,7 +22,7 @@ const USAGE: &[u8] =
 
 /// Writes a line of refusal.
 pub(crate) fn refuse<O: Sink>(line: &[u8], out: &mut O) -> Status
-    ensures ends { Ends (OneLine Status.Refused line.now) result
+    ensures ends { IsEnding (OneLine Status.Refused line.now) result
         (flow (O.held out.old) (O.held out.new) (O.faults out.old) (O.faults out.new)) untold }
     ensures only { (result ≡ Status.Refused) ⊎ (result ≡ Status.WriteFault) }
     ensures write { TellsFaults result (flow (O.held out.old) (O.held out.new) (O.faults out.old) (O.faults out.new)) }
@@ -35,7 +35,7 @@ pub(crate) fn refuse<O: Sink>(line: &[u8], out: &mut O) -> Status
 
 /// Writes the line of the first fault of a text.
 pub(crate) fn refuse_text<O: Sink>(line: u64, kind: TextKind, out: &mut O) -> Status
-    ensures ends { Ends (OneLine Status.Refused (fault_line line kind)) result
+    ensures ends { IsEnding (OneLine Status.Refused (fault_line line kind)) result
         (flow (O.held out.old) (O.held out.new) (O.faults out.old) (O.faults out.new)) untold }
     ensures only { (result ≡ Status.Refused) ⊎ (result ≡ Status.WriteFault) }
     ensures write { TellsFaults result (flow (O.held out.old) (O.held out.new) (O.faults out.old) (O.faults out.new)) }
@@ -45,7 +45,7 @@ pub(crate) fn refuse_text<O: Sink>(line: u64, kind: TextKind, out: &mut O) -> St
 
 /// Writes the usage line.
 pub(crate) fn refuse_words<O: Sink>(out: &mut O) -> Status
-    ensures ends { Ends (OneLine Status.Usage usage_line) result (flow (O.held out.old) (O.held out.new) (O.faults out.old) (O.faults out.new)) untold }
+    ensures ends { IsEnding (OneLine Status.Usage usage_line) result (flow (O.held out.old) (O.held out.new) (O.faults out.old) (O.faults out.new)) untold }
     ensures only { (result ≡ Status.Usage) ⊎ (result ≡ Status.WriteFault) }
     ensures write { TellsFaults result (flow (O.held out.old) (O.held out.new) (O.faults out.old) (O.faults out.new)) }
 {
@@ -58,7 +58,7 @@ pub(crate) fn refuse_words<O: Sink>(out: &mut O) -> Status
 /// Writes the line of a list that has no field; there is none for want of memory.
 pub(crate) fn refuse_depth<O: Sink>(fault: SolveFault, out: &mut O) -> Status
     ensures ends { (points : Points) (cap : ℕ) → IsFaultOf (grid_of points.version) points.list cap fault
-        → Ends (DepthAnswers points cap) result (flow (O.held out.old) (O.held out.new) (O.faults out.old) (O.faults out.new)) untold }
+        → IsEnding (DepthAnswers points cap) result (flow (O.held out.old) (O.held out.new) (O.faults out.old) (O.faults out.new)) untold }
     ensures read { result ≡ Status.ReadFault → ⊥ }
     ensures write { TellsFaults result (flow (O.held out.old) (O.held out.new) (O.faults out.old) (O.faults out.new)) }
 {
@@ -72,7 +72,7 @@ pub(crate) fn refuse_depth<O: Sink>(fault: SolveFault, out: &mut O) -> Status
 // The word of a kind.
 fn kind_label(kind: TextKind) -> &'static [u8]
     ensures word { result.now ≡ kind_word kind }
-    ensures room { length result.now ≤ 8 }
+    ensures length { length result.now ≤ 8 }
 {
     match kind {
         TextKind::Syntax => b"syntax",

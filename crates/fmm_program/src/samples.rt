@@ -6,7 +6,7 @@ ghost use Rattle.points.specs.Limits.{IsOrderOf, WithinLimits};
 ghost use Rattle.point_sample.specs.Sample.{sample};
 ghost use Rattle.quadtree.specs.Faults.{HasTree};
 ghost use Rattle.solve_phase.specs.Field.{IsSolved};
-ghost use Rattle.fmm_program.specs.Endings.{Ends, TellsFaults, flow, untold};
+ghost use Rattle.fmm_program.specs.Endings.{IsEnding, TellsFaults, flow, untold};
 ghost use Rattle.fmm_program.specs.Runs.{SampleRun};
 ghost use Rattle.fmm_program.specs.SampleAnswers.{SampleAnswers};
 ghost use Rattle.fmm_program.specs.Samples.{IsSample};
@@ -73,10 +73,10 @@ fn summarize_field<const P: usize, O: Sink>(
     out: &mut O,
 ) -> Status
     requires list { WithinLimits points.now }
-    requires field { IsSolved points.now.list cap P field.now }
+    requires solved { IsSolved points.now.list cap P field.now }
     requires grid { field.now.basis.tree.grid ≡ first_grid }
     ensures ends { (n : ℕ) → points.now ≡ sample seed n → HasTree (grid_of points.now.version) points.now.list cap
-        → Ends (SampleAnswers seed n P cap) result (flow (O.held out.old) (O.held out.new) (O.faults out.old) (O.faults out.new)) untold }
+        → IsEnding (SampleAnswers seed n P cap) result (flow (O.held out.old) (O.held out.new) (O.faults out.old) (O.faults out.new)) untold }
     ensures write { TellsFaults result (flow (O.held out.old) (O.held out.new) (O.faults out.old) (O.faults out.new)) }
     ensures read { result ≡ Status.ReadFault → ⊥ }
 {
@@ -97,9 +97,9 @@ fn summarize<const P: usize, O: Sink>(
     requires list { WithinLimits points.now }
     requires version { points.now.version ≡ 1 }
     requires order { IsOrderOf first_grid P }
-    requires cap { IsCapacity cap }
+    requires capacity { IsCapacity cap }
     ensures ends { (n : ℕ) → points.now ≡ sample seed n
-        → Ends (SampleAnswers seed n P cap) result (flow (O.held out.old) (O.held out.new) (O.faults out.old) (O.faults out.new)) untold }
+        → IsEnding (SampleAnswers seed n P cap) result (flow (O.held out.old) (O.held out.new) (O.faults out.old) (O.faults out.new)) untold }
     ensures write { TellsFaults result (flow (O.held out.old) (O.held out.new) (O.faults out.old) (O.faults out.new)) }
     ensures read { result ≡ Status.ReadFault → ⊥ }
 {
@@ -114,9 +114,9 @@ fn summarize<const P: usize, O: Sink>(
 /// The sink gets all that goes out with the answer; after a write fault it took a prefix of that, and after want of
 /// memory nothing.
 pub(crate) fn sample<O: Sink>(alloc: Global, command: SampleCommand, out: &mut O) -> Status
-    requires count { command.count ≤ most_points first_grid }
+    requires most { command.count ≤ most_points first_grid }
     requires order { IsOrderOf first_grid command.order }
-    requires cap { IsCapacity command.cap }
+    requires capacity { IsCapacity command.cap }
     ensures run { SampleRun command.seed command.count command.order command.cap result
         (flow (O.held out.old) (O.held out.new) (O.faults out.old) (O.faults out.new)) untold }
     ensures write { TellsFaults result (flow (O.held out.old) (O.held out.new) (O.faults out.old) (O.faults out.new)) }

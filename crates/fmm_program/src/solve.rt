@@ -9,7 +9,7 @@ ghost use Rattle.points.specs.Limits.{IsOrderOf, WithinLimits};
 ghost use Rattle.quadtree.specs.Faults.{HasTree};
 ghost use Rattle.solve_phase.specs.Field.{IsSolved};
 ghost use Rattle.fmm_program.specs.Answers.{IsRead, SolveAnswers, most_input};
-ghost use Rattle.fmm_program.specs.Endings.{Ends, TellsFaults, flow, untold};
+ghost use Rattle.fmm_program.specs.Endings.{IsEnding, TellsFaults, flow, untold};
 ghost use Rattle.fmm_program.specs.Runs.{SolveRun};
 
 use crate::orders::at_order;
@@ -35,10 +35,10 @@ fn answer_field<const P: usize, O: Sink>(
 ) -> Status
     requires list { WithinLimits points.now }
     requires order { IsOrderOf (grid_of points.now.version) P }
-    requires field { IsSolved points.now.list cap P field.now }
+    requires solved { IsSolved points.now.list cap P field.now }
     requires grid { field.now.basis.tree.grid ≡ grid_of points.now.version }
     ensures ends { (input : List ℕ) → IsRead input points.now → HasTree (grid_of points.now.version) points.now.list cap
-        → Ends (SolveAnswers P cap input) result (flow (O.held out.old) (O.held out.new) (O.faults out.old) (O.faults out.new)) untold }
+        → IsEnding (SolveAnswers P cap input) result (flow (O.held out.old) (O.held out.new) (O.faults out.old) (O.faults out.new)) untold }
     ensures write { TellsFaults result (flow (O.held out.old) (O.held out.new) (O.faults out.old) (O.faults out.new)) }
     ensures read { result ≡ Status.ReadFault → ⊥ }
 {
@@ -57,9 +57,9 @@ fn answer_points<const P: usize, O: Sink>(
 ) -> Status
     requires list { WithinLimits points.now }
     requires order { IsOrderOf (grid_of points.now.version) P }
-    requires cap { IsCapacity cap }
+    requires capacity { IsCapacity cap }
     ensures ends { (input : List ℕ) → IsRead input points.now
-        → Ends (SolveAnswers P cap input) result (flow (O.held out.old) (O.held out.new) (O.faults out.old) (O.faults out.new)) untold }
+        → IsEnding (SolveAnswers P cap input) result (flow (O.held out.old) (O.held out.new) (O.faults out.old) (O.faults out.new)) untold }
     ensures write { TellsFaults result (flow (O.held out.old) (O.held out.new) (O.faults out.old) (O.faults out.new)) }
     ensures read { result ≡ Status.ReadFault → ⊥ }
 {
@@ -73,9 +73,9 @@ fn answer_points<const P: usize, O: Sink>(
 fn answer_list<O: Sink>(alloc: Global, order: u32, cap: u32, points: &Points, out: &mut O) -> Status
     requires list { WithinLimits points.now }
     requires order { IsOrder order }
-    requires cap { IsCapacity cap }
+    requires capacity { IsCapacity cap }
     ensures ends { (input : List ℕ) → IsRead input points.now
-        → Ends (SolveAnswers order cap input) result (flow (O.held out.old) (O.held out.new) (O.faults out.old) (O.faults out.new)) untold }
+        → IsEnding (SolveAnswers order cap input) result (flow (O.held out.old) (O.held out.new) (O.faults out.old) (O.faults out.new)) untold }
     ensures write { TellsFaults result (flow (O.held out.old) (O.held out.new) (O.faults out.old) (O.faults out.new)) }
     ensures read { result ≡ Status.ReadFault → ⊥ }
 {
@@ -88,9 +88,9 @@ fn answer_list<O: Sink>(alloc: Global, order: u32, cap: u32, points: &Points, ou
 /// Answers an input that was read whole.
 fn answer_text<O: Sink>(alloc: Global, order: u32, cap: u32, bytes: &[u8], out: &mut O) -> Status
     requires order { IsOrder order }
-    requires cap { IsCapacity cap }
-    requires within { length bytes.now ≤ most_input }
-    ensures ends { Ends (SolveAnswers order cap bytes.now) result (flow (O.held out.old) (O.held out.new) (O.faults out.old) (O.faults out.new)) untold }
+    requires capacity { IsCapacity cap }
+    requires length { length bytes.now ≤ most_input }
+    ensures ends { IsEnding (SolveAnswers order cap bytes.now) result (flow (O.held out.old) (O.held out.new) (O.faults out.old) (O.faults out.new)) untold }
     ensures write { TellsFaults result (flow (O.held out.old) (O.held out.new) (O.faults out.old) (O.faults out.new)) }
     ensures read { result ≡ Status.ReadFault → ⊥ }
 {
@@ -114,7 +114,7 @@ pub(crate) fn solve<A: Source, O: Sink>(
     out: &mut O,
 ) -> Status
     requires order { IsOrder order }
-    requires cap { IsCapacity cap }
+    requires capacity { IsCapacity cap }
     ensures run { SolveRun order cap result
         (flow (A.left points.old) (A.left points.new) (A.faults points.old) (A.faults points.new))
         (flow (O.held out.old) (O.held out.new) (O.faults out.old) (O.faults out.new)) untold }

@@ -5,7 +5,7 @@ ghost use Rattle.io_ports.specs.Bytes.{read_size};
 ghost use Rattle.io_ports.specs.Faults.{Rose};
 ghost use Rattle.fmm_program.specs.Answers.{most_input};
 ghost use Rattle.fmm_program.specs.Endings.{TellsFaults, flow};
-ghost use Rattle.fmm_program.specs.Forms.{IsNoSolve, IsSolve, IsUsage};
+ghost use Rattle.fmm_program.specs.Forms.{IsNoSolve, IsSolve, IsNoForm};
 ghost use Rattle.fmm_program.specs.Runs.{CertifiedRun, SampleRun, SolveRun, UsageRun};
 ghost use Rattle.fmm_program.specs.Samples.{IsSample};
 
@@ -64,11 +64,11 @@ pub fn run<A: Source, B: Source, O: Sink, C: Sink>(
         → SampleRun seed n order cap result
         (flow (O.held out.old) (O.held out.new) (O.faults out.old) (O.faults out.new))
         (flow (C.held cert_out.old) (C.held cert_out.new) (C.faults cert_out.old) (C.faults cert_out.new)) }
-    ensures usage { IsUsage words.now
+    ensures usage { IsNoForm words.now
         → UsageRun result
         (flow (O.held out.old) (O.held out.new) (O.faults out.old) (O.faults out.new))
         (flow (C.held cert_out.old) (C.held cert_out.new) (C.faults cert_out.old) (C.faults cert_out.new)) }
-    ensures usage_only { result ≡ Status.Usage → IsUsage words.now }
+    ensures usage_only { result ≡ Status.Usage → IsNoForm words.now }
     ensures rejected { result ≡ Status.Rejected → ⊥ }
 
     // A fault is answered only where its port's count rose, and one of a write always is.

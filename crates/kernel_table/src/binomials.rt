@@ -6,7 +6,7 @@ ghost use Rattle.exact_math.specs.Binomials.{choose};
 ///
 /// `C(n, i + 1) = C(n, i) (n - i)/(i + 1)`, and each quotient is exact.
 pub fn binomial(n: u32, k: u32) -> u128
-    requires within { k ≤ n }
+    requires index { k ≤ n }
     requires most { n ≤ 62 }
     ensures { result ≡ choose n k }
 {

@@ -39,8 +39,8 @@ pub fn distance(index: usize) -> Gauss
 
 /// The index of -3, -2, 2 or 3.
 fn far_index(part: i64) -> usize
-    requires far { 2 ≤ unsigned_abs part }
-    requires near { unsigned_abs part ≤ 3 }
+    requires least { 2 ≤ unsigned_abs part }
+    requires most { unsigned_abs part ≤ 3 }
     ensures index { result < 4 }
     ensures value { far_part result ≡ part }
 {

@@ -69,8 +69,8 @@ pub fn first_powers(alloc: Global, e: Gauss, count: usize) -> Result<Vec<CBox>, 
 pub fn entry_of(power: CBox, ways: i128, k: usize, l: usize) -> CBox
     requires orders { k + l ≤ 62 }
     requires size { BoxWithin (2 ^ 60) power }
-    requires counted { pos 0 ≤ℤ ways }
-    requires small { ways ≤ℤ pos (2 ^ 62) }
+    requires least { pos 0 ≤ℤ ways }
+    requires most { ways ≤ℤ pos (2 ^ 62) }
     ensures { box_ends result ≡ alternate_box l (quot_box (scale_box (box_ends power) ways) (pos (2 ^ (k + l + 20)))) }
 {
     let entry = power.scale(ways).quot_shift((k + l + 20) as u32);

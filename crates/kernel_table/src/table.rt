@@ -41,8 +41,8 @@ impl<const P: usize> Kernel<P> {
     /// or 3, and `k, l < P`.
     pub fn entry(&self, e: Gauss, k: usize, l: usize) -> CBox
         requires distance { IsKernelDistance (number e) }
-        requires row { k < P }
-        requires column { l < P }
+        requires first { k < P }
+        requires second { l < P }
         ensures ends { box_ends result ≡ kernel_entry (number e) k l }
         ensures contains { BoxContains unit result (kernel_fraction (number e) k l) }
         ensures narrow { BoxEndsNarrow 2 (box_ends result) }
@@ -54,7 +54,7 @@ impl<const P: usize> Kernel<P> {
     /// The entries of one `l` at the distance `e`, with `k` from 0 to `P - 1`. Conditions as for `entry`.
     pub fn column(&self, e: Gauss, l: usize) -> &[CBox]
         requires distance { IsKernelDistance (number e) }
-        requires column { l < P }
+        requires index { l < P }
         ensures { IsKernelColumn P (number e) l result.now }
     {
         let start = (distance_index(e) * P + l) * P;

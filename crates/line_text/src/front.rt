@@ -71,7 +71,7 @@ impl<const N: usize> FrontText<N> {
     pub fn prepend_decimal(&mut self, n: u64)
         requires { 20 + length self.old ≤ N }
         ensures text { self.new ≡ decimal n ++ self.old }
-        ensures room { length self.new ≤ 20 + length self.old }
+        ensures length { length self.new ≤ 20 + length self.old }
     {
         let mut rest = n;
         while rest >= 10 {
@@ -85,7 +85,7 @@ impl<const N: usize> FrontText<N> {
     pub fn prepend_wide(&mut self, n: u128)
         requires { 39 + length self.old ≤ N }
         ensures text { self.new ≡ decimal n ++ self.old }
-        ensures room { length self.new ≤ 39 + length self.old }
+        ensures length { length self.new ≤ 39 + length self.old }
     {
         let mut rest = n;
         while rest >= 10 {
@@ -99,7 +99,7 @@ impl<const N: usize> FrontText<N> {
     pub fn prepend_int(&mut self, z: i64)
         requires { 21 + length self.old ≤ N }
         ensures text { self.new ≡ signed_decimal z ++ self.old }
-        ensures room { length self.new ≤ 21 + length self.old }
+        ensures length { length self.new ≤ 21 + length self.old }
     {
         self.prepend_decimal(z.unsigned_abs());
         if z < 0 {
@@ -111,7 +111,7 @@ impl<const N: usize> FrontText<N> {
     pub fn prepend_places(&mut self, n: u64)
         requires { 12 + length self.old ≤ N }
         ensures text { self.new ≡ digits_in 12 n ++ self.old }
-        ensures room { length self.new ≡ 12 + length self.old }
+        ensures length { length self.new ≡ 12 + length self.old }
     {
         let mut rest = n;
         for place in 0..PLACES {
@@ -125,7 +125,7 @@ impl<const N: usize> FrontText<N> {
         requires size { Within most_printed count }
         requires room { 34 + length self.old ≤ N }
         ensures text { self.new ≡ decimal_text count ++ self.old }
-        ensures room { length self.new ≤ 34 + length self.old }
+        ensures length { length self.new ≤ 34 + length self.old }
     {
         let size = count.unsigned_abs();
         let one = ONE as u128;

@@ -15,7 +15,7 @@ use Rattle.points.specs.Points.{place, pole, dipole, strength}
 use Rattle.points.specs.declared.Point.{Point}
 use Rattle.truncation.specs.Entries.{local_cut}
 use Rattle.exact_math.specs.Within.{GaussianBeyond}
-use Rattle.row_recursions.specs.Cells.{side_of, centre_of, offset_from, far_coefficients_in}
+use Rattle.row_recursions.specs.Cells.{side_of, doubled_centre_of, offset_from, far_coefficients_in}
 use Rattle.row_recursions.specs.Fields.{HoldsField}
 use Rattle.row_recursions.specs.Rows.{RowsAdd}
 use Rattle.row_recursions.specs.Sizes.{RowWithin}
@@ -43,7 +43,7 @@ module _ (P : ℕ) (c : Cell) (p : Point) (order : IsOrder P) (far : GaussianBey
       (far_source_within (side_of c) (pole p.kind) (dipole p.kind) (offset_from c (place p)) l (side_positive c) far)
 
   -- it holds the cut term of the point's source
-  pub far_field : HoldsField P (side_of c) (centre_of c) (λ t. local_cut P (centre_of c) t (source_of p)) (far_coefficients_in (square c) p)
+  pub far_field : HoldsField P (side_of c) (doubled_centre_of c) (λ t. local_cut P (doubled_centre_of c) t (source_of p)) (far_coefficients_in (square c) p)
   far_field =
       let apart = far_norm_positive (side_of c) (offset_from c (place p)) (side_positive c) far in
-      strength_field P (side_of c) (centre_of c) (place p) (strength p.kind) (side_positive c) (omega (arith, ints))
+      strength_field P (side_of c) (doubled_centre_of c) (place p) (strength p.kind) (side_positive c) (omega (arith, ints))

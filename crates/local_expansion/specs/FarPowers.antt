@@ -1,4 +1,4 @@
--- The coefficients of a far pole and of a far dipole, by the powers of a ratio m/zeta.
+-- The coefficients of a far pole and of a far dipole, by the powers of a ratio m/zeta. No public contract cites it.
 use Rattle.std.specs.Prelude.{ℕ, suc, pos}
 use Rattle.exact_math.specs.Ends.{BoxEnds, neg_box, scale_box}
 use Rattle.exact_math.specs.Gaussian.{Gaussian}

@@ -13,9 +13,9 @@ use complex_box::{Acc, CBox, Row, UNIT_BITS};
 #[inline]
 fn wide_coefficient<const P: usize>(column: &[CBox], row: Row<P>) -> CBox
     requires len { length column.now ≡ P }
-    requires order { P ≤ 32 }
-    requires column { RowWithin P (2 ^ 39 + 1) (row_of column.now) }
-    requires row { RowWithin P (2 ^ 80) (row_of row.cells.now) }
+    requires most { P ≤ 32 }
+    requires entries { RowWithin P (2 ^ 39 + 1) (row_of column.now) }
+    requires size { RowWithin P (2 ^ 80) (row_of row.cells.now) }
     ensures { box_ends result ≡ quot_box (sum_boxes P (λ k. times_box (row_of column.now k) (row_of row.entry.cells.now k))) unit }
 {
     let mut sum = Acc::new();
@@ -29,9 +29,9 @@ fn wide_coefficient<const P: usize>(column: &[CBox], row: Row<P>) -> CBox
 #[inline]
 pub(crate) fn coefficient<const P: usize>(column: &[CBox], row: Row<P>, narrow: bool) -> CBox
     requires len { length column.now ≡ P }
-    requires order { P ≤ 32 }
-    requires column { RowWithin P (2 ^ 39 + 1) (row_of column.now) }
-    requires row { RowWithin P (2 ^ 80) (row_of row.cells.now) }
+    requires most { P ≤ 32 }
+    requires entries { RowWithin P (2 ^ 39 + 1) (row_of column.now) }
+    requires size { RowWithin P (2 ^ 80) (row_of row.cells.now) }
     requires narrow { IsTrue narrow → RowWithin P (2 ^ 62) (row_of row.cells.now) }
     ensures { box_ends result ≡ quot_box (sum_boxes P (λ k. times_box (row_of column.now k) (row_of row.entry.cells.now k))) unit }
 {

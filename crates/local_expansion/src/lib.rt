@@ -14,7 +14,7 @@ ghost use Rattle.cell_name.specs.Cell.{square};
 ghost use Rattle.cell_name.specs.Square.{Holds};
 ghost use Rattle.points.specs.Limits.{InRange, weight64};
 ghost use Rattle.points.specs.Points.{place};
-ghost use Rattle.row_recursions.specs.Cells.{side_of, centre_of, offset_from, far_coefficients_in};
+ghost use Rattle.row_recursions.specs.Cells.{side_of, doubled_centre_of, offset_from, far_coefficients_in};
 ghost use Rattle.row_recursions.specs.Contents.{AddsFieldConverted, AddsFieldOf, IsValueOfField};
 ghost use Rattle.row_recursions.specs.Rows.{row_of, RowsAdd, converted, local_value};
 ghost use Rattle.row_recursions.specs.Sizes.{RowWithin};
@@ -50,8 +50,8 @@ pub fn convert<const P: usize>(
     requires order { IsOrder P }
     requires len { length into.old ≡ P }
     requires distance { IsKernelDistance (number e) }
-    requires row { RowWithin P (2 ^ 80) (row_of row.cells.now) }
-    requires size { RowWithin P (2 ^ 110) (row_of into.old) }
+    requires size { RowWithin P (2 ^ 80) (row_of row.cells.now) }
+    requires sum { RowWithin P (2 ^ 110) (row_of into.old) }
     requires room { work.old.translations < 2 ^ 63 }
     ensures adds { RowsAdd P (row_of into.old) (converted P (kernel_entry (number e)) (row_of row.entry.cells.now)) (row_of into.new) }
     ensures contains { AddsFieldConverted P (number e) (row_of row.entry.cells.now) (row_of into.old) (row_of into.new) }
@@ -73,10 +73,10 @@ pub fn add_far_source<const P: usize>(into: &mut [CBox], cell: Cell, p: &Point)
     requires len { length into.old ≡ P }
     requires range { InRange cell.grid p.now }
     requires far { GaussianBeyond (3 * side_of cell) (offset_from cell (place p.now)) }
-    requires size { RowWithin P (2 ^ 110) (row_of into.old) }
+    requires sum { RowWithin P (2 ^ 110) (row_of into.old) }
     ensures len { length into.new ≡ P }
     ensures adds { RowsAdd P (row_of into.old) (far_coefficients_in (square cell) p.now) (row_of into.new) }
-    ensures contains { AddsFieldOf P (side_of cell) (centre_of cell) (source_of p.now) (row_of into.old) (row_of into.new) }
+    ensures contains { AddsFieldOf P (side_of cell) (doubled_centre_of cell) (source_of p.now) (row_of into.old) (row_of into.new) }
     ensures size { (n : ℕ) → RowWithin P n (row_of into.old) → RowWithin P (n + 2 ^ 40 * weight64 p.now) (row_of into.new) }
 {
     add_far(into, cell, p);
@@ -91,7 +91,7 @@ pub fn at_local<const P: usize>(row: Row<P>, cell: Cell, x: i64, y: i64) -> CBox
     requires inside { Holds (square cell) x y }
     requires size { RowWithin P (2 ^ 90) (row_of row.cells.now) }
     ensures ends { box_ends result ≡ local_value P (row_of row.entry.cells.now) (side_of cell) (offset_from cell (gaussian x y)) }
-    ensures contains { IsValueOfField P (side_of cell) (centre_of cell) (gaussian x y) (row_of row.entry.cells.now) result }
+    ensures contains { IsValueOfField P (side_of cell) (doubled_centre_of cell) (gaussian x y) (row_of row.entry.cells.now) result }
     ensures size { (n : ℕ) → RowWithin P n (row_of row.entry.cells.now) → BoxWithin (P * n) result }
 {
     value_at(row, offset(cell, x, y), side_bits(cell))

@@ -172,9 +172,9 @@ pub(crate) fn is_narrow<const P: usize>(row: Row<P>) -> bool
 #[inline]
 pub(crate) fn narrow_coefficient<const P: usize>(column: &[CBox], row: Row<P>) -> CBox
     requires len { length column.now ≡ P }
-    requires order { P ≤ 32 }
-    requires column { RowWithin P (2 ^ 39 + 1) (row_of column.now) }
-    requires row { RowWithin P (2 ^ 62) (row_of row.cells.now) }
+    requires most { P ≤ 32 }
+    requires entries { RowWithin P (2 ^ 39 + 1) (row_of column.now) }
+    requires size { RowWithin P (2 ^ 62) (row_of row.cells.now) }
     ensures { box_ends result ≡ quot_box (sum_boxes P (λ k. times_box (row_of column.now k) (row_of row.entry.cells.now k))) unit }
 {
     let mut sum = CBox::zero();

@@ -18,7 +18,7 @@ use row_recursions::{far_ratio, offset, side_bits, units};
 
 /// Adds the negatives of the powers after `first`.
 fn add_poles(into: &mut [CBox], first: CBox, zeta: Gauss, bits: u32)
-    requires row { RowWithin (length into.old) (2 ^ 110) (row_of into.old) }
+    requires sum { RowWithin (length into.old) (2 ^ 110) (row_of into.old) }
     requires bits { bits ≤ widest_grid }
     requires near { GaussianWithin (2 ^ (widest_grid + 1)) (number zeta) }
     requires far { GaussianBeyond (3 * 2 ^ bits) (number zeta) }
@@ -37,7 +37,7 @@ fn add_poles(into: &mut [CBox], first: CBox, zeta: Gauss, bits: u32)
 /// Adds, at each `l`, `l + 1` times the power `l + 2`, where `first` is the power 0.
 fn add_dipoles(into: &mut [CBox], first: CBox, zeta: Gauss, bits: u32)
     requires len { length into.old ≤ 32 }
-    requires row { RowWithin (length into.old) (2 ^ 110) (row_of into.old) }
+    requires sum { RowWithin (length into.old) (2 ^ 110) (row_of into.old) }
     requires bits { bits ≤ widest_grid }
     requires near { GaussianWithin (2 ^ (widest_grid + 1)) (number zeta) }
     requires far { GaussianBeyond (3 * 2 ^ bits) (number zeta) }
@@ -56,7 +56,7 @@ fn add_dipoles(into: &mut [CBox], first: CBox, zeta: Gauss, bits: u32)
 /// Adds what a point far from the cell adds to the cell's local row; a target adds nothing.
 pub(crate) fn add_far(into: &mut [CBox], cell: Cell, p: &Point)
     requires len { length into.old ≤ 32 }
-    requires row { RowWithin (length into.old) (2 ^ 110) (row_of into.old) }
+    requires sum { RowWithin (length into.old) (2 ^ 110) (row_of into.old) }
     requires range { InRange cell.grid p.now }
     requires far { GaussianBeyond (3 * side_of cell) (offset_from cell (place p.now)) }
     ensures len { length into.new ≡ length into.old }

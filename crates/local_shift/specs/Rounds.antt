@@ -1,4 +1,4 @@
--- A round of Horner's scheme on a row of coefficients.
+-- A round of Horner's scheme on a row of coefficients. No public contract cites it.
 use Rattle.std.specs.Prelude.{ℕ, zero, suc, pos}
 use Rattle.exact_math.specs.Ends.{BoxEnds, add_box, scale_box, gscale_box, quot_box}
 use Rattle.exact_math.specs.Gaussian.{Gaussian}

@@ -27,9 +27,9 @@ use rounds::{add_halves, move_down};
 pub fn shift_down<const P: usize>(parent: Row<P>, q: Quadrant, into: &mut [CBox], work: &mut Work)
     requires order { IsOrder P }
     requires len { length into.old ≡ P }
-    requires parent { RowWithin P (2 ^ 90) (row_of parent.cells.now) }
+    requires size { RowWithin P (2 ^ 90) (row_of parent.cells.now) }
     requires sum { RowWithin P (2 ^ 110) (row_of into.old) }
-    requires count { work.old.translations < 2 ^ 63 }
+    requires room { work.old.translations < 2 ^ 63 }
     ensures len { length into.new ≡ P }
     ensures adds { RowsAdd P (row_of into.old) (shifted_down P (row_of parent.entry.cells.now) (quadrant_of q)) (row_of into.new) }
     ensures contains { AddsFieldDown P (quadrant_of q) (row_of parent.entry.cells.now) (row_of into.old) (row_of into.new) }

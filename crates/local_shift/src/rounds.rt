@@ -35,7 +35,7 @@ fn next_coefficient(own: CBox, lower: CBox, q: Quadrant) -> CBox
 /// One round on the first `n + 1` boxes, which takes a coefficient in.
 #[inline]
 fn take_in(moved: &mut [CBox], n: usize, taken: CBox, q: Quadrant)
-    requires room { n < length moved.old }
+    requires index { n < length moved.old }
     requires taken { BoxWithin (2 ^ 91) taken }
     requires size { RowWithin (length moved.old) (2 ^ 91) (row_of moved.old) }
     ensures len { length moved.new ≡ length moved.old }

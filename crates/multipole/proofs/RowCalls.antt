@@ -16,7 +16,7 @@ use Rattle.points.specs.Points.{place, strength}
 use Rattle.points.specs.declared.Point.{Point}
 use Rattle.truncation.specs.Entries.{Source, multipole_cut}
 use Rattle.exact_math.specs.Within.{GaussianBeyond}
-use Rattle.row_recursions.specs.Cells.{side_of, centre_of, offset_from, moments_in}
+use Rattle.row_recursions.specs.Cells.{side_of, doubled_centre_of, offset_from, moments_in}
 use Rattle.row_recursions.specs.Contents.{AddsMomentsOf}
 use Rattle.row_recursions.specs.Moments.{HoldsMoments}
 use Rattle.row_recursions.specs.Rows.{RowsAdd, multipole_value}
@@ -39,17 +39,17 @@ module _ (P : ℕ) (c : Cell) (p : Point) (order : IsOrder P) (inside : Holds (s
       (add_box_within (2 ^ 80) (2 ^ 40 * weight64 p) (old k) (part k) (bounded k h) (subst (BoxEndsWithin (2 ^ 40 * weight64 p)) (sym (is k h)) (part_within k h)))
 
 -- the moments of a point are those of its source
-point_moments : (P : ℕ) (c : Cell) (p : Point) → HoldsMoments P (side_of c) (centre_of c) (source_of p ∷ []) (moments_in (square c) p)
-point_moments P c p = strength_moments P (side_of c) (centre_of c) (place p) (strength p.kind) (side_positive c)
+point_moments : (P : ℕ) (c : Cell) (p : Point) → HoldsMoments P (side_of c) (doubled_centre_of c) (source_of p ∷ []) (moments_in (square c) p)
+point_moments P c p = strength_moments P (side_of c) (doubled_centre_of c) (place p) (strength p.kind) (side_positive c)
 
 -- a row with the point's moments added contains those of all
-pub added_moments : (P : ℕ) (c : Cell) (p : Point) (old new : ℕ → BoxEnds) → RowsAdd P old (moments_in (square c) p) new → AddsMomentsOf P (side_of c) (centre_of c) (source_of p) old new
-added_moments P c p old new adds xs h = moments_same P (side_of c) (centre_of c) (xs ++ source_of p ∷ []) (λ k. add_box (old k) (moments_in (square c) p k)) new adds
-    (sum_of_moments P (side_of c) (centre_of c) xs (source_of p ∷ []) old (moments_in (square c) p) (side_positive c) h (point_moments P c p))
+pub added_moments : (P : ℕ) (c : Cell) (p : Point) (old new : ℕ → BoxEnds) → RowsAdd P old (moments_in (square c) p) new → AddsMomentsOf P (side_of c) (doubled_centre_of c) (source_of p) old new
+added_moments P c p old new adds xs h = moments_same P (side_of c) (doubled_centre_of c) (xs ++ source_of p ∷ []) (λ k. add_box (old k) (moments_in (square c) p k)) new adds
+    (sum_of_moments P (side_of c) (doubled_centre_of c) xs (source_of p ∷ []) old (moments_in (square c) p) (side_positive c) h (point_moments P c p))
 
 -- the value of a row contains the cut terms
-pub value_contains : (P : ℕ) (c : Cell) (t : Gaussian) (xs : List Source) (m : ℕ → BoxEnds) → GaussianBeyond (3 * side_of c) (offset_from c t) → HoldsMoments P (side_of c) (centre_of c) xs m
-    → BoxEndsContain (pos (2 ^ 40)) (multipole_value P m (side_of c) (offset_from c t)) (sum_terms (multipole_cut P (centre_of c) t) xs)
+pub value_contains : (P : ℕ) (c : Cell) (t : Gaussian) (xs : List Source) (m : ℕ → BoxEnds) → GaussianBeyond (3 * side_of c) (offset_from c t) → HoldsMoments P (side_of c) (doubled_centre_of c) xs m
+    → BoxEndsContain (pos (2 ^ 40)) (multipole_value P m (side_of c) (offset_from c t)) (sum_terms (multipole_cut P (doubled_centre_of c) t) xs)
 value_contains P c t xs m far h =
     let apart = far_norm_positive (side_of c) (offset_from c t) (side_positive c) far in
-    multipole_values P (side_of c) (centre_of c) t xs m (side_positive c) (omega (arith, ints)) h
+    multipole_values P (side_of c) (doubled_centre_of c) t xs m (side_positive c) (omega (arith, ints)) h

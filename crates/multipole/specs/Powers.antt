@@ -1,4 +1,4 @@
--- The slopes of a place in sides.
+-- The slopes of a place in sides. No public contract cites it.
 use Rattle.std.specs.Prelude.{ℕ, zero, suc, ◌^◌, pos}
 use Rattle.exact_math.specs.Ends.{BoxEnds, zero_box, scale_box}
 use Rattle.exact_math.specs.Gaussian.{Gaussian}

@@ -15,7 +15,7 @@ ghost use Rattle.cell_name.specs.Square.{Holds};
 ghost use Rattle.limits.specs.Grid.{IsInGrid};
 ghost use Rattle.limits.specs.Limits.{widest_grid};
 ghost use Rattle.points.specs.Limits.{InRange, weight64};
-ghost use Rattle.row_recursions.specs.Cells.{side_of, centre_of, offset_from, moments_in};
+ghost use Rattle.row_recursions.specs.Cells.{side_of, doubled_centre_of, offset_from, moments_in};
 ghost use Rattle.row_recursions.specs.Contents.{AddsMomentsOf, IsValueOfMoments};
 ghost use Rattle.row_recursions.specs.Rows.{row_of, RowsAdd, HasPart, multipole_value};
 ghost use Rattle.row_recursions.specs.Sizes.{RowWithin};
@@ -38,10 +38,10 @@ pub fn add_source<const P: usize>(row: &mut [CBox], cell: Cell, p: &Point)
     requires len { length row.old ≡ P }
     requires range { InRange widest_grid p.now }
     requires inside { Holds (square cell) p.now.x p.now.y }
-    requires size { RowWithin P (2 ^ 80) (row_of row.old) }
+    requires sum { RowWithin P (2 ^ 80) (row_of row.old) }
     ensures len { length row.new ≡ P }
     ensures adds { RowsAdd P (row_of row.old) (moments_in (square cell) p.now) (row_of row.new) }
-    ensures contains { AddsMomentsOf P (side_of cell) (centre_of cell) (source_of p.now) (row_of row.old) (row_of row.new) }
+    ensures contains { AddsMomentsOf P (side_of cell) (doubled_centre_of cell) (source_of p.now) (row_of row.old) (row_of row.new) }
     ensures size { (n : ℕ) → RowWithin P n (row_of row.old) → RowWithin P (n + 2 ^ 40 * weight64 p.now) (row_of row.new) }
 {
     let mut part = [CBox::zero(); P];
@@ -73,11 +73,11 @@ pub fn take_source<const P: usize>(row: &mut [CBox], cell: Cell, p: &Point)
 /// are at most 2^80 in size.
 pub fn at_multipole<const P: usize>(row: Row<P>, cell: Cell, x: i64, y: i64) -> CBox
     requires order { IsOrder P }
-    requires grid { IsInGrid cell.grid x y }
+    requires in_grid { IsInGrid cell.grid x y }
     requires far { GaussianBeyond (3 * side_of cell) (offset_from cell (gaussian x y)) }
     requires size { RowWithin P (2 ^ 80) (row_of row.cells.now) }
     ensures ends { box_ends result ≡ multipole_value P (row_of row.entry.cells.now) (side_of cell) (offset_from cell (gaussian x y)) }
-    ensures contains { IsValueOfMoments P (side_of cell) (centre_of cell) (gaussian x y) (row_of row.entry.cells.now) result }
+    ensures contains { IsValueOfMoments P (side_of cell) (doubled_centre_of cell) (gaussian x y) (row_of row.entry.cells.now) result }
     ensures size { (n : ℕ) → RowWithin P n (row_of row.entry.cells.now) → BoxWithin (P * n) result }
 {
     value_at(row, offset(cell, x, y), side_bits(cell))

@@ -19,8 +19,8 @@ use row_recursions::{offset, side_bits, units};
 /// The next power: times `o/2^shift`, rounded outward.
 #[inline]
 fn next_power(power: CBox, o: Gauss, shift: u32) -> CBox
-    requires positive { 1 ≤ shift }
-    requires small { shift ≤ widest_grid + 1 }
+    requires least { 1 ≤ shift }
+    requires most { shift ≤ widest_grid + 1 }
     requires near { GaussianWithin (2 ^ (shift - 1)) (number o) }
     requires size { BoxWithin (2 ^ 60) power }
     ensures ends { box_ends result ≡ gquot_box (box_ends power) (number o) (pos (2 ^ shift)) }
@@ -31,8 +31,8 @@ fn next_power(power: CBox, o: Gauss, shift: u32) -> CBox
 
 /// Fills a row with the powers that begin with `first`.
 fn fill_powers(row: &mut [CBox], first: CBox, o: Gauss, shift: u32)
-    requires positive { 1 ≤ shift }
-    requires small { shift ≤ widest_grid + 1 }
+    requires least { 1 ≤ shift }
+    requires most { shift ≤ widest_grid + 1 }
     requires near { GaussianWithin (2 ^ (shift - 1)) (number o) }
     requires size { BoxWithin (2 ^ 60) first }
     ensures len { length row.new ≡ length row.old }
@@ -48,8 +48,8 @@ fn fill_powers(row: &mut [CBox], first: CBox, o: Gauss, shift: u32)
 /// Fills a row with nothing and then, at each `k`, `k` times the power before, where the powers begin with `first`.
 fn fill_slopes(row: &mut [CBox], first: CBox, o: Gauss, shift: u32)
     requires len { (1 ≤ length row.old) × (length row.old ≤ 32) }
-    requires positive { 1 ≤ shift }
-    requires small { shift ≤ widest_grid + 1 }
+    requires least { 1 ≤ shift }
+    requires most { shift ≤ widest_grid + 1 }
     requires near { GaussianWithin (2 ^ (shift - 1)) (number o) }
     requires size { BoxWithin (2 ^ 60) first }
     ensures len { length row.new ≡ length row.old }

@@ -21,8 +21,8 @@ use row_recursions::add_row;
 pub fn shift_up<const P: usize>(child: Row<P>, q: Quadrant, into: &mut [CBox], work: &mut Work)
     requires order { IsOrder P }
     requires len { length into.old ≡ P }
-    requires child { RowWithin P (2 ^ 80) (row_of child.cells.now) }
-    requires size { RowWithin P (2 ^ 80) (row_of into.old) }
+    requires size { RowWithin P (2 ^ 80) (row_of child.cells.now) }
+    requires sum { RowWithin P (2 ^ 80) (row_of into.old) }
     requires room { work.old.translations < 2 ^ 63 }
     ensures len { length into.new ≡ P }
     ensures adds { RowsAdd P (row_of into.old) (shifted_up (row_of child.entry.cells.now) (quadrant_of q)) (row_of into.new) }

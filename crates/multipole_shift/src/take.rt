@@ -17,7 +17,7 @@ use row_recursions::take_row;
 pub fn take_up<const P: usize>(child: Row<P>, q: Quadrant, into: &mut [CBox], work: &mut Work)
     requires order { IsOrder P }
     requires len { length into.old ≡ P }
-    requires child { RowWithin P (2 ^ 80) (row_of child.cells.now) }
+    requires size { RowWithin P (2 ^ 80) (row_of child.cells.now) }
     requires part { HasPart P (row_of into.old) (shifted_up (row_of child.cells.now) (quadrant_of q)) }
     requires room { work.old.translations < 2 ^ 63 }
     ensures len { length into.new ≡ P }

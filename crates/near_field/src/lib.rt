@@ -32,7 +32,7 @@ fn stands_at(p: &Point, x: i64, y: i64) -> bool
 /// version, the place is in the widest grid, and the count of pairs is below 2^63.
 pub fn pair(p: &Point, x: i64, y: i64, work: &mut Work) -> CBox
     requires range { InRange widest_grid p.now }
-    requires grid { IsInGrid widest_grid x y }
+    requires in_grid { IsInGrid widest_grid x y }
     requires room { work.old.pairs < 2 ^ 63 }
     ensures ends { box_ends result ≡ pair_box (gaussian x y) p.now }
     ensures contains { is_at (gaussian x y) p.now ≡ false → BoxContains unit result (term_of (gaussian x y) p.now) }

@@ -43,7 +43,7 @@ fn difference_of_products(a: i64, b: i64, c: i64, d: i64) -> i64
 
 /// `dx^2 + dy^2`.
 fn norm(dx: i64, dy: i64) -> i64
-    requires distance { Within (2 ^ widest_grid) dx × Within (2 ^ widest_grid) dy }
+    requires size { Within (2 ^ widest_grid) dx × Within (2 ^ widest_grid) dy }
     ensures value { result ≡ norm_gaussian (gaussian dx dy) }
     ensures size { Within (2 ^ (2 * widest_grid + 1)) result }
 {
@@ -53,7 +53,7 @@ fn norm(dx: i64, dy: i64) -> i64
 /// `a conj(d)` over `norm(d)`, for the pole `a = (re, im)` and the distance `d = (dx, dy)`.
 fn pole_over(re: i64, im: i64, dx: i64, dy: i64) -> Term
     requires pole { Within most_strength re × Within most_strength im }
-    requires distance { Within (2 ^ widest_grid) dx × Within (2 ^ widest_grid) dy }
+    requires size { Within (2 ^ widest_grid) dx × Within (2 ^ widest_grid) dy }
     ensures { ratio_of result ≡ pole_term (gaussian re im) (gaussian dx dy) }
 {
     Term {
@@ -66,7 +66,7 @@ fn pole_over(re: i64, im: i64, dx: i64, dy: i64) -> Term
 /// `b conj(d)^2` over `norm(d)^2`, for the dipole `b = (re, im)` and the distance `d = (dx, dy)`.
 fn dipole_over(re: i64, im: i64, dx: i64, dy: i64) -> Term
     requires dipole { Within most_strength re × Within most_strength im }
-    requires distance { Within (2 ^ widest_grid) dx × Within (2 ^ widest_grid) dy }
+    requires size { Within (2 ^ widest_grid) dx × Within (2 ^ widest_grid) dy }
     ensures { ratio_of result ≡ dipole_term (gaussian re im) (gaussian dx dy) }
 {
     let across = difference_of_products(dx, dx, dy, dy);
@@ -82,7 +82,7 @@ fn dipole_over(re: i64, im: i64, dx: i64, dy: i64) -> Term
 /// The term of a point at a distance: `a/d` of a pole `a`, `b/d^2` of a dipole `b`, 0 of a target.
 pub(crate) fn contribution(p: &Point, dx: i64, dy: i64) -> Term
     requires range { InRange widest_grid p.now }
-    requires distance { Within (2 ^ widest_grid) dx × Within (2 ^ widest_grid) dy }
+    requires size { Within (2 ^ widest_grid) dx × Within (2 ^ widest_grid) dy }
     ensures { ratio_of result ≡ strength_term (strength p.now.kind) (gaussian dx dy) }
 {
     match p.kind.strength() {

@@ -20,9 +20,6 @@ cut_more v m d e = omega arith
 pub digits_more : (digits : List ℕ) (i : ℕ) → i < length digits → AllByRecursion IsDigit (take i digits) → IsDigit (get_or digits i 0) → AllByRecursion IsDigit (take (i + 1) digits)
 digits_more digits i within before here = recursion_from_All IsDigit _ (All-more IsDigit digits i 0 within (All-from_recursion IsDigit _ before) here)
 
-pub digit_at : (digits : List ℕ) (i : ℕ) → i < length digits → AllByRecursion IsDigit digits → IsDigit (get_or digits i 0)
-digit_at digits i within all = All-get_or IsDigit digits i 0 within (All-from_recursion IsDigit digits all)
-
 -- the number that `-` and a number other than 0 spell
 pub below_zero : (word : List ℕ) (m size : ℕ) → word ≡ 45 ∷ drop 1 word → IsUint (drop 1 word) m → size ≡ cut_uint m → size ≢ 0 → (z : ℤ) × IsInt word z × (neg_ℤ (pos size) ≡ cut_int z)
 below_zero word zero size whole uint read above = absurd (above (omega arith))

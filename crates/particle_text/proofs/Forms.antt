@@ -10,7 +10,7 @@ use Rattle.points.specs.declared.Point.{Point}
 use Rattle.points.specs.Limits.{IsKindOf}
 use Rattle.particle_text.specs.declared.line.Form.{Form}
 use Rattle.particle_text.specs.declared.line.Form.TheVariants as forms
-use Rattle.particle_text.specs.Private.{kind_of, word_of}
+use Rattle.particle_text.specs.Private.{kind_of_form, word_of}
 use Rattle.particle_text.specs.Text.{LineSpells, name_of, strength_of, numbers_of}
 
 -- a line that is cut at its first space is read by its first word and its numbers
@@ -43,7 +43,7 @@ word_of_kind Target = refl
 word_of_kind (Pole re im) = refl
 
 -- a version has the lines of a kind where it has those of its form, whatever the strength
-pub form_of_version : (grid : ℕ) (kind : Kind) → IsKindOf grid kind → IsKindOf grid (kind_of (form_of_kind kind))
+pub form_of_version : (grid : ℕ) (kind : Kind) → IsKindOf grid kind → IsKindOf grid (kind_of_form (form_of_kind kind))
 form_of_version grid (Charge q) is = tt
 form_of_version grid (Dipole re im) is = tt
 form_of_version grid (Vortex g) is = tt

@@ -9,15 +9,15 @@ use Rattle.particle_text.specs.declared.line.Form.TheVariants as forms
 use Rattle.particle_text.specs.Text.{name_of}
 
 -- the kind of a form, with no strength
-abbrev pub kind_of : Form → Kind
-kind_of forms.Charge = Charge (pos 0)
-kind_of forms.Dipole = Dipole (pos 0) (pos 0)
-kind_of forms.Vortex = Vortex (pos 0)
-kind_of forms.Target = Target
-kind_of forms.Pole = Pole (pos 0) (pos 0)
+abbrev pub kind_of_form : Form → Kind
+kind_of_form forms.Charge = Charge (pos 0)
+kind_of_form forms.Dipole = Dipole (pos 0) (pos 0)
+kind_of_form forms.Vortex = Vortex (pos 0)
+kind_of_form forms.Target = Target
+kind_of_form forms.Pole = Pole (pos 0) (pos 0)
 
 abbrev pub word_of : Form → List ℕ
-word_of form = name_of (kind_of form)
+word_of form = name_of (kind_of_form form)
 
 abbrev pub cut_kind : Kind → Kind
 cut_kind (Charge q) = Charge (cut_int q)

@@ -6,7 +6,7 @@ ghost use Rattle.particle_text.specs.declared.line.Form.{Form};
 ghost use Rattle.limits.specs.Limits.{IsVersion, grid_of};
 ghost use Rattle.particle_text.specs.Faults.{FormFault};
 ghost use Rattle.points.specs.Limits.{InRange, IsKindOf};
-ghost use Rattle.particle_text.specs.Private.{cut_point, kind_of, word_of};
+ghost use Rattle.particle_text.specs.Private.{cut_point, kind_of_form, word_of};
 ghost use Rattle.particle_text.specs.Text.{LineSpells};
 
 use crate::{Kind, Point, TextKind};
@@ -26,8 +26,8 @@ enum Form {
 /// The form whose lines begin with this word in a text of that version: `pole` is a word of version 2 alone.
 fn form_of(version: u8, name: &[u8]) -> Option<Form>
     ensures some { IfSome result (λ form. name.now ≡ word_of form) }
-    ensures kind { IfSome result (λ form. IsKindOf (grid_of version) (kind_of form)) }
-    ensures none { IfNone result ((form : Form) → IsKindOf (grid_of version) (kind_of form) → name.now ≡ word_of form → ⊥) }
+    ensures kind { IfSome result (λ form. IsKindOf (grid_of version) (kind_of_form form)) }
+    ensures none { IfNone result ((form : Form) → IsKindOf (grid_of version) (kind_of_form form) → name.now ≡ word_of form → ⊥) }
 {
     match name {
         b"charge" => Some(Form::Charge),

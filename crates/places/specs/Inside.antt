@@ -3,8 +3,8 @@ use Rattle.std.specs.Prelude.{ℕ, ◌^◌, ◌≡◌, pos, unsigned_abs, ◌≤
 use Rattle.places.specs.declared.place.Place.TheInside.{Inside}
 use Rattle.places.specs.Place.{PlaceModel, most_radius}
 
-abbrev pub seen : {P : ℕ} → Inside P → PlaceModel
-seen p = record { row = p.row; radius = unsigned_abs p.further.re.lo; translations = unsigned_abs p.further.im.lo }
+abbrev pub place_seen : {P : ℕ} → Inside P → PlaceModel
+place_seen p = record { row = p.row; radius = unsigned_abs p.further.re.lo; translations = unsigned_abs p.further.im.lo }
 
 -- the further box is a point: the radius and the translations
 pub record IsPlace {P : ℕ} (p : Inside P) : Type 0 where

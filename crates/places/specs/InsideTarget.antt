@@ -3,8 +3,8 @@ use Rattle.std.specs.Prelude.{◌^◌, ◌≡◌, pos, unsigned_abs, ◌≤ℤ�
 use Rattle.places.specs.declared.target.TargetPlace.TheInside.{Inside}
 use Rattle.places.specs.Target.{TargetModel}
 
-abbrev pub seen : Inside → TargetModel
-seen p = record { value = p.value; pairs = unsigned_abs p.further.re.lo }
+abbrev pub target_seen : Inside → TargetModel
+target_seen p = record { value = p.value; pairs = unsigned_abs p.further.re.lo }
 
 -- the further box is a point: the pairs, and 0
 pub record IsTargetPlace (p : Inside) : Type 0 where

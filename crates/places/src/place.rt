@@ -21,9 +21,9 @@ impl<const P: usize> Model for Place<P> {
 
     ghost Value = { PlaceModel };
 
-    ghost use Rattle.places.specs.Inside.{seen, IsPlace};
+    ghost use Rattle.places.specs.Inside.{place_seen, IsPlace};
 
-    ghost view = { seen };
+    ghost view = { place_seen };
 
     ghost invariant = { IsPlace };
 }

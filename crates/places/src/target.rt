@@ -17,9 +17,9 @@ impl Model for TargetPlace {
 
     ghost Value = { TargetModel };
 
-    ghost use Rattle.places.specs.InsideTarget.{seen, IsTargetPlace};
+    ghost use Rattle.places.specs.InsideTarget.{target_seen, IsTargetPlace};
 
-    ghost view = { seen };
+    ghost view = { target_seen };
 
     ghost invariant = { IsTargetPlace };
 }

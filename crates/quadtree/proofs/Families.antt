@@ -14,7 +14,7 @@ use Rattle.cell_name.proofs.Order.{IsBefore-irrefl}
 use Rattle.cell_name.proofs.Quarters.{quarters_contain}
 use Rattle.quadtree.specs.declared.children.Children.{Children}
 use Rattle.quadtree.specs.Families.{children_among, HasNumbers, AreFamiliesTo}
-use Rattle.quadtree.specs.Fields.{numbers_of, no_children}
+use Rattle.quadtree.specs.Fields.{child_numbers, no_children}
 use Rattle.quadtree.specs.Splitting.{IsParentNumber}
 use Rattle.quadtree.specs.Tree.{AreInGrid, AreExactly, IsTreeCell}
 use Rattle.quadtree.proofs.Distinct.{Contains-filter, length-le_from_different}
@@ -105,14 +105,14 @@ room_for_one parents was n m total read lo lt own inside h e four =
     let grown : length (children_among parents m (n + 1)) ≤ length (children_among parents m total) = subst (λ k. length (children_among parents m (n + 1)) ≤ length (children_among parents m k)) rest (children_grow parents m (n + 1) (total - (n + 1))) in
     omega (arith, family.count_is, ap (λ (f : Children). f.count) e, long, grown, four)
 
-pub families_more : (parents : List ℕ) (was : List Children) (n m : ℕ) (read new : Children) → 0 < n → m ≡ get_or parents n 0 → m < length parents → AreFamiliesTo parents was n → read ≡ get_or was m no_children → HasNumbers new (numbers_of read ++ n ∷ []) → AreFamiliesTo parents (set was m new) (n + 1)
+pub families_more : (parents : List ℕ) (was : List Children) (n m : ℕ) (read new : Children) → 0 < n → m ≡ get_or parents n 0 → m < length parents → AreFamiliesTo parents was n → read ≡ get_or was m no_children → HasNumbers new (child_numbers read ++ n ∷ []) → AreFamiliesTo parents (set was m new) (n + 1)
 families_more parents was n m read new lo own inside h e made = record { as_many = length-set was m new ∙ h.as_many; each = each }
   where
     mine : HasNumbers new (children_among parents m (n + 1))
     mine =
         let P : List ℕ → Type 0 = λ l. HasNumbers new l in
-        let now : numbers_of read ++ n ∷ [] ≡ children_among parents m (n + 1) =
-        ap (λ f. numbers_of f ++ n ∷ []) e ∙ ap (λ l. l ++ n ∷ []) (h.each m inside).numbers_are ∙
+        let now : child_numbers read ++ n ∷ [] ≡ children_among parents m (n + 1) =
+        ap (λ f. child_numbers f ++ n ∷ []) e ∙ ap (λ l. l ++ n ∷ []) (h.each m inside).numbers_are ∙
         sym (children_more parents m n ∙ ap (λ b. children_among parents m n ++ cond b (n ∷ []) []) (is_own parents m n lo own)) in
         subst P now made
 

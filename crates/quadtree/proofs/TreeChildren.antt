@@ -137,7 +137,3 @@ module _ (tree : TreeModel) (points : List Point) (cap : ℕ) (inside : AreInGri
           let listed = subst L (h.nodes_are n lt).children_are (child_listed n k.0 lt in_range (omega (arith, b.quarter.level)) (ap parent is ∙ b.quarter.parent_is)) in
           let Q : Square → Type 0 = λ v. Contains (map (square_of tree) (children_of tree n)) v in
           subst Q is (Contains-into_map (square_of tree) (children_of tree n) k.0 listed)
-
-  -- of the children those that pass a test, as a choice among all numbers
-  pub children_that : (keep : ℕ → Bool) (n : ℕ) → n < size tree → filter keep (node_of tree n).children ≡ filter (λ c. is_child tree n c && keep c) (range_with_len 0 (size tree))
-  children_that keep n lt = ap (filter keep) (h.nodes_are n lt).children_are ∙ filter-filter keep (is_child tree n) (range_with_len 0 (size tree))

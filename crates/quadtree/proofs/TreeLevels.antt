@@ -137,7 +137,3 @@ tree_built grid points cap start xs runs h =
       whole = λ c k. h.cells.whole c (record { in_tree = k; level_at_most = k.level_in_grid });
       ascending = h.cells.ascending;
     }
-
--- no cell that is split next is of the last level
-pub room : (grid : ℕ) (points : List Point) (cap level start : ℕ) (xs : List ℕ) (runs : List Run) → level < grid → IsBuiltTo grid points cap level start xs runs → All (λ c. c.level < c.grid) (squares_of runs)
-room grid points cap level start xs runs lt h = All-weaker (IsCellToLevel grid points cap level) (λ c. c.level < c.grid) (λ c k. omega (arith, k.level_at_most, k.in_tree.of_grid)) (squares_of runs) h.cells.each

@@ -18,7 +18,7 @@ use Rattle.quadtree.specs.declared.split.Run.{Run}
 use Rattle.quadtree.specs.declared.tree.Node.{Node}
 use Rattle.quadtree.specs.Families.{children_among, AreFamiliesTo}
 use Rattle.quadtree.specs.Faults.{HasMoreCells}
-use Rattle.quadtree.specs.Fields.{node_model, numbers_of, tree_of, IsRange, AreFieldsOfTree}
+use Rattle.quadtree.specs.Fields.{node_model, child_numbers, tree_of, HasRange, AreFieldsOfTree}
 use Rattle.quadtree.specs.Members.{members_of}
 use Rattle.quadtree.specs.Nodes.{AreNodesTo, IsInLeaf, LeavesAreApart, LeavesAreTo, blank_node}
 use Rattle.quadtree.specs.Splitting.{squares_of, IsParentNumber}
@@ -89,8 +89,8 @@ module _ (grid : ℕ) (points : List Point) (cap : ℕ) (positions : List ℕ) (
           let there = leaf_cell grid points cap p level.0 (get_or cells n no_square) given level.1 second.leaf (subst Q same second.member.held) in
           number_unique cells m n t.ascending (omega (arith, i.in_range, a.as_many)) (omega (arith, j.in_range, a.as_many)) (here ∙ sym there)
 
-  pub ranges : All (IsRange positions) nodes
-  ranges = All-from_get_or (IsRange positions) nodes blank_node (λ n lt. (a.each n (omega (arith, lt, a.as_many))).range)
+  pub ranges : All (HasRange positions) nodes
+  ranges = All-from_get_or (HasRange positions) nodes blank_node (λ n lt. (a.each n (omega (arith, lt, a.as_many))).range)
 
   -- the number of a leaf of a point
   pub leaf_number : (leaves : List ℕ) (k : ℕ) (p : Point) → LeavesAreTo positions nodes leaves (length nodes) → slice_get points k ≡ Some p → (n : ℕ) × (n < length cells) × IsLeaf grid points cap (get_or cells n no_square) × Holds (get_or cells n no_square) p.x p.y × (slice_index leaves k ≡ n)
@@ -159,7 +159,7 @@ module _ (grid : ℕ) (points : List Point) (cap : ℕ) (cells : List Cell) (par
 
   children_shown : (n : ℕ) → n < length cells → (node_of tree n).children ≡ children_of tree n
   children_shown n lt =
-      sym (ap (λ (v : NodeModel). v.children) (shows n lt)) ∙ ap numbers_of (h.nodes_are.each n lt).children_are ∙ (h.families_are.each n (omega (arith, h.as_many_parents))).numbers_are ∙
+      sym (ap (λ (v : NodeModel). v.children) (shows n lt)) ∙ ap child_numbers (h.nodes_are.each n lt).children_are ∙ (h.families_are.each n (omega (arith, h.as_many_parents))).numbers_are ∙
       filter_same (λ k. ltb 0 k && eqb (get_or parents k 0) n) (is_child tree n) (range_with_len 0 (length cells))
       (All-from_members (λ k. (ltb 0 k && eqb (get_or parents k 0) n) ≡ is_child tree n k) (range_with_len 0 (length cells)) (λ k listed. ap (λ m. ltb 0 k && eqb m n) (parent_shown k (range_below (length cells) k listed))))
 

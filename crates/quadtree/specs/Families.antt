@@ -2,12 +2,12 @@
 use Rattle.std.specs.Prelude.{ℕ, ◌≡◌, ◌<◌, ◌==◌, ◌&&◌, nat_lt, List, length, filter, slice_index, slice_index_or}
 use Rattle.std.specs.List.{range_with_len}
 use Rattle.quadtree.specs.declared.children.Children.{Children}
-use Rattle.quadtree.specs.Fields.{numbers_of, no_children}
+use Rattle.quadtree.specs.Fields.{child_numbers, no_children}
 
 -- the numbers of a list, each once and in its order
 pub record HasNumbers (children : Children) (numbers : List ℕ) : Type 0 where
   pub count_is : children.count ≡ length numbers
-  pub numbers_are : numbers_of children ≡ numbers
+  pub numbers_are : child_numbers children ≡ numbers
 
 -- the numbers from 1 on, below `count`, whose parent is `n`
 abbrev pub children_among : List ℕ → ℕ → ℕ → List ℕ

@@ -6,8 +6,8 @@ use Rattle.quadtree.specs.declared.tree.Node.{Node}
 use Rattle.quadtree.specs.TreeModel.{NodeModel, TreeModel, IsTree}
 
 -- the numbers of the cells below a cell
-abbrev pub numbers_of : Children → List ℕ
-numbers_of children = take children.count children.numbers
+abbrev pub child_numbers : Children → List ℕ
+child_numbers children = take children.count children.numbers
 
 -- what stands past the last cell
 abbrev pub no_children : Children
@@ -23,7 +23,7 @@ node_model positions node =
       has_source = node.has_source;
       has_target = node.has_target;
       members = slice_range positions node.from node.to;
-      children = numbers_of node.children;
+      children = child_numbers node.children;
     }
 
 -- the tree on a grid that cells, nodes, positions and leaves make
@@ -31,12 +31,12 @@ abbrev pub tree_of : ℕ → List Cell → List Node → List ℕ → List ℕ �
 tree_of grid cells nodes positions leaves = record { grid = grid; cells = cells; nodes = map (node_model positions) nodes; leaves = leaves }
 
 -- the node's range lies among the positions
-pub record IsRange (positions : List ℕ) (node : Node) : Type 0 where
+pub record HasRange (positions : List ℕ) (node : Node) : Type 0 where
   pub ordered : node.from ≤ node.to
   pub in_range : node.to ≤ length positions
 
 -- each node has a range of the positions and at most four children, and together they are a tree
 pub record AreFieldsOfTree (grid : ℕ) (cells : List Cell) (nodes : List Node) (positions leaves : List ℕ) : Type 0 where
-  pub ranges : All (IsRange positions) nodes
+  pub ranges : All (HasRange positions) nodes
   pub few_children : All (λ (node : Node). node.children.count ≤ 4) nodes
   pub is_tree : IsTree (tree_of grid cells nodes positions leaves)

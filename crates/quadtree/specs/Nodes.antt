@@ -5,7 +5,7 @@ use Rattle.points.specs.Points.{is_source}
 use Rattle.cell_name.specs.Square.{Square, no_square}
 use Rattle.quadtree.specs.declared.children.Children.{Children}
 use Rattle.quadtree.specs.declared.tree.Node.{Node}
-use Rattle.quadtree.specs.Fields.{IsRange, no_children}
+use Rattle.quadtree.specs.Fields.{HasRange, no_children}
 use Rattle.quadtree.specs.Members.{members_of}
 use Rattle.quadtree.specs.Tree.{IsLeaf, has_target, has_source}
 
@@ -20,7 +20,7 @@ is_source_at None = false
 
 -- what is kept of a cell is right, but for the numbers of other cells, which are given
 pub record IsNodeOf (points : List Point) (cap : ℕ) (positions : List ℕ) (c : Square) (parent : ℕ) (children : Children) (node : Node) : Type 0 where
-  pub range : IsRange positions node
+  pub range : HasRange positions node
   pub members_are : slice_range positions node.from node.to ≡ members_of points c
   pub leaf : IsTrue node.is_leaf ↔ IsLeaf c.grid points cap c
   pub source : IsTrue node.has_source ↔ IsTrue (has_source points c)

@@ -37,12 +37,12 @@ fn first_crowded(runs: &[Run]) -> Option<Run>
 fn accepted(alloc: Global, points: &[Point], cap: u32, grid: u8) -> Result<Splits, TreeFault>
     requires known_grid { IsGrid grid }
     requires in_grid { AreInGrid grid points.now }
-    requires few { length points.now ≤ most_points grid }
-    requires cap { cap ≤ 1024 }
+    requires length { length points.now ≤ most_points grid }
+    requires most { cap ≤ 1024 }
     ensures cells { IfOk result (λ s. AreExactly (IsTreeCell grid points.now cap) (squares_of s.runs.items)) }
     ensures runs { IfOk result (λ s. AreRuns points.now s.positions.items s.runs.items) }
     ensures parents { IfOk result (λ s. HaveParents (squares_of s.runs.items) s.runs.items) }
-    ensures few { IfOk result (λ s. length s.runs.items ≤ most_cells grid) }
+    ensures length { IfOk result (λ s. length s.runs.items ≤ most_cells grid) }
     ensures none_crowded { OnOk result (NoneIsCrowded grid points.now) }
     ensures fault { IfErr result (IsFaultOf grid points.now cap) }
 {
@@ -82,7 +82,7 @@ fn assembled(
     requires few_cells { length splits.runs.items ≤ most_cells grid }
     requires runs { AreRuns points.now splits.positions.items splits.runs.items }
     requires parents { HaveParents (squares_of splits.runs.items) splits.runs.items }
-    requires cap { IsCapacity cap }
+    requires capacity { IsCapacity cap }
     ensures tree { IfOk result (λ tree. IsTreeOf tree points.now cap) }
     ensures grid { IfOk result (λ tree. tree.grid ≡ grid) }
 {
@@ -108,7 +108,7 @@ impl Tree {
     /// level. Otherwise, where the tree has more cells than `limits::most_cells` of its grid, it is `Cells`.
     pub fn build(alloc: Global, points: &Points, cap: u32) -> Result<Tree, TreeFault>
         requires list { WithinLimits points.now }
-        requires cap { IsCapacity cap }
+        requires capacity { IsCapacity cap }
 
         // Every answer but `Memory` is the one that the list and the capacity determine.
         ensures grid { IfOk result (λ tree. tree.grid ≡ grid_of points.now.version) }

@@ -3,7 +3,7 @@
 ghost use Rattle.std.specs.Prelude.{◌≡◌, ℕ, ◌+◌, ◌<◌, ◌≤◌, [], ◌∷◌, ◌++◌, length, All, IfOk};
 ghost use Rattle.limits.specs.Limits.{widest_grid, most_cells};
 ghost use Rattle.quadtree.specs.Families.{HasNumbers, children_among, AreFamiliesTo};
-ghost use Rattle.quadtree.specs.Fields.{numbers_of};
+ghost use Rattle.quadtree.specs.Fields.{child_numbers};
 ghost use Rattle.quadtree.specs.Splitting.{parents_of};
 
 use crate::split::Run;
@@ -30,7 +30,7 @@ impl Children {
     /// These numbers and one more.
     fn with(mut self, n: u32) -> Children
         requires { self.count < 4 }
-        ensures { HasNumbers result (numbers_of self ++ n ∷ []) }
+        ensures { HasNumbers result (child_numbers self ++ n ∷ []) }
     {
         self.numbers[self.count] = n;
         self.count += 1;
@@ -40,7 +40,7 @@ impl Children {
     /// The numbers.
     pub(crate) fn numbers(&self) -> &[u32]
         requires { self.now.count ≤ 4 }
-        ensures { result.now ≡ numbers_of self.now }
+        ensures { result.now ≡ child_numbers self.now }
     {
         &self.numbers[..self.count]
     }
@@ -48,7 +48,7 @@ impl Children {
 
 /// The numbers of the cells below the cell of each run, ascending.
 pub(crate) fn children_of(alloc: Global, runs: &[Run]) -> Result<Vec<Children>, AllocError>
-    requires few { length runs.now ≤ most_cells widest_grid }
+    requires length { length runs.now ≤ most_cells widest_grid }
     requires parents { All (λ r. r.parent < length runs.now) runs.now }
     requires four { (n : ℕ) → length (children_among (parents_of runs.now) n (length runs.now)) ≤ 4 }
     ensures { IfOk result (λ v. AreFamiliesTo (parents_of runs.now) v.items (length runs.now)) }

@@ -3,7 +3,7 @@
 ghost use Rattle.std.specs.Prelude.{◌≡◌, ℕ, ◌<◌, ◌≤◌, ◌^◌, ◌⊎◌, ◌↔◌, IsTrue, length, not, slice_get, slice_index, All, Contains, IfOk};
 ghost use Rattle.std.specs.List.{list_any};
 ghost use Rattle.cell_name.specs.Cell.{square};
-ghost use Rattle.quadtree.specs.Fields.{IsRange};
+ghost use Rattle.quadtree.specs.Fields.{HasRange};
 ghost use Rattle.quadtree.specs.Nodes.{is_source_at, is_target_at, IsNodeOf, AreNodesTo, LeavesAreApart, LeavesAreTo};
 ghost use Rattle.quadtree.specs.Splitting.{squares_of, parents_of, IsRun, AreRuns};
 ghost use Rattle.quadtree.specs.Tree.{IsTreeCell};
@@ -107,9 +107,9 @@ pub(crate) fn leaves_of(
     nodes: &[Node],
     positions: &[u32],
 ) -> Result<Vec<u32>, AllocError>
-    requires few { length nodes.now < 2 ^ 32 }
+    requires length { length nodes.now < 2 ^ 32 }
     requires below { All (λ k. k < count) positions.now }
-    requires ranges { All (IsRange positions.now) nodes.now }
+    requires ranges { All (HasRange positions.now) nodes.now }
     requires apart { LeavesAreApart positions.now nodes.now }
     ensures as_many { IfOk result (λ v. length v.items ≡ count) }
     ensures leaves { IfOk result (λ v. LeavesAreTo positions.now nodes.now v.items (length nodes.now)) }

@@ -79,7 +79,7 @@ impl Splits {
         number: usize,
     ) -> Result<(), AllocError>
         requires number { number < length above.now }
-        requires room { All (λ c. c.level < c.grid) (squares_of above.now) }
+        requires levels { All (λ c. c.level < c.grid) (squares_of above.now) }
         requires parts { HasRoom parts.old (length points.now) }
         requires below { AreBelow points.now above.now self.old.positions.items self.old.runs.items }
         ensures cells { OnOk result (AddsCells self.old.runs.items (occupied points.now (quarters_of (squares_of above.now) number)) self.new.runs.items) }
@@ -110,7 +110,7 @@ impl Splits {
         start: usize,
     ) -> Result<(), AllocError>
         requires start { start ≤ length above.now }
-        requires room { All (λ c. c.level < c.grid) (squares_of above.now) }
+        requires levels { All (λ c. c.level < c.grid) (squares_of above.now) }
         requires parts { HasRoom parts.old (length points.now) }
         requires below { AreBelow points.now above.now self.old.positions.items self.old.runs.items }
         ensures cells { OnOk result (AddsCells self.old.runs.items (below_from points.now cap start above.now) self.new.runs.items) }
@@ -130,7 +130,7 @@ impl Splits {
     fn root(alloc: Global, points: &[Point], grid: u8) -> Result<Splits, AllocError>
         requires known_grid { IsGrid grid }
         requires in_grid { AreInGrid grid points.now }
-        requires few { length points.now ≤ most_points widest_grid }
+        requires length { length points.now ≤ most_points widest_grid }
         ensures cells { IfOk result (λ s. squares_of s.runs.items ≡ occupied points.now (root grid ∷ [])) }
         ensures runs { IfOk result (λ s. AreRuns points.now s.positions.items s.runs.items) }
         ensures parents { IfOk result (λ s. HaveParents (squares_of s.runs.items) s.runs.items) }
@@ -160,7 +160,7 @@ impl Splits {
     ) -> Result<Splits, AllocError>
         requires known_grid { IsGrid grid }
         requires in_grid { AreInGrid grid points.now }
-        requires few { length points.now ≤ most_points widest_grid }
+        requires length { length points.now ≤ most_points widest_grid }
         ensures cells { IfOk result (λ s. AreExactly (IsTreeCell grid points.now cap) (squares_of s.runs.items)) }
         ensures runs { IfOk result (λ s. AreRuns points.now s.positions.items s.runs.items) }
         ensures parents { IfOk result (λ s. HaveParents (squares_of s.runs.items) s.runs.items) }

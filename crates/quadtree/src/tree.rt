@@ -2,7 +2,7 @@
 
 ghost use Rattle.std.specs.Prelude.{◌≡◌, ◌-◌, ◌≤◌, ◌<◌, length, slice_index, MatchOption, Contains};
 ghost use Rattle.cell_name.specs.Cell.{square};
-ghost use Rattle.quadtree.specs.Fields.{numbers_of};
+ghost use Rattle.quadtree.specs.Fields.{child_numbers};
 ghost use Rattle.quadtree.specs.TreeModel.{IsTree, IsLevel, size, squares, square_of, node_of, leaf_of};
 
 use crate::children::Children;
@@ -79,7 +79,7 @@ impl Tree {
         ensures source { result.now.has_source ≡ (node_of self.now n).has_source }
         ensures target { result.now.has_target ≡ (node_of self.now n).has_target }
         ensures few { result.now.children.count ≤ 4 }
-        ensures children { numbers_of result.now.children ≡ (node_of self.now n).children }
+        ensures children { child_numbers result.now.children ≡ (node_of self.now n).children }
     {
         &self.nodes[n]
     }

@@ -7,7 +7,7 @@ use Rattle.soundness.proofs.Counts.{below_any, above_any}
 use Rattle.exact_math.specs.Contains.{Contains}
 use Rattle.exact_math.specs.Ends.{BoxEnds, BoxEndsContain}
 use Rattle.exact_math.specs.Ratio.{Ratio, ComplexRatio, re_part, im_part}
-use Rattle.report_lines.specs.Counts.{count_below, count_above, KeepsBound, CountsContain, target_counts}
+use Rattle.report_lines.specs.Counts.{count_below, count_above, CountsContain, target_counts}
 use Rattle.points.specs.declared.Mode.{Mode}
 use Rattle.points.specs.declared.Mode.TheVariants.{Field, Velocity}
 
@@ -30,14 +30,6 @@ contains-counts lo hi x h = record {
   above = count_below-bound lo x h.fraction h.above;
   below = count_above-bound hi x h.fraction h.below;
 }
-
-pub KeepsBound-down : (up : Bool) (n count : ℤ) → up ≡ false → count ≡ count_below n → KeepsBound up n count
-KeepsBound-down false n count h e = λ x hd b. rw e (count_below-bound n x hd b)
-KeepsBound-down true n count h e = absurd (cc)
-
-pub KeepsBound-up : (up : Bool) (n count : ℤ) → up ≡ true → count ≡ count_above n → KeepsBound up n count
-KeepsBound-up true n count h e = λ x hd b. rw e (count_above-bound n x hd b)
-KeepsBound-up false n count h e = absurd (cc)
 
 -- the counts of a target line contain what the box contains
 pub CountsContain-box : (mode : Mode) (b : BoxEnds) (z : ComplexRatio) → BoxEndsContain (pos (2 ^ 40)) b z → CountsContain mode (target_counts mode b) z

@@ -15,13 +15,6 @@ count_below n = floor_div (pos (10 ^ 12) *ℤ n) unit
 abbrev pub count_above : ℤ → ℤ
 count_above n = ceil_div (pos (10 ^ 12) *ℤ n) unit
 
--- a count that was rounded down is at most 10^12 x, and one that was rounded up at least, for each fraction x on that side of the end
-abbrev pub KeepsBound : Bool → ℤ → ℤ → Type 0
-KeepsBound false n count = (x : Ratio) → pos 0 <ℤ x.denominator → (n *ℤ x.denominator) ≤ℤ (unit *ℤ x.numerator)
-    → (count *ℤ x.denominator) ≤ℤ (pos (10 ^ 12) *ℤ x.numerator)
-KeepsBound true n count = (x : Ratio) → pos 0 <ℤ x.denominator → (unit *ℤ x.numerator) ≤ℤ (n *ℤ x.denominator)
-    → (pos (10 ^ 12) *ℤ x.numerator) ≤ℤ (count *ℤ x.denominator)
-
 -- the counts of both ends of an interval
 abbrev pub count_ends : Ends → Ends
 count_ends i = record { lo = count_below i.lo; hi = count_above i.hi }

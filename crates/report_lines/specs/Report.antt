@@ -29,7 +29,7 @@ target_line mode t =
     ++ (labels mode).0 ++ decimal_text t.counts.first.lo ++ codes " " ++ decimal_text t.counts.first.hi
     ++ (labels mode).1 ++ decimal_text t.counts.second.lo ++ codes " " ++ decimal_text t.counts.second.hi ++ line_feed ∷ []
 
--- the line of these numbers
+-- the line of these numbers. No public contract cites it.
 abbrev pub line_of : Mode → ℤ → ℤ → ℤ → ℤ → ℤ → ℤ → List ℕ
 line_of mode x y first_lo first_hi second_lo second_hi = target_line mode (record {
   x = x;

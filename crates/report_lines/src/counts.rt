@@ -8,7 +8,7 @@ ghost use Rattle.exact_math.specs.Units.{unit};
 ghost use Rattle.complex_box.specs.Box.{BoxWithin, box_ends};
 ghost use Rattle.fixed_interval.specs.Interval.{IntervalWithin};
 ghost use Rattle.limits.specs.Limits.{most_printed};
-ghost use Rattle.report_lines.specs.Counts.{target_counts, count_below, count_above, KeepsBound};
+ghost use Rattle.report_lines.specs.Counts.{target_counts, count_below, count_above};
 
 use complex_box::{CBox, UNIT_BITS};
 use fixed_interval::Interval;
@@ -26,7 +26,6 @@ pub fn to_count(n: i128, up: bool) -> i128
     requires { Within most_printed n }
     ensures value { result ≡ (if up then count_above n else count_below n) }
     ensures size { Within most_printed result }
-    ensures bound { KeepsBound up n result }
 {
     if up {
         return count_up(n);

@@ -40,7 +40,7 @@ pub fn write_end<S: Sink>(translations: u64, pairs: u64, sink: &mut S) -> Result
 // The word of a mode.
 fn mode_label(mode: Mode) -> &'static [u8]
     ensures word { result.now ≡ mode_word mode }
-    ensures room { length result.now ≤ 8 }
+    ensures length { length result.now ≤ 8 }
 {
     match mode {
         Mode::Field => b"field",

@@ -81,7 +81,7 @@ fn line_text(mode: Mode, x: i64, y: i64, first: CountEnds, second: CountEnds) ->
 fn prepend_counts(line: &mut FrontText<LINE>, counts: CountEnds)
     requires { 69 + length line.old ≤ LINE }
     ensures text { line.new ≡ decimal_text counts.lo ++ codes " " ++ decimal_text counts.hi ++ line.old }
-    ensures room { length line.new ≤ 69 + length line.old }
+    ensures length { length line.new ≤ 69 + length line.old }
 {
     line.prepend_count(counts.hi);
     line.prepend(b' ');
@@ -91,7 +91,7 @@ fn prepend_counts(line: &mut FrontText<LINE>, counts: CountEnds)
 // The words before the first pair of counts.
 fn first_label(mode: Mode) -> &'static [u8]
     ensures word { result.now ≡ (labels mode).0 }
-    ensures room { length result.now ≤ 4 }
+    ensures length { length result.now ≤ 4 }
 {
     match mode {
         Mode::Field => b" re ",
@@ -102,7 +102,7 @@ fn first_label(mode: Mode) -> &'static [u8]
 // The words before the second pair of counts.
 fn second_label(mode: Mode) -> &'static [u8]
     ensures word { result.now ≡ (labels mode).1 }
-    ensures room { length result.now ≤ 4 }
+    ensures length { length result.now ≤ 4 }
 {
     match mode {
         Mode::Field => b" im ",

@@ -51,7 +51,7 @@ pub record IsBoard (P : ℕ) (b : BoardParts) : Type 0 where
   pub filled : (name : Name) → is_filled b name ≡ true → IsOfField P b name
   pub empty : (name : Name) → is_filled b name ≡ false → IsZeroPlace P b name
 
--- there is a place for each row of a basis, and it holds zero
+-- there is a place for each row of a basis, and it holds zero. No public contract cites it.
 pub record AreEmptyPlaces (basis : BasisModel) (up local : List PlaceModel) (values : List CBox) : Type 0 where
   pub up_each : length up ≡ size basis.tree
   pub local_each : length local ≡ size basis.tree
@@ -62,12 +62,12 @@ pub record AreEmptyPlaces (basis : BasisModel) (up local : List PlaceModel) (val
   pub local_radii : All (λ p. p.radius ≡ 0) local
   pub boxes : All IsZero values
 
--- so many marks, none of them set
+-- so many marks, none of them set. No public contract cites it.
 pub record AreUnset (count : ℕ) (marks : List Bool) : Type 0 where
   pub len : length marks ≡ count
   pub unset : All (λ mark. mark ≡ false) marks
 
--- there is a mark for each row of a basis and for the box of each target, none of them set
+-- there is a mark for each row of a basis and for the box of each target, none of them set. No public contract cites it.
 pub record NoneIsMarked (basis : BasisModel) (up local value : List Bool) : Type 0 where
   pub up_marks : AreUnset (size basis.tree) up
   pub local_marks : AreUnset (size basis.tree) local

@@ -37,6 +37,6 @@ pub record IsFirstMissing (b : BoardParts) (names : List Name) (missing : Name) 
   pub filled : AreFilled b before
   pub is_missing : is_filled b missing ≡ false
 
--- what a search among some names finds: nothing where all are filled, and otherwise the first that is not
+-- what a search among some names finds: nothing where all are filled, and otherwise the first that is not. No public contract cites it.
 abbrev pub FindsMissing : BoardParts → List Name → Option Name → Type 0
 FindsMissing b names found = MatchOption found (AreFilled b names) (IsFirstMissing b names)

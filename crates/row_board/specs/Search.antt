@@ -1,4 +1,4 @@
--- Looking for the first cell that is not marked.
+-- Looking for the first cell that is not marked. No public contract cites it.
 use Rattle.std.specs.Prelude.{ℕ, ◌≡◌, Bool, true, false, List, ◌∷◌, ◌++◌, All, slice_index_or}
 
 abbrev pub AreMarked : List Bool → List ℕ → Type 0

@@ -15,7 +15,7 @@ impl<const P: usize> Board<P> {
     /// The first of a local row and some multipole rows that is missing.
     fn first_missing(&self, cell: usize, far: &[u32]) -> Option<Name>
         requires cell { cell < size self.now.basis.tree }
-        requires far { All (λ n. n < size self.now.basis.tree) far.now }
+        requires numbers { All (λ n. n < size self.now.basis.tree) far.now }
         ensures { FindsMissing self.now (Name.Local cell ∷ map Name.Up far.now) result }
     {
         if !self.has_local[cell] {

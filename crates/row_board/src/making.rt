@@ -117,7 +117,7 @@ impl<const P: usize> Board<P> {
     pub fn new(alloc: Global, points: &Points, cap: u32) -> Result<Board<P>, TreeFault>
         requires list { WithinLimits points.now }
         requires order { IsOrderOf (grid_of points.now.version) P }
-        requires cap { IsCapacity cap }
+        requires capacity { IsCapacity cap }
         ensures board { IfOk result (λ board. IsBoard P board) }
         ensures points { IfOk result (λ board. board.basis.points ≡ points.now.list) }
         ensures cap { IfOk result (λ board. board.basis.cap ≡ cap) }

@@ -12,7 +12,7 @@ use Rattle.tree_field.specs.Field.{sources_in, multipole_row}
 use Rattle.tree_field.specs.Lists.{TreeLists, AreTreeLists}
 use Rattle.tree_field.proofs.Accounts.{leaf_source, accounting, sources_under-cell}
 use Rattle.tree_field.proofs.EachList.{each_list_has_tree}
-use Rattle.tree_field.proofs.Numbers.{number, cell_at, number_below, cell_of_number}
+use Rattle.tree_field.proofs.Numbers.{number_among, cell_at, number_below, cell_of_number}
 use Rattle.tree_field.proofs.Whole.{rules_met}
 use Rattle.row_contents.specs.Contents.{MultipoleRowsHold}
 use Rattle.row_contents.specs.Fields.{sources_of}
@@ -27,7 +27,7 @@ module _ (grid : ℕ) (points : List Point) (cap P : ℕ) where
 
   held_with : (lists : TreeLists) (c : Square) → 0 < grid → AreInGrid grid points → AreTreeLists grid points cap lists → IsTreeCell grid points cap c → Held c
   held_with lists c positive inside are in_tree =
-      let n : ℕ = number lists.cells c in
+      let n : ℕ = number_among lists.cells c in
       let d : Square = cell_at lists.cells n in
       let lt = number_below grid points cap lists.cells positive inside are.cells_are c in_tree in
       subst Held (cell_of_number grid points cap lists.cells positive inside are.cells_are c in_tree)

@@ -19,7 +19,7 @@ use Rattle.exact_math.specs.Ratio.{◌*ᶜ◌}
 use Rattle.truncation.specs.CutTerms.{pair_pole_cut, pair_dipole_cut}
 use Rattle.truncation.specs.Entries.{Source, pair_cut}
 use Rattle.truncation.specs.Places.{doubled_offset}
-use Rattle.truncation.proofs.CutValues.{halved, Stands-pair_pole_cut, Stands-pair_dipole_cut}
+use Rattle.truncation.proofs.CutValues.{halved_value, Stands-pair_pole_cut, Stands-pair_dipole_cut}
 use Rattle.kernel_table.specs.Kernel.{kernel_entry, kernel_fraction}
 use Rattle.row_recursions.specs.Laws.{FieldConverted}
 use Rattle.row_recursions.specs.Moments.{pole_of, dipole_of, moment}
@@ -40,7 +40,7 @@ plain xs = sources complex_rationals (λ x. value (pole_of x)) (λ x. value (dip
 
 -- the places in sides are the offsets over the side
 abbrev half_places : ℕ → Gaussian → Source → Pair complex_rationals
-half_places s c = Cut.scaled complex_rationals (λ x. value (pole_of x)) (λ x. value (dipole_of x)) [] (reciprocal s) (λ x. halved (offset c x))
+half_places s c = Cut.scaled complex_rationals (λ x. value (pole_of x)) (λ x. value (dipole_of x)) [] (reciprocal s) (λ x. halved_value (offset c x))
 
 places_are : (s : ℕ) (c : Gaussian) → 0 < s → (x : Source) → held_places s c x ≡ half_places s c x
 places_are s c h x = λ i. record { re = sym (sides-half s (offset c x) h) i; im = reciprocal s }
@@ -78,7 +78,7 @@ inverse_side s e h k = inverse_unique (value (scale_gaussian s e)) _ (value_posi
 
 -- ---- the cut terms
 abbrev exact_cut : ℕ → ℕ → Gaussian → Gaussian → Gaussian → Gaussian → Source → ℂ
-exact_cut P s e b c t x = Cut.pair_cut complex_rationals (value (pole_of x)) (value (dipole_of x)) (halved (offset c x)) (halved (doubled_offset t b)) (inverse_ℂ (value (scale_gaussian s e))) P
+exact_cut P s e b c t x = Cut.pair_cut complex_rationals (value (pole_of x)) (value (dipole_of x)) (halved_value (offset c x)) (halved_value (doubled_offset t b)) (inverse_ℂ (value (scale_gaussian s e))) P
 
 Stands-cut : (P s : ℕ) (e b c t : Gaussian) (x : Source) → of_int (pos 0) <ℚ norm (value (scale_gaussian s e)) → Stands (pair_cut P s e b c t x) (exact_cut P s e b c t x)
 Stands-cut P s e b c t x h = by_kind x.dipole x.strength
@@ -87,10 +87,10 @@ Stands-cut P s e b c t x h = by_kind x.dipole x.strength
     i = inverse_ℂ (value (scale_gaussian s e))
 
     poles : ℂ
-    poles = kernel_sum complex_rationals (halved (doubled_offset x.place c) *ℂ inverse_ℂ (value (scale_gaussian s e))) (neg_ℂ (halved (doubled_offset t b) *ℂ inverse_ℂ (value (scale_gaussian s e)))) P P
+    poles = kernel_sum complex_rationals (halved_value (doubled_offset x.place c) *ℂ inverse_ℂ (value (scale_gaussian s e))) (neg_ℂ (halved_value (doubled_offset t b) *ℂ inverse_ℂ (value (scale_gaussian s e)))) P P
 
     dipoles : ℂ
-    dipoles = slope_sum complex_rationals (halved (doubled_offset x.place c) *ℂ inverse_ℂ (value (scale_gaussian s e))) (neg_ℂ (halved (doubled_offset t b) *ℂ inverse_ℂ (value (scale_gaussian s e)))) P P
+    dipoles = slope_sum complex_rationals (halved_value (doubled_offset x.place c) *ℂ inverse_ℂ (value (scale_gaussian s e))) (neg_ℂ (halved_value (doubled_offset t b) *ℂ inverse_ℂ (value (scale_gaussian s e)))) P P
 
     right : (a w p q : ℂ) → a *ℂ w *ℂ p ≡ a *ℂ (w *ℂ p) +ℂ of_int_ℂ (pos 0) *ℂ (w *ℂ w *ℂ q)
     right a w p q = ring4 complex_rationals a w p q (λ a w p q. search quotes depth 12) tt
@@ -133,6 +133,6 @@ field_converted P s e b c xs m s≥1 apart h = holds_field P s b (λ t. sum_term
     sums t =
         complex_rationals.mul_comm _ _
         ∙ ap (λ y. reciprocal s *ℂ polynomial complex_rationals P v y) (sym (sides-half s (doubled_offset t b) s≥1))
-        ∙ Cut.pair_cut_sum complex_rationals (λ x. value (pole_of x)) (λ x. value (dipole_of x)) xs (reciprocal s) (λ x. halved (offset c x)) (inverse_ℂ (value e)) (halved (doubled_offset t b)) P
+        ∙ Cut.pair_cut_sum complex_rationals (λ x. value (pole_of x)) (λ x. value (dipole_of x)) xs (reciprocal s) (λ x. halved_value (offset c x)) (inverse_ℂ (value e)) (halved_value (doubled_offset t b)) P
         ∙ sum_list-congruence complex_rationals _ _ xs (λ x.
-        ap (λ w. Cut.pair_cut complex_rationals (value (pole_of x)) (value (dipole_of x)) (halved (offset c x)) (halved (doubled_offset t b)) w P) (inverse_side s e s≥1 apart))
+        ap (λ w. Cut.pair_cut complex_rationals (value (pole_of x)) (value (dipole_of x)) (halved_value (offset c x)) (halved_value (doubled_offset t b)) w P) (inverse_side s e s≥1 apart))

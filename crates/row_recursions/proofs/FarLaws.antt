@@ -14,7 +14,7 @@ use Rattle.exact_math.proofs.DirectTerms.{Stands-reciprocal}
 use Rattle.truncation.specs.CutTerms.{local_pole_cut, local_dipole_cut}
 use Rattle.truncation.specs.Entries.{Source, local_cut}
 use Rattle.truncation.specs.Places.{doubled_offset}
-use Rattle.truncation.proofs.CutValues.{halved, Stands-local_pole_cut, Stands-local_dipole_cut}
+use Rattle.truncation.proofs.CutValues.{halved_value, Stands-local_pole_cut, Stands-local_dipole_cut}
 use Rattle.row_recursions.specs.Laws.{FieldOfSource}
 use Rattle.row_recursions.specs.Moments.{pole_of, dipole_of}
 use Rattle.row_recursions.specs.Rows.{far_source}
@@ -54,14 +54,14 @@ units_outside s a b zeta l = one units (value a) (value b) (reciprocal s) (of_in
 
 -- the cut term of a source at the offset zeta, seen at the offset o
 Stands-cut : (P : ℕ) (b t : Gaussian) (x : Source) → pos 0 <ℤ norm_gaussian (doubled_offset x.place b)
-    → Stands (local_cut P b t x) (Cut.local_cut complex_rationals (value (pole_of x)) (value (dipole_of x)) (halved (doubled_offset t b)) (inverse_ℂ (halved (doubled_offset x.place b))) P)
+    → Stands (local_cut P b t x) (Cut.local_cut complex_rationals (value (pole_of x)) (value (dipole_of x)) (halved_value (doubled_offset t b)) (inverse_ℂ (halved_value (doubled_offset x.place b))) P)
 Stands-cut P b t x h = by_kind x.dipole x.strength
   where
     poles : ℂ
-    poles = sum_below complex_rationals P (λ l. pow complex_rationals (halved (doubled_offset t b)) l *ℂ pow complex_rationals (inverse_ℂ (halved (doubled_offset x.place b))) (suc l))
+    poles = sum_below complex_rationals P (λ l. pow complex_rationals (halved_value (doubled_offset t b)) l *ℂ pow complex_rationals (inverse_ℂ (halved_value (doubled_offset x.place b))) (suc l))
 
     dipoles : ℂ
-    dipoles = sum_below complex_rationals P (λ l. of_int_ℂ (pos (suc l)) *ℂ (pow complex_rationals (halved (doubled_offset t b)) l *ℂ pow complex_rationals (inverse_ℂ (halved (doubled_offset x.place b))) (suc (suc l))))
+    dipoles = sum_below complex_rationals P (λ l. of_int_ℂ (pos (suc l)) *ℂ (pow complex_rationals (halved_value (doubled_offset t b)) l *ℂ pow complex_rationals (inverse_ℂ (halved_value (doubled_offset x.place b))) (suc (suc l))))
 
     right : (a p q : ℂ) → neg_ℂ a *ℂ p ≡ neg_ℂ (a *ℂ p) +ℂ of_int_ℂ (pos 0) *ℂ q
     right a p q = ring3 complex_rationals a p q (λ a p q. search quotes depth 9) tt
@@ -87,9 +87,9 @@ field_of_source P s b x s≥1 apart = holds_field P s b (λ t. local_cut P b t x
     (λ t. subst (Stands (local_cut P b t x)) (sym (sums t)) (Stands-cut P b t x apart))
   where
     sums : (t : Gaussian) → polynomial complex_rationals P (exact s (pole_of x) (dipole_of x) (doubled_offset x.place b)) (sides s (doubled_offset t b)) *ℂ reciprocal s
-        ≡ Cut.local_cut complex_rationals (value (pole_of x)) (value (dipole_of x)) (halved (doubled_offset t b)) (inverse_ℂ (halved (doubled_offset x.place b))) P
+        ≡ Cut.local_cut complex_rationals (value (pole_of x)) (value (dipole_of x)) (halved_value (doubled_offset t b)) (inverse_ℂ (halved_value (doubled_offset x.place b))) P
     sums t =
         complex_rationals.mul_comm _ _
         ∙ ap (λ y. reciprocal s *ℂ polynomial complex_rationals P (exact s (pole_of x) (dipole_of x) (doubled_offset x.place b)) y) (sym (sides-half s (doubled_offset t b) s≥1))
-        ∙ Cut.single_polynomial complex_rationals (value (pole_of x)) (value (dipole_of x)) (reciprocal s) (far_ratio s (doubled_offset x.place b)) (halved (doubled_offset t b)) P
-        ∙ ap (λ w. Cut.local_cut complex_rationals (value (pole_of x)) (value (dipole_of x)) (halved (doubled_offset t b)) w P) (far_ratio-over s (doubled_offset x.place b) s≥1 apart)
+        ∙ Cut.single_polynomial complex_rationals (value (pole_of x)) (value (dipole_of x)) (reciprocal s) (far_ratio s (doubled_offset x.place b)) (halved_value (doubled_offset t b)) P
+        ∙ ap (λ w. Cut.local_cut complex_rationals (value (pole_of x)) (value (dipole_of x)) (halved_value (doubled_offset t b)) w P) (far_ratio-over s (doubled_offset x.place b) s≥1 apart)

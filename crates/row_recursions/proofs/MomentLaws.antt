@@ -16,7 +16,7 @@ use Rattle.exact_math.proofs.QuadraticExtension.{Pair, pow_slope}
 use Rattle.truncation.specs.CutTerms.{multipole_pole_cut, multipole_dipole_cut}
 use Rattle.truncation.specs.Entries.{Source, multipole_cut}
 use Rattle.truncation.specs.Places.{doubled_offset}
-use Rattle.truncation.proofs.CutValues.{halved, Stands-multipole_pole_cut, Stands-multipole_dipole_cut}
+use Rattle.truncation.proofs.CutValues.{halved_value, Stands-multipole_pole_cut, Stands-multipole_dipole_cut}
 use Rattle.row_recursions.specs.Laws.{NoMoments, SourceMoments, SumOfMoments, MomentsUp, MultipoleValues}
 use Rattle.row_recursions.specs.Moments.{pole_of, dipole_of, moment_of, moment, HoldsMoments}
 use Rattle.row_recursions.specs.Rows.{source_moment, shifted_up, multipole_value}
@@ -112,16 +112,16 @@ moments_up P s q c xs m s≥1 h = moments_contained P (2 * s) c xs (shifted_up m
 -- ---- values
 -- the cut term of a source at the offset o, with w the inverse of the target's distance from the centre
 abbrev exact_cut : ℕ → Gaussian → Gaussian → Source → ℂ
-exact_cut P c t x = Cut.multipole_cut complex_rationals (value (pole_of x)) (value (dipole_of x)) (halved (offset c x)) (inverse_ℂ (halved (doubled_offset t c))) P
+exact_cut P c t x = Cut.multipole_cut complex_rationals (value (pole_of x)) (value (dipole_of x)) (halved_value (offset c x)) (inverse_ℂ (halved_value (doubled_offset t c))) P
 
 Stands-cut : (P : ℕ) (c t : Gaussian) (x : Source) → pos 0 <ℤ norm_gaussian (doubled_offset t c) → Stands (multipole_cut P c t x) (exact_cut P c t x)
 Stands-cut P c t x h = by_kind x.dipole x.strength
   where
     poles : ℂ
-    poles = sum_below complex_rationals P (λ k. pow complex_rationals (halved (doubled_offset x.place c)) k *ℂ pow complex_rationals (inverse_ℂ (halved (doubled_offset t c))) (suc k))
+    poles = sum_below complex_rationals P (λ k. pow complex_rationals (halved_value (doubled_offset x.place c)) k *ℂ pow complex_rationals (inverse_ℂ (halved_value (doubled_offset t c))) (suc k))
 
     dipoles : ℂ
-    dipoles = sum_below complex_rationals P (λ k. pow_slope complex_rationals (halved (doubled_offset x.place c)) k *ℂ pow complex_rationals (inverse_ℂ (halved (doubled_offset t c))) (suc k))
+    dipoles = sum_below complex_rationals P (λ k. pow_slope complex_rationals (halved_value (doubled_offset x.place c)) k *ℂ pow complex_rationals (inverse_ℂ (halved_value (doubled_offset t c))) (suc k))
 
     right : (a p q : ℂ) → a *ℂ p ≡ a *ℂ p +ℂ of_int_ℂ (pos 0) *ℂ q
     right a p q = ring3 complex_rationals a p q (λ a p q. search quotes depth 9) tt
@@ -147,16 +147,16 @@ multipole_values P s c t xs m s≥1 apart h = contained_from_enclosed (pos (2 ^ 
     (multipole_value_holds P m (held_moment s c xs) (moments_enclosed P s c xs m s≥1 h) s s≥1 (doubled_offset t c) (far_ratio s (doubled_offset t c)) apart (far_ratio-is s (doubled_offset t c) apart)))
   where
     -- the places in sides are the offsets over the side
-    scaled_places : held_places s c ≡ Cut.scaled complex_rationals (λ x. units *ℂ value (pole_of x)) (λ x. units *ℂ value (dipole_of x)) [] (reciprocal s) (λ x. halved (offset c x))
+    scaled_places : held_places s c ≡ Cut.scaled complex_rationals (λ x. units *ℂ value (pole_of x)) (λ x. units *ℂ value (dipole_of x)) [] (reciprocal s) (λ x. halved_value (offset c x))
     scaled_places = λ i x. record { re = sym (sides-half s (offset c x) s≥1) i; im = reciprocal s }
 
     sums : reciprocal s *ℂ (far_ratio s (doubled_offset t c) *ℂ polynomial complex_rationals P (held_moment s c xs) (far_ratio s (doubled_offset t c))) ≡ units *ℂ sum_list complex_rationals (exact_cut P c t) xs
     sums =
         ap (λ f. reciprocal s *ℂ (far_ratio s (doubled_offset t c) *ℂ polynomial complex_rationals P (λ k. (held xs).apply (pow (function_ring Source dual_complex) f k)) (far_ratio s (doubled_offset t c)))) scaled_places
-        ∙ Cut.multipole_cut_sum complex_rationals (λ x. units *ℂ value (pole_of x)) (λ x. units *ℂ value (dipole_of x)) xs (reciprocal s) (λ x. halved (offset c x)) (far_ratio s (doubled_offset t c)) P
+        ∙ Cut.multipole_cut_sum complex_rationals (λ x. units *ℂ value (pole_of x)) (λ x. units *ℂ value (dipole_of x)) xs (reciprocal s) (λ x. halved_value (offset c x)) (far_ratio s (doubled_offset t c)) P
         ∙ sum_list-congruence complex_rationals _ _ xs (λ x.
-        ap (λ w. Cut.multipole_cut complex_rationals (units *ℂ value (pole_of x)) (units *ℂ value (dipole_of x)) (halved (offset c x)) w P) (far_ratio-over s (doubled_offset t c) s≥1 apart)
-        ∙ cut-units P (value (pole_of x)) (value (dipole_of x)) (halved (offset c x)) (inverse_ℂ (halved (doubled_offset t c))))
+        ap (λ w. Cut.multipole_cut complex_rationals (units *ℂ value (pole_of x)) (units *ℂ value (dipole_of x)) (halved_value (offset c x)) w P) (far_ratio-over s (doubled_offset t c) s≥1 apart)
+        ∙ cut-units P (value (pole_of x)) (value (dipole_of x)) (halved_value (offset c x)) (inverse_ℂ (halved_value (doubled_offset t c))))
         ∙ sum_list-mul complex_rationals units _ xs
 
 -- a row with the same boxes

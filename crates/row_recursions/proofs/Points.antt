@@ -26,7 +26,7 @@ use Rattle.exact_math.proofs.WholeSizes.{unsigned_abs-within}
 use Rattle.truncation.specs.Entries.{weight, local_cut}
 use Rattle.truncation.specs.Places.{doubled_offset}
 use Rattle.complex_box.proofs.Sizes.{box_wider}
-use Rattle.row_recursions.specs.Cells.{side_of, centre_of, offset_from, moments_in}
+use Rattle.row_recursions.specs.Cells.{side_of, doubled_centre_of, offset_from, moments_in}
 use Rattle.row_recursions.specs.Moments.{HoldsMoments}
 use Rattle.row_recursions.specs.Rows.{units_box, source_moment, far_source}
 use Rattle.row_recursions.specs.Sources.{source_at, source_of}
@@ -80,7 +80,7 @@ held_in_grid c x y h =
 near : (x c s : ℤ) → c ≤ℤ x → x <ℤ (c +ℤ s) → (neg_ℤ s ≤ℤ (x +ℤ x -ℤ (c +ℤ c +ℤ s))) × ((x +ℤ x -ℤ (c +ℤ c +ℤ s)) ≤ℤ s)
 near x c s h k = (omega (arith, ints), omega (arith, ints))
 
-pub offset_within : (c : Cell) (x y : ℤ) → Holds (square c) x y → GaussianWithin (side_of c) (doubled_offset (gaussian x y) (centre_of c))
+pub offset_within : (c : Cell) (x y : ℤ) → Holds (square c) x y → GaussianWithin (side_of c) (doubled_offset (gaussian x y) (doubled_centre_of c))
 offset_within c x y h =
     let a = near x (corner_x (square c)) (pos (side (square c))) h.west h.east in
     let b = near y (corner_y (square c)) (pos (side (square c))) h.south h.north in

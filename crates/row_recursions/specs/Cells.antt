@@ -15,8 +15,8 @@ abbrev pub side_of : Cell → ℕ
 side_of c = side (square c)
 
 -- twice the centre
-abbrev pub centre_of : Cell → Gaussian
-centre_of c = doubled_centre (square c)
+abbrev pub doubled_centre_of : Cell → Gaussian
+doubled_centre_of c = doubled_centre (square c)
 
 -- 1 or -1
 abbrev pub sign : Bool → ℤ

@@ -2,8 +2,8 @@
 use Rattle.std.proofs.Common.{ℕ, ◌<◌, List, get_or, ℤ, sym, subst, arith}
 use borrow.Author.Differences.{ints}
 use Rattle.std.proofs.lemmas.Option.{slice_get-get_or}
-use Rattle.cell_name.specs.Square.{Square, IsInGrid, IsName, IsInsideGrid, Holds}
-use Rattle.cell_name.proofs.Cells.{inside_from_name, square_at-name}
+use Rattle.cell_name.specs.Square.{Square, IsInGrid, Holds}
+use Rattle.cell_name.proofs.Cells.{IsCellName, IsInsideGrid, inside_from_name, square_at-name}
 use Rattle.limits.proofs.Grids.{grid_positive}
 use Rattle.quadtree.proofs.TreeChildren.{tree_cell_at}
 use Rattle.points.specs.declared.Point.{Point}
@@ -27,6 +27,6 @@ points_in_grid tree points cap is h = λ k d lt.
     let here = tree_cell_at tree is.points is.cap (leaf_of tree k) is.is_tree leaf.in_range in
     let some = grid_positive tree.grid h.known_grid in
     let o = cell_of_point tree.grid is.points c here.of_grid is.in_grid here.occupied in
-    let name : IsName c = subst IsName (sym o.is_cell) (square_at-name tree.grid c.level o.point.x o.point.y some here.level_in_grid o.given.in_grid) in
+    let name : IsCellName c = subst IsCellName (sym o.is_cell) (square_at-name tree.grid c.level o.point.x o.point.y some here.level_in_grid o.given.in_grid) in
     let positive : 0 < c.grid = subst (λ n. 0 < n) (sym here.of_grid) some in
     subst (λ n. IsInGrid n p.x p.y) here.of_grid (in_cell c p.x p.y (inside_from_name c positive name) leaf.held)

@@ -46,7 +46,7 @@ fn prepend_points(text: &mut FrontText<TEXT>, points: &[Point], targets: u64)
     requires { 86 + length text.old ≤ TEXT }
     ensures text { text.new ≡ codes "points " ++ decimal (length points.now) ++ codes " sources " ++ decimal (count_by (λ p. is_source p.kind) points.now)
         ++ codes " targets " ++ decimal targets ++ codes "\n" ++ text.old }
-    ensures room { length text.new ≤ 86 + length text.old }
+    ensures length { length text.new ≤ 86 + length text.old }
 {
     text.prepend(b'\n');
     text.prepend_decimal(targets);
@@ -62,7 +62,7 @@ fn prepend_tree(text: &mut FrontText<TEXT>, tree: &Tree)
     requires { 60 + length text.old ≤ TEXT }
     ensures text { text.new ≡ codes "tree cells " ++ decimal (size tree.now)
         ++ codes " leaves " ++ decimal (count_by (λ n. (node_of tree.now n).is_leaf) (range_with_len 0 (size tree.now))) ++ codes "\n" ++ text.old }
-    ensures room { length text.new ≤ 60 + length text.old }
+    ensures length { length text.new ≤ 60 + length text.old }
     ensures tree { IsTree tree.now }
 {
     text.prepend(b'\n');
@@ -79,7 +79,7 @@ fn prepend_lists(text: &mut FrontText<TEXT>, lists: &EntryLists)
         ++ codes " v " ++ decimal (sum_by (λ list. length list) (lists_of lists.now V))
         ++ codes " w " ++ decimal (sum_by (λ list. length list) (lists_of lists.now W))
         ++ codes " x " ++ decimal (sum_by (λ list. length list) (lists_of lists.now X)) ++ codes "\n" ++ text.old }
-    ensures room { length text.new ≤ 98 + length text.old }
+    ensures length { length text.new ≤ 98 + length text.old }
 {
     text.prepend(b'\n');
     text.prepend_decimal(lists.total(Letter::X));
@@ -96,7 +96,7 @@ fn prepend_lists(text: &mut FrontText<TEXT>, lists: &EntryLists)
 fn prepend_work(text: &mut FrontText<TEXT>, translations: u64, pairs: u64)
     requires { 66 + length text.old ≤ TEXT }
     ensures text { text.new ≡ work_line translations pairs ++ text.old }
-    ensures room { length text.new ≤ 66 + length text.old }
+    ensures length { length text.new ≤ 66 + length text.old }
 {
     text.prepend(b'\n');
     text.prepend_decimal(pairs);
@@ -109,7 +109,7 @@ fn prepend_work(text: &mut FrontText<TEXT>, translations: u64, pairs: u64)
 fn prepend_widest(text: &mut FrontText<TEXT>, widest: Widest)
     requires { 93 + length text.old ≤ TEXT }
     ensures text { text.new ≡ codes "widest re " ++ decimal widest.re ++ codes " im " ++ decimal widest.im ++ codes "\n" ++ text.old }
-    ensures room { length text.new ≤ 93 + length text.old }
+    ensures length { length text.new ≤ 93 + length text.old }
 {
     text.prepend(b'\n');
     text.prepend_wide(widest.im);
@@ -125,7 +125,7 @@ pub(crate) fn summary_text<const P: usize>(
     cap: u32,
     field: &Field<P>,
 ) -> FrontText<TEXT>
-    requires field { IsSolved points.now cap P field.now }
+    requires solved { IsSolved points.now cap P field.now }
     requires grid { field.now.basis.tree.grid ≡ first_grid }
     ensures { OfTreeLists first_grid points.now cap (λ lists. result ≡ summary_text seed points.now P cap lists) }
 {

@@ -27,7 +27,7 @@ pub fn write_summary<const P: usize, S: Sink>(
     field: &Field<P>,
     sink: &mut S,
 ) -> Result<(), WriteFault>
-    requires field { IsSolved points.now.list cap P field.now }
+    requires solved { IsSolved points.now.list cap P field.now }
     requires grid { field.now.basis.tree.grid ≡ first_grid }
     ensures bytes { OfTreeLists first_grid points.now.list cap (λ lists.
         Writes result (S.held sink.old) (S.held sink.new) (summary_text seed points.now.list P cap lists)) }

@@ -32,9 +32,9 @@ impl<const P: usize> Model for Field<P> {
 
     ghost Value = { FieldParts };
 
-    ghost use Rattle.solve_phase.specs.Inside.{seen, fits};
+    ghost use Rattle.solve_phase.specs.Inside.{field_seen, fits};
 
-    ghost view = { seen };
+    ghost view = { field_seen };
 
     ghost invariant = { fits };
 }

@@ -2,7 +2,7 @@
 ghost use Rattle.std.specs.Prelude.{◌≡◌, length, IfErr, IfOk, OnOk};
 ghost use Rattle.exact_math.specs.Orders.{IsCapacity, IsOrder};
 ghost use Rattle.field_basis.specs.Basis.{IsBasis};
-ghost use Rattle.field_basis.specs.FieldPlaces.{BoxesContain};
+ghost use Rattle.field_basis.specs.FieldPlaces.{TargetsContain};
 ghost use Rattle.limits.specs.Limits.{grid_of};
 ghost use Rattle.points.specs.Limits.{AreWithin, IsOrderOf, WithinLimits};
 ghost use Rattle.quadtree.specs.Faults.{HasTree, IsFaultOf};
@@ -57,7 +57,7 @@ fn field_over<const P: usize>(
     ensures field { IfOk result (λ field. IsSolved points.now cap P field) }
     ensures grid { IfOk result (λ field. field.basis.tree.grid ≡ tree.grid) }
     ensures rows { IfOk result (λ field. RowsContain points.now P field) }
-    ensures contains { IfOk result (λ field. BoxesContain points.now field.values) }
+    ensures contains { IfOk result (λ field. TargetsContain points.now field.values) }
 {
     let basis = Basis::<P>::over(alloc, points, cap, tree)?;
     let empty = Empty::<P>::of(alloc, &basis)?;
@@ -78,7 +78,7 @@ fn filled<const P: usize>(
     ensures field { IsSolved basis.entry.points basis.entry.cap P result }
     ensures basis { result.basis ≡ basis.entry }
     ensures rows { RowsContain basis.entry.points P result }
-    ensures contains { BoxesContain basis.entry.points result.values }
+    ensures contains { TargetsContain basis.entry.points result.values }
 {
     upward_pass::<P>(&basis.tree, &basis.points, &mut up);
     downward_pass(&basis, &up, &mut local);
@@ -112,10 +112,10 @@ pub fn solve<const P: usize>(
 ) -> Result<Field<P>, TreeFault>
     requires list { WithinLimits points.now }
     requires order { IsOrderOf (grid_of points.now.version) P }
-    requires cap { IsCapacity cap }
+    requires capacity { IsCapacity cap }
     ensures field { IfOk result (λ field. IsSolved points.now.list cap P field) }
     ensures rows { IfOk result (λ field. RowsContain points.now.list P field) }
-    ensures contains { IfOk result (λ field. BoxesContain points.now.list field.values) }
+    ensures contains { IfOk result (λ field. TargetsContain points.now.list field.values) }
     ensures grid { IfOk result (λ field. field.basis.tree.grid ≡ grid_of points.now.version) }
     ensures has_tree { OnOk result (HasTree (grid_of points.now.version) points.now.list cap) }
     ensures fault { IfErr result (IsFaultOf (grid_of points.now.version) points.now.list cap) }

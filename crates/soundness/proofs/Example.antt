@@ -13,7 +13,7 @@ use Rattle.points.specs.declared.Kind.TheVariants.{Charge}
 use Rattle.row_recursions.proofs.Worked.{box}
 use Rattle.row_recursions.specs.Rows.{source_moment, local_value, local_round, powers}
 use Rattle.soundness.specs.Accounts.{LeafSource, LeafTarget, Accounting, under, is_leaf, accounts}
-use Rattle.soundness.specs.Computed.{leaf_row, local_row, local_radius, target_box}
+use Rattle.soundness.specs.Computed.{computed_leaf_row, computed_local_row, computed_local_radius, computed_target_box}
 use Rattle.soundness.specs.Rules.{RowInside, SourceStands, TargetStands, Apart, IsTiled, LocalHolds, BoxHolds, Rules}
 use Rattle.soundness.specs.Soundness.{BoxesContain}
 use Rattle.soundness.proofs.Inside.{BoxEndsInside-same}
@@ -65,17 +65,17 @@ below_four P a b c d (suc (suc zero)) l = c
 below_four P a b c d (suc (suc (suc zero))) l = d
 below_four P a b c d (suc (suc (suc (suc k)))) l = absurd (omega arith)
 
-leaf_row_inside : RowInside 4 (leaf_row presented 0) given_row
+leaf_row_inside : RowInside 4 (computed_leaf_row presented 0) given_row
 unfolding under source_moment powers
-leaf_row_inside = below_four (λ k. BoxEndsInside (leaf_row presented 0 k) (given_row k)) (BoxEndsInside-same refl) (BoxEndsInside-same refl) (BoxEndsInside-same refl) (BoxEndsInside-same refl)
+leaf_row_inside = below_four (λ k. BoxEndsInside (computed_leaf_row presented 0 k) (given_row k)) (BoxEndsInside-same refl) (BoxEndsInside-same refl) (BoxEndsInside-same refl) (BoxEndsInside-same refl)
 
-local_row_inside : RowInside 4 (local_row 4 presented 0) (λ k. zero_box)
+local_row_inside : RowInside 4 (computed_local_row 4 presented 0) (λ k. zero_box)
 local_row_inside k l = BoxEndsInside-same refl
 
-radius_at_least : local_radius 4 presented 0 ≤ 0
+radius_at_least : computed_local_radius 4 presented 0 ≤ 0
 radius_at_least = omega arith
 
-box_inside : BoxEndsInside (target_box 4 presented target) target.box
+box_inside : BoxEndsInside (computed_target_box 4 presented target) target.box
 unfolding under local_value local_round
 box_inside = BoxEndsInside-same refl
 
@@ -107,7 +107,7 @@ rules_met = record {
   apart = only (λ e. Apart presented e.letter e.b e.c) near tt;
   tiled = only (λ t. IsTiled presented t.leaf) target (only (λ x. count_by (accounts presented 0 x) presented.entries ≡ 1) charge accounted_once);
   multipoles = λ n l. record {
-    of_leaf = λ e. at_zero (λ n. RowInside 4 (leaf_row presented n) given_row) leaf_row_inside n l;
+    of_leaf = λ e. at_zero (λ n. RowInside 4 (computed_leaf_row presented n) given_row) leaf_row_inside n l;
     of_inner = λ e. absurd (true≢false (sym (at_zero (λ n. is_leaf presented n ≡ true) refl n l) ∙ e));
   };
   locals = λ n l u. at_zero (λ n. LocalHolds 4 presented n) (record { row = local_row_inside; radius = radius_at_least }) n l;

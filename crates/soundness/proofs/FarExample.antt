@@ -17,7 +17,7 @@ use Rattle.points.specs.Points.{place}
 use Rattle.row_recursions.specs.Rows.{shifted_up}
 use Rattle.soundness.specs.Squares.{quadrant, IsQuarterOf, IsFarFrom, CellsAreApart}
 use Rattle.soundness.specs.Accounts.{LeafSource, LeafTarget, Accounting, under, is_leaf, has_target_under, accounts}
-use Rattle.soundness.specs.Computed.{total_row, leaf_row, shifted_rows, local_row, local_radius, target_box}
+use Rattle.soundness.specs.Computed.{total_row, computed_leaf_row, shifted_rows, computed_local_row, computed_local_radius, computed_target_box}
 use Rattle.soundness.specs.Rules.{RowInside, SourceStands, TargetStands, Apart, IsTiled, BoxHolds, Rules}
 use Rattle.soundness.specs.Soundness.{BoxesContain}
 use Rattle.soundness.proofs.Example.{only}
@@ -116,35 +116,35 @@ abbrev none : Accounting
 none = with_local (λ n k. zero_box) (λ n. 0) []
 
 abbrev local_0 : ℕ → ℕ → BoxEnds
-local_0 n = local_row 2 none 0
+local_0 n = computed_local_row 2 none 0
 
 abbrev radius_0 : ℕ → ℕ
-radius_0 n = local_radius 2 none 0
+radius_0 n = computed_local_radius 2 none 0
 
 abbrev local_1 : ℕ → ℕ → BoxEnds
 local_1 zero = local_0 0
-local_1 (suc n) = local_row 2 (with_local local_0 radius_0 []) 1
+local_1 (suc n) = computed_local_row 2 (with_local local_0 radius_0 []) 1
 
 abbrev radius_1 : ℕ → ℕ
 radius_1 zero = radius_0 0
-radius_1 (suc n) = local_radius 2 (with_local local_0 radius_0 []) 1
+radius_1 (suc n) = computed_local_radius 2 (with_local local_0 radius_0 []) 1
 
 abbrev local : ℕ → ℕ → BoxEnds
 local zero = local_1 0
 local (suc zero) = local_1 1
-local (suc (suc n)) = local_row 2 (with_local local_1 radius_1 []) 3
+local (suc (suc n)) = computed_local_row 2 (with_local local_1 radius_1 []) 3
 
 abbrev radius : ℕ → ℕ
 radius zero = radius_1 0
 radius (suc zero) = radius_1 1
-radius (suc (suc n)) = local_radius 2 (with_local local_1 radius_1 []) 3
+radius (suc (suc n)) = computed_local_radius 2 (with_local local_1 radius_1 []) 3
 
 -- ---- a target in the corner, with the box that the method computes
 abbrev corner : Gaussian
 corner = gaussian (neg_ℤ (pos 4)) (neg_ℤ (pos 4))
 
 abbrev computed : BoxEnds
-computed = target_box 2 (with_local local radius []) (record { place = corner; leaf = 3; box = zero_box })
+computed = computed_target_box 2 (with_local local radius []) (record { place = corner; leaf = 3; box = zero_box })
 
 abbrev target : LeafTarget
 target = record { place = corner; leaf = 3; box = computed }
@@ -215,9 +215,9 @@ target_stands : TargetStands presented target
 target_stands = record { in_range = omega arith; held = record { re = record { above = omega (arith, ints); below = omega (arith, ints) }; im = record { above = omega (arith, ints); below = omega (arith, ints) } } }
 
 -- ---- rows
-leaf_rows_inside : (n : ℕ) → n < 7 → is_leaf presented n ≡ true → RowInside 2 (leaf_row presented n) (multipole n)
+leaf_rows_inside : (n : ℕ) → n < 7 → is_leaf presented n ≡ true → RowInside 2 (computed_leaf_row presented n) (multipole n)
 unfolding under
-leaf_rows_inside n l e = below_seven (λ n. is_leaf presented n ≡ true → RowInside 2 (leaf_row presented n) (multipole n))
+leaf_rows_inside n l e = below_seven (λ n. is_leaf presented n ≡ true → RowInside 2 (computed_leaf_row presented n) (multipole n))
     (λ e. absurd (true≢false (sym e))) (λ e. absurd (true≢false (sym e))) (λ e. absurd (true≢false (sym e)))
     (λ e. RowInside-same 2 _ _ (λ k. refl)) (λ e. RowInside-same 2 _ _ (λ k. refl)) (λ e. RowInside-same 2 _ _ (λ k. refl)) (λ e. RowInside-same 2 _ _ (λ k. refl)) n l e
 
@@ -226,14 +226,14 @@ inner_rows_inside n l e = below_seven (λ n. is_leaf presented n ≡ false → R
     (λ e. RowInside-same 2 _ _ (λ k. refl)) (λ e. RowInside-same 2 _ _ (λ k. refl)) (λ e. RowInside-same 2 _ _ (λ k. refl))
     (λ e. absurd (true≢false e)) (λ e. absurd (true≢false e)) (λ e. absurd (true≢false e)) (λ e. absurd (true≢false e)) n l e
 
-local_rows_inside : (n : ℕ) → under above 3 n ≡ true → RowInside 2 (local_row 2 presented n) (local n)
-local_rows_inside n e = on_path (λ n. RowInside 2 (local_row 2 presented n) (local n)) (RowInside-same 2 _ _ (λ k. refl)) (RowInside-same 2 _ _ (λ k. refl)) (RowInside-same 2 _ _ (λ k. refl)) n e
+local_rows_inside : (n : ℕ) → under above 3 n ≡ true → RowInside 2 (computed_local_row 2 presented n) (local n)
+local_rows_inside n e = on_path (λ n. RowInside 2 (computed_local_row 2 presented n) (local n)) (RowInside-same 2 _ _ (λ k. refl)) (RowInside-same 2 _ _ (λ k. refl)) (RowInside-same 2 _ _ (λ k. refl)) n e
 
 at_least_itself : (n : ℕ) → n ≤ n
 at_least_itself n = omega arith
 
-radii_at_least : (n : ℕ) → under above 3 n ≡ true → local_radius 2 presented n ≤ radius n
-radii_at_least n e = on_path (λ n. local_radius 2 presented n ≤ radius n) (at_least_itself (radius 3)) (at_least_itself (radius 1)) (at_least_itself (radius 0)) n e
+radii_at_least : (n : ℕ) → under above 3 n ≡ true → computed_local_radius 2 presented n ≤ radius n
+radii_at_least n e = on_path (λ n. computed_local_radius 2 presented n ≤ radius n) (at_least_itself (radius 3)) (at_least_itself (radius 1)) (at_least_itself (radius 0)) n e
 
 -- ---- entries
 cells_apart : CellsAreApart (cell 3) (cell 4)

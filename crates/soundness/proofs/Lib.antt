@@ -12,7 +12,6 @@ pub mod Multipoles
 pub mod Nodes
 pub mod Paths
 pub mod Places
-pub mod Premises
 pub mod RowTotals
 pub mod Sums
 pub mod Targets

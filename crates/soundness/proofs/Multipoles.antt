@@ -20,7 +20,7 @@ use Rattle.row_recursions.proofs.BoxSums.{units}
 use Rattle.row_recursions.proofs.MomentLaws.{exact_of, Stands-moment, moments_up}
 use Rattle.row_recursions.proofs.Points.{strength_moments}
 use Rattle.soundness.specs.Squares.{doubled_centre, quadrant, IsQuarterOf}
-use Rattle.soundness.specs.Accounts.{LeafSource, Accounting, is_child, is_leaf, children, sources_under}
+use Rattle.soundness.specs.Accounts.{LeafSource, Accounting, names_parent, is_leaf, children, sources_under}
 use Rattle.soundness.specs.Computed.{total_row, shifted_rows}
 use Rattle.soundness.specs.Rules.{RowInside, Rules}
 use Rattle.soundness.proofs.Boxes.{EnclosesBox-total}
@@ -93,13 +93,13 @@ module _ (P : ℕ) (A : Accounting) (rules : Rules P A) where
   leaf_held : (n : ℕ) → n < A.nodes → is_leaf A n ≡ true → Held n
   leaf_held n l e = HoldsIn-inside P (A.cell n) (sources_under A n) _ (A.multipole n) ((rules.multipoles n l).of_leaf e) (HoldsIn-sources P (A.cell n) (sources_under A n))
 
-  child_is : (n d : ℕ) → is_child A n d ≡ true → (0 < d) × (A.parent d ≡ n)
+  child_is : (n d : ℕ) → names_parent A n d ≡ true → (0 < d) × (A.parent d ≡ n)
   child_is n d e = let p = and_parts (nat_lt 0 d) (A.parent d == n) e in (ltb-true 0 d p.0, eqb-true _ _ p.1)
 
   inner_held : (n : ℕ) → n < A.nodes → is_leaf A n ≡ false → ((d : ℕ) → n < d → d < A.nodes → Held d) → Held n
   inner_held n l e ih = HoldsIn-inside P (A.cell n) (sources_under A n) (shifted_rows A n) (A.multipole n) ((rules.multipoles n l).of_inner e)
       (HoldsIn-parts P (A.cell n) (λ d. shifted_up (A.multipole d) (quadrant (A.cell d))) (sources_under A) (children A n) (sources_under A n)
-      (λ k d i. at_child (get_or (children A n) k d) (All-filter (is_child A n) (λ d. d < A.nodes) (range_with_len 0 A.nodes) in_range k d i) (filter_passes (is_child A n) (range_with_len 0 A.nodes) k d i))
+      (λ k d i. at_child (get_or (children A n) k d) (All-filter (names_parent A n) (λ d. d < A.nodes) (range_with_len 0 A.nodes) in_range k d i) (filter_passes (names_parent A n) (range_with_len 0 A.nodes) k d i))
       (λ f. sum-children A.parent rules.root rules.parents complex_rationals A.nodes (λ x. x.leaf) f A.sources n elsewhere))
     where
       in_range : All (λ d. d < A.nodes) (range_with_len 0 A.nodes)
@@ -111,7 +111,7 @@ module _ (P : ℕ) (A : Accounting) (rules : Rules P A) where
       elsewhere : All (λ x. (x.leaf < A.nodes) × (x.leaf ≡ n → ⊥)) A.sources
       elsewhere k d i = let p = rules.sources k d i in (p.in_range, λ h. true≢false (sym p.leaf ∙ ap (is_leaf A) h ∙ e))
 
-      at_child : (d : ℕ) → d < A.nodes → is_child A n d ≡ true → HoldsIn P (A.cell n) (sources_under A d) (shifted_up (A.multipole d) (quadrant (A.cell d)))
+      at_child : (d : ℕ) → d < A.nodes → names_parent A n d ≡ true → HoldsIn P (A.cell n) (sources_under A d) (shifted_up (A.multipole d) (quadrant (A.cell d)))
       at_child d h t =
           let c = child_is n d t in
           subst (λ m. HoldsIn P (A.cell m) (sources_under A d) (shifted_up (A.multipole d) (quadrant (A.cell d)))) c.1

@@ -17,7 +17,7 @@ use Rattle.points.specs.Points.{place}
 use Rattle.row_recursions.specs.Rows.{converted}
 use Rattle.soundness.specs.Squares.{sides_between, IsIn, IsFarFrom}
 use Rattle.soundness.specs.Accounts.{LeafSource, Accounting, is_letter, under, sources_under, entries_of}
-use Rattle.soundness.specs.Computed.{total_row, weight_of_entry, brought_down, converted_rows, far_rows, local_row, local_radius}
+use Rattle.soundness.specs.Computed.{total_row, weight_of_entry, brought_down, converted_rows, far_rows, computed_local_row, computed_local_radius}
 use Rattle.soundness.specs.Rules.{RowInside, Apart, Rules}
 use Rattle.truncation.specs.Tails.{pair_loss, single_loss}
 use Rattle.soundness.proofs.Boxes.{IsNear, IsNear-wider, IsNear-add, IsNear-sum}
@@ -141,7 +141,7 @@ module _ (P : ℕ) (A : Accounting) (order : 2 ≤ P) (rules : Rules P A) where
     up : (n : ℕ) → under A.parent leaf (suc n) ≡ true → under A.parent leaf (A.parent (suc n)) ≡ true
     up n h = under-up A.parent rules.root rules.parents leaf (suc n) (omega arith) h
 
-    module _ (rows : (n : ℕ) → under A.parent leaf n ≡ true → RowInside P (local_row P A n) (A.local n)) where
+    module _ (rows : (n : ℕ) → under A.parent leaf n ≡ true → RowInside P (computed_local_row P A n) (A.local n)) where
       abbrev Held : ℕ → Type 0
       Held n = Local P (A.cell n) (λ t. on_path (pair_cuts t) (far_cuts t) n) (A.local n)
 
@@ -152,11 +152,11 @@ module _ (P : ℕ) (A : Accounting) (order : 2 ≤ P) (rules : Rules P A) where
       local_held = strong (λ n. under A.parent leaf n ≡ true → Held n) step
         where
           step : (n : ℕ) → ((m : ℕ) → m < n → under A.parent leaf m ≡ true → Held m) → under A.parent leaf n ≡ true → Held n
-          step zero ih h = Local-inside P (A.cell 0) _ (local_row P A 0) (A.local 0) (rows 0 h)
-              (Local-same P (A.cell 0) _ _ (local_row P A 0) (λ t. zero_left complex_rationals _ ∙ sym (on_path-root (pair_cuts t) (far_cuts t)))
+          step zero ih h = Local-inside P (A.cell 0) _ (computed_local_row P A 0) (A.local 0) (rows 0 h)
+              (Local-same P (A.cell 0) _ _ (computed_local_row P A 0) (λ t. zero_left complex_rationals _ ∙ sym (on_path-root (pair_cuts t) (far_cuts t)))
               (Local-add P (A.cell 0) _ _ (brought_down P A 0) _ (Local-zero P (A.cell 0)) (added 0)))
-          step (suc n) ih h = Local-inside P (A.cell (suc n)) _ (local_row P A (suc n)) (A.local (suc n)) (rows (suc n) h)
-              (Local-same P (A.cell (suc n)) _ _ (local_row P A (suc n)) (λ t. sym (on_path-parent (pair_cuts t) (far_cuts t) (suc n) (omega arith)))
+          step (suc n) ih h = Local-inside P (A.cell (suc n)) _ (computed_local_row P A (suc n)) (A.local (suc n)) (rows (suc n) h)
+              (Local-same P (A.cell (suc n)) _ _ (computed_local_row P A (suc n)) (λ t. sym (on_path-parent (pair_cuts t) (far_cuts t) (suc n) (omega arith)))
               (Local-add P (A.cell (suc n)) _ _ (brought_down P A (suc n)) _
               (Local-down P (A.cell (suc n)) (A.cell (A.parent (suc n))) _ (A.local (A.parent (suc n))) (rules.quarters (suc n) (omega arith) (in_nodes (suc n) h)) (ih (A.parent (suc n)) (rules.parents (suc n) (omega arith)) (up n h)))
               (added (suc n))))
@@ -187,7 +187,7 @@ module _ (P : ℕ) (A : Accounting) (order : 2 ≤ P) (rules : Rules P A) where
     node_near : (n : ℕ) → under A.parent leaf n ≡ true → IsNear (node_radius n) (on_node (terms_of t) (terms_of t) n) (on_node (pair_cuts t) (far_cuts t) n)
     node_near n h = IsNear-add _ _ _ _ (pairs_near n h) (far_ones_near n h)
 
-    module _ (radii : (n : ℕ) → under A.parent leaf n ≡ true → local_radius P A n ≤ A.radius n) where
+    module _ (radii : (n : ℕ) → under A.parent leaf n ≡ true → computed_local_radius P A n ≤ A.radius n) where
       abbrev Near : ℕ → Type 0
       Near n = IsNear (A.radius n) (on_path (terms_of t) (terms_of t) n) (on_path (pair_cuts t) (far_cuts t) n)
 

@@ -17,7 +17,7 @@ use Rattle.near_field.specs.Pair.{pair_box}
 use Rattle.row_recursions.specs.Rows.{multipole_value}
 use Rattle.soundness.specs.Squares.{offset, IsIn, IsFarFrom}
 use Rattle.soundness.specs.Accounts.{LeafTarget, Accounting, is_letter, under, sources_under, entries_of, reaches, accounts, points_of}
-use Rattle.soundness.specs.Computed.{total_box, weight_of_entry, local_row, local_radius, local_at, multipoles_at, pairs_at, target_radius}
+use Rattle.soundness.specs.Computed.{total_box, weight_of_entry, computed_local_row, computed_local_radius, local_at, multipoles_at, pairs_at, target_radius}
 use Rattle.soundness.specs.Rules.{RowInside, IsTiled, LocalHolds, Rules}
 use Rattle.soundness.specs.Soundness.{RulesImplyContainment}
 use Rattle.truncation.specs.Tails.{single_loss}
@@ -93,10 +93,10 @@ module _ (P : ℕ) (A : Accounting) (order : 2 ≤ P) (rules : Rules P A) (t : G
     -- ---- all together
     module _ (leaf_in : leaf < A.nodes) (in_leaf : IsIn (A.cell leaf) t)
         (locals : (n : ℕ) → under A.parent leaf n ≡ true → LocalHolds P A n) (tiled : IsTiled A leaf) where
-      rows : (n : ℕ) → under A.parent leaf n ≡ true → RowInside P (local_row P A n) (A.local n)
+      rows : (n : ℕ) → under A.parent leaf n ≡ true → RowInside P (computed_local_row P A n) (A.local n)
       rows n u = (locals n u).row
 
-      radii : (n : ℕ) → under A.parent leaf n ≡ true → local_radius P A n ≤ A.radius n
+      radii : (n : ℕ) → under A.parent leaf n ≡ true → computed_local_radius P A n ≤ A.radius n
       radii n u = (locals n u).radius
 
       on_leaf : under A.parent leaf leaf ≡ true

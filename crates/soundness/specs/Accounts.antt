@@ -50,15 +50,15 @@ is_letter X X = true
 is_letter _ _ = false
 
 module _ (A : Accounting) where
-  abbrev pub is_child : ℕ → ℕ → Bool
-  is_child n d = nat_lt 0 d && (A.parent d == n)
+  abbrev pub names_parent : ℕ → ℕ → Bool
+  names_parent n d = nat_lt 0 d && (A.parent d == n)
 
   abbrev pub children : ℕ → List ℕ
-  children n = filter (is_child n) (range_with_len 0 A.nodes)
+  children n = filter (names_parent n) (range_with_len 0 A.nodes)
 
   -- no node names it as its parent
   abbrev pub is_leaf : ℕ → Bool
-  is_leaf n = not (list_any (is_child n) (range_with_len 0 A.nodes))
+  is_leaf n = not (list_any (names_parent n) (range_with_len 0 A.nodes))
 
   -- the sources in the leaves under a node
   abbrev pub sources_under : ℕ → List LeafSource

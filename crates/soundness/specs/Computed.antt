@@ -29,8 +29,8 @@ module _ (A : Accounting) where
   sources_of_entry e = sources_under A e.c
 
   -- ---- multipole rows: of a leaf from its sources, and of another node from its children's
-  abbrev pub leaf_row : ℕ → ℕ → BoxEnds
-  leaf_row n = moments_of point_of (A.cell n) (sources_under A n)
+  abbrev pub computed_leaf_row : ℕ → ℕ → BoxEnds
+  computed_leaf_row n = moments_of point_of (A.cell n) (sources_under A n)
 
   abbrev pub shifted_rows : ℕ → ℕ → BoxEnds
   shifted_rows n = child_rows A.cell A.multipole (children A n)
@@ -47,8 +47,8 @@ module _ (P : ℕ) (A : Accounting) where
   abbrev pub far_rows : ℕ → ℕ → BoxEnds
   far_rows n = x_rows point_of (sources_of_entry A) (A.cell n) (entries_of A X n)
 
-  abbrev pub local_row : ℕ → ℕ → BoxEnds
-  local_row n k = add_box (brought_down n k) (add_box (converted_rows n k) (far_rows n k))
+  abbrev pub computed_local_row : ℕ → ℕ → BoxEnds
+  computed_local_row n k = add_box (brought_down n k) (add_box (converted_rows n k) (far_rows n k))
 
   -- ---- radii: what the entries can lose, in units of 2^-40
   abbrev pub weight_under : ℕ → ℕ
@@ -61,8 +61,8 @@ module _ (P : ℕ) (A : Accounting) where
   radius_above zero = 0
   radius_above (suc n) = A.radius (A.parent (suc n))
 
-  abbrev pub local_radius : ℕ → ℕ
-  local_radius n = radius_of P weight_of_entry (side (A.cell n)) (radius_above n) (entries_of A V n) (entries_of A X n)
+  abbrev pub computed_local_radius : ℕ → ℕ
+  computed_local_radius n = radius_of P weight_of_entry (side (A.cell n)) (radius_above n) (entries_of A V n) (entries_of A X n)
 
   -- ---- the box of a target: the value of its leaf's local row, those of the W entries, and the pairs of the U entries
   abbrev pub local_at : ℕ → Gaussian → BoxEnds
@@ -78,5 +78,5 @@ module _ (P : ℕ) (A : Accounting) where
   target_radius n = A.radius n + sum_by (λ e. single_loss P (weight_of_entry e) (side (A.cell e.c))) (entries_of A W n)
 
   -- widened by what all its entries can lose
-  abbrev pub target_box : LeafTarget → BoxEnds
-  target_box t = widen_box (add_box (local_at t.leaf t.place) (add_box (multipoles_at t.leaf t.place) (pairs_at t.leaf t.place))) (pos (target_radius t.leaf))
+  abbrev pub computed_target_box : LeafTarget → BoxEnds
+  computed_target_box t = widen_box (add_box (local_at t.leaf t.place) (add_box (multipoles_at t.leaf t.place) (pairs_at t.leaf t.place))) (pos (target_radius t.leaf))

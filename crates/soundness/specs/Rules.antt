@@ -9,7 +9,7 @@ use Rattle.letters.specs.declared.Letter.TheVariants.{U, V, W, X}
 use Rattle.points.specs.Points.{place}
 use Rattle.soundness.specs.Squares.{IsQuarterOf, IsIn, IsFarFrom, CellsAreApart}
 use Rattle.soundness.specs.Accounts.{LeafSource, LeafTarget, Accounting, under, is_leaf, has_target_under, accounts}
-use Rattle.soundness.specs.Computed.{leaf_row, shifted_rows, local_row, local_radius, target_box}
+use Rattle.soundness.specs.Computed.{computed_leaf_row, shifted_rows, computed_local_row, computed_local_radius, computed_target_box}
 
 -- the first P boxes of a row lie in those of another
 abbrev pub RowInside : ℕ → (ℕ → BoxEnds) → (ℕ → BoxEnds) → Type 0
@@ -42,17 +42,17 @@ module _ (A : Accounting) where
 module _ (P : ℕ) (A : Accounting) where
   -- the multipole row of a node: a leaf's has that of its sources in it, and another's its children's, shifted up
   pub record MultipoleHolds (n : ℕ) : Type 0 where
-    pub of_leaf : is_leaf A n ≡ true → RowInside P (leaf_row A n) (A.multipole n)
+    pub of_leaf : is_leaf A n ≡ true → RowInside P (computed_leaf_row A n) (A.multipole n)
     pub of_inner : is_leaf A n ≡ false → RowInside P (shifted_rows A n) (A.multipole n)
 
   -- the local row of a node, and its radius
   pub record LocalHolds (n : ℕ) : Type 0 where
-    pub row : RowInside P (local_row P A n) (A.local n)
-    pub radius : local_radius P A n ≤ A.radius n
+    pub row : RowInside P (computed_local_row P A n) (A.local n)
+    pub radius : computed_local_radius P A n ≤ A.radius n
 
   -- the box of a target
   abbrev pub BoxHolds : LeafTarget → Type 0
-  BoxHolds t = BoxEndsInside (target_box P A t) t.box
+  BoxHolds t = BoxEndsInside (computed_target_box P A t) t.box
 
 -- the rules at order P
 pub record Rules (P : ℕ) (A : Accounting) : Type 0 where

@@ -100,11 +100,11 @@ module _ (P : ℕ) (b : BasisModel) (stands : IsBasis P b) where
       (λ n m ne. no_pairs n (range_below (size b.tree) n m) k is ne)
       ∙ ap (λ (t : Bool). cond t (count_at b (leaf_of b.tree k) k) 0) (test-from_Holds (square_of b.tree (leaf_of b.tree k)) p.x p.y l.held)
 
-  pub pairs_are : (field : TreeLists) → AreTreeLists b.tree.grid b.points b.cap field → sum_by (λ k. count_at b (leaf_of b.tree k) k) (target_positions b.points) ≡ pairs b.points field
-  pairs_are field given =
+  pub pairs_are : (lists : TreeLists) → AreTreeLists b.tree.grid b.points b.cap lists → sum_by (λ k. count_at b (leaf_of b.tree k) k) (target_positions b.points) ≡ pairs b.points lists
+  pairs_are lists given =
       let r : List ℕ = range_with_len 0 (size b.tree) in
       let positions : List ℕ = target_positions b.points in
-      sym ((work_of_tree b.tree b.lists b.points b.cap field (inside P b stands) h are given).pairs_are
+      sym ((work_of_tree b.tree b.lists b.points b.cap lists (inside P b stands) h are given).pairs_are
       ∙ sum_by-same (λ n. sum_by (λ m. pairs_between b.points (square_of b.tree n) (square_of b.tree m)) (list_at b.lists.u n)) (λ n. sum_by (share n) positions) r (All-from_members (λ n. sum_by (λ m. pairs_between b.points (square_of b.tree n) (square_of b.tree m)) (list_at b.lists.u n) ≡ sum_by (share n) positions) r (λ n m. counted_in_cell n (range_below (size b.tree) n m)))
       ∙ sum_by-exchange share r positions
       ∙ sum_by-same (λ k. sum_by (λ n. share n k) r) (λ k. count_at b (leaf_of b.tree k) k) positions (λ i d l. counted_at_leaf (get_or positions i d) (positions_are b.points i d l)))

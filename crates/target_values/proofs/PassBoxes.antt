@@ -15,7 +15,7 @@ use Rattle.field_basis.proofs.PlaceSums.{sum_by_number}
 use Rattle.field_basis.proofs.Positions.{targets_at}
 use Rattle.field_basis.specs.Basis.{BasisModel, IsBasis}
 use Rattle.field_basis.specs.Counts.{pairs_of_target}
-use Rattle.field_basis.specs.FieldPlaces.{IsTargetBox, AreTargetBoxes, BoxesContain, AreAllPairs}
+use Rattle.field_basis.specs.FieldPlaces.{IsTargetBox, AreTargetBoxes, TargetsContain, AreAllPairs}
 use Rattle.field_basis.specs.Targets.{point_at}
 use Rattle.limits.proofs.Grids.{grid_positive}
 use Rattle.limits.specs.Limits.{most_box}
@@ -74,7 +74,7 @@ module _ (P : ℕ) (b : BasisModel) (is : IsBasis P b) (places : List TargetMode
       ∙ sym (map-map box (point_at b.points) b.targets)
       ∙ ap (map box) (ap (map (point_at b.points)) is.targets_are ∙ targets_at b.points)
 
-  pub all_contain : BoxesContain b.points (values_of places)
+  pub all_contain : TargetsContain b.points (values_of places)
   all_contain =
       zip-from_images (λ t e. BoxEndsContain unit e (direct_sum (place t) b.points)) (λ t. target_box b.points b.cap P (some_lists P b is).0 (place t)) box_ends (targets b.points) (values_of places) (boxes_are (some_lists P b is).0 (some_lists P b is).1)
       (field_contains b.tree.grid b.points b.cap P (some_lists P b is).0 (grid_positive b.tree.grid is.is_tree.known_grid) (order_bounds P is.order).0 (inside P b is) (some_lists P b is).1)

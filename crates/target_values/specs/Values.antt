@@ -1,4 +1,4 @@
--- What the cells of a leaf's lists bring to a place, by their numbers.
+-- What the cells of a leaf's lists bring to a place, by their numbers. No public contract cites it.
 use Rattle.std.specs.Prelude.{ℕ}
 use Rattle.exact_math.specs.Ends.{BoxEnds}
 use Rattle.exact_math.specs.Gaussian.{Gaussian}

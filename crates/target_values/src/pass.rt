@@ -2,7 +2,7 @@
 ghost use Rattle.std.specs.Prelude.{◌≡◌, ℕ, ◌*◌, ◌<◌, ◌≤◌, length, All};
 ghost use Rattle.complex_box.specs.Box.{BoxWithin};
 ghost use Rattle.field_basis.specs.Counts.{pairs_of_target};
-ghost use Rattle.field_basis.specs.FieldPlaces.{AreAllLocalPlaces, AreAllMultipolePlaces, AreAllPairs, AreTargetBoxes, BoxesContain};
+ghost use Rattle.field_basis.specs.FieldPlaces.{AreAllLocalPlaces, AreAllMultipolePlaces, AreAllPairs, AreTargetBoxes, TargetsContain};
 ghost use Rattle.limits.specs.Limits.{most_box};
 ghost use Rattle.places.specs.Target.{all_pairs, target_at, values_of};
 
@@ -26,7 +26,7 @@ pub fn value_pass<const P: usize>(
     requires local { AreAllLocalPlaces P basis.now local.now }
     requires len { length values.old ≡ length basis.now.targets }
     ensures values { AreTargetBoxes P basis.now (values_of values.new) }
-    ensures contains { BoxesContain basis.now.points (values_of values.new) }
+    ensures contains { TargetsContain basis.now.points (values_of values.new) }
     ensures size { All (BoxWithin (most_box basis.now.tree.grid)) (values_of values.new) }
     ensures each { (k : ℕ) → k < length basis.now.targets → (target_at values.new k).pairs ≡ pairs_of_target basis.now k }
     ensures pairs { AreAllPairs basis.now (all_pairs values.new) }

@@ -21,8 +21,8 @@ use points::Point;
 /// The sum and the box of the pair of the point and the target, where the point is a source.
 fn with_pair(sum: CBox, p: &Point, target: &Point, work: &mut Work) -> CBox
     requires range { InRange widest_grid p.now }
-    requires grid { IsInGrid widest_grid target.now.x target.now.y }
-    requires size { BoxWithin (2 ^ 100) sum }
+    requires in_grid { IsInGrid widest_grid target.now.x target.now.y }
+    requires sum { BoxWithin (2 ^ 100) sum }
     requires room { work.old.pairs < 2 ^ 63 }
     ensures ends { box_ends result ≡ fold (λ b q. add_box b (pair_box (place target.now) q)) (box_ends sum) (filter (λ q. is_source q.kind) (p.now ∷ [])) }
     ensures size { (n : ℕ) → BoxWithin n sum → BoxWithin (n + 2 ^ 67) result }
@@ -36,8 +36,8 @@ fn with_pair(sum: CBox, p: &Point, target: &Point, work: &mut Work) -> CBox
 
 /// The sum of the boxes of the pairs with the sources of the cell `c`.
 fn cell_pairs<const P: usize>(basis: &Basis<P>, c: usize, target: &Point, work: &mut Work) -> CBox
-    requires number { c < size basis.now.tree }
-    requires grid { IsInGrid widest_grid target.now.x target.now.y }
+    requires cell { c < size basis.now.tree }
+    requires in_grid { IsInGrid widest_grid target.now.x target.now.y }
     requires room { work.old.pairs + most_points widest_grid < 2 ^ 63 }
     ensures ends { box_ends result ≡ pairs_of_cell basis.now (place target.now) c }
     ensures size { BoxWithin (2 ^ 67 * most_points widest_grid) result }
@@ -58,8 +58,8 @@ pub(crate) fn u_pairs<const P: usize>(
     target: &Point,
     work: &mut Work,
 ) -> CBox
-    requires number { leaf < size basis.now.tree }
-    requires grid { IsInGrid widest_grid target.now.x target.now.y }
+    requires cell { leaf < size basis.now.tree }
+    requires in_grid { IsInGrid widest_grid target.now.x target.now.y }
     requires room { work.old.pairs < 2 ^ 62 }
     ensures ends { box_ends result ≡ total_box (pairs_of_cell basis.now (place target.now)) (list_at basis.now.lists.u leaf) }
     ensures size { BoxWithin (2 ^ 101) result }

@@ -30,7 +30,7 @@ pub fn target_value<const P: usize>(
     k: usize,
     work: &mut Work,
 ) -> CBox
-    requires target { k < length basis.now.targets }
+    requires index { k < length basis.now.targets }
     requires rows { AreMultipolePlaces P basis.now.points basis.now.tree up.now (list_at basis.now.lists.w (target_leaf basis.now k)) }
     requires leaf { HasLocalPlace P basis.now local.now (target_leaf basis.now k) }
     requires room { work.old.pairs < 2 ^ 62 }

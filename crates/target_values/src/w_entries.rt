@@ -22,10 +22,10 @@ use points::Point;
 
 /// The value of the multipole row of the cell `c` at a target far from it.
 fn w_value<const P: usize>(basis: &Basis<P>, up: &[Place<P>], c: usize, target: &Point) -> CBox
-    requires number { c < size basis.now.tree }
-    requires few { c < length up.now }
+    requires cell { c < size basis.now.tree }
+    requires index { c < length up.now }
     requires row { IsMultipolePlace P basis.now.points basis.now.tree c (place_at up.now c) }
-    requires grid { IsInGrid basis.now.tree.grid target.now.x target.now.y }
+    requires in_grid { IsInGrid basis.now.tree.grid target.now.x target.now.y }
     requires far { GaussianBeyond (3 * side (square_of basis.now.tree c)) (offset (square_of basis.now.tree c) (place target.now)) }
     ensures ends { box_ends result ≡ value_of_cell P basis.now (place target.now) c }
     ensures size { BoxWithin (2 ^ 83) result }
@@ -40,10 +40,10 @@ pub(crate) fn w_values<const P: usize>(
     leaf: usize,
     target: &Point,
 ) -> CBox
-    requires number { leaf < size basis.now.tree }
+    requires cell { leaf < size basis.now.tree }
     requires rows { AreMultipolePlaces P basis.now.points basis.now.tree up.now (list_at basis.now.lists.w leaf) }
-    requires grid { IsInGrid basis.now.tree.grid target.now.x target.now.y }
-    requires held { Holds (square_of basis.now.tree leaf) target.now.x target.now.y }
+    requires in_grid { IsInGrid basis.now.tree.grid target.now.x target.now.y }
+    requires inside { Holds (square_of basis.now.tree leaf) target.now.x target.now.y }
     ensures ends { box_ends result ≡ total_box (value_of_cell P basis.now (place target.now)) (list_at basis.now.lists.w leaf) }
     ensures size { BoxWithin (2 ^ 100) result }
 {
@@ -56,7 +56,7 @@ pub(crate) fn w_values<const P: usize>(
 
 /// Adds what the entry of the cell `c` and far places can lose.
 fn add_loss<const P: usize>(basis: &Basis<P>, c: usize, ledger: &mut Ledger)
-    requires number { c < size basis.now.tree }
+    requires cell { c < size basis.now.tree }
     requires room { ledger.old + loss_of_cell P basis.now c < 2 ^ 100 }
     ensures { ledger.new ≡ ledger.old + loss_of_cell P basis.now c }
 {
@@ -65,7 +65,7 @@ fn add_loss<const P: usize>(basis: &Basis<P>, c: usize, ledger: &mut Ledger)
 
 /// What the W entries of a leaf can lose.
 pub(crate) fn w_radius<const P: usize>(basis: &Basis<P>, leaf: usize) -> i128
-    requires number { leaf < size basis.now.tree }
+    requires cell { leaf < size basis.now.tree }
     ensures sum { result ≡ pos (sum_by (loss_of_cell P basis.now) (list_at basis.now.lists.w leaf)) }
     ensures size { result ≤ℤ pos (2 ^ 90) }
 {

@@ -21,7 +21,7 @@ use Rattle.quadtree.proofs.Ascending.{ascending_differ}
 use Rattle.tree_field.proofs.Leaves.{under_is_holding}
 use Rattle.exact_math.proofs.Lists.{All-from_members, filter-map, filter-filter, filter_same, filter_none, filter_whole}
 use Rattle.tree_field.proofs.Members.{filter_piece}
-use Rattle.tree_field.proofs.Numbers.{number, cell_at, above, tree_cell, number_below, cell_of_number, number_of_cell}
+use Rattle.tree_field.proofs.Numbers.{number_among, cell_at, above, tree_cell, number_below, cell_of_number, number_of_cell}
 use Rattle.soundness.proofs.Sums.{total_box-map, total_box-same, sum_by-map, sum_by-same}
 
 module _ (lists : TreeLists) where
@@ -63,19 +63,19 @@ module _ (grid : ℕ) (points : List Point) (cap P : ℕ) (lists : TreeLists) (p
   other_cell letter n b lt h other =
       filter_none (of_node letter n) (of_cell lists b)
       (All-of_cell lists (λ e. of_node letter n e ≡ false) b (λ l. All-from_members (λ c. of_node letter n (entry lists l b c) ≡ false) (lists.entries l b)
-      (λ c m. and_right (is_letter letter l) (n == number lists.cells b) (ne_eqb n (number lists.cells b) (λ e. other (sym (ap cell e ∙ cell_of_number grid points cap lists.cells positive inside are.cells_are b (All-contains (IsTreeCell grid points cap) lists.cells b are.cells_are.each h))))))))
+      (λ c m. and_right (is_letter letter l) (n == number_among lists.cells b) (ne_eqb n (number_among lists.cells b) (λ e. other (sym (ap cell e ∙ cell_of_number grid points cap lists.cells positive inside are.cells_are b (All-contains (IsTreeCell grid points cap) lists.cells b are.cells_are.each h))))))))
 
   piece : (letter l : Letter) (n : ℕ) → n < length lists.cells → filter (of_node letter n) (entries_from lists l (cell n)) ≡ cond (is_letter letter l) (entries_from lists l (cell n)) []
   piece letter l n lt = step (is_letter letter l) refl
     where
-      same : (n == number lists.cells (cell n)) ≡ true
-      same = eq-eqb n (number lists.cells (cell n)) (sym (number_of_cell grid points cap lists.cells positive inside are.cells_are n lt))
+      same : (n == number_among lists.cells (cell n)) ≡ true
+      same = eq-eqb n (number_among lists.cells (cell n)) (sym (number_of_cell grid points cap lists.cells positive inside are.cells_are n lt))
 
       step : (b : Bool) → is_letter letter l ≡ b → filter (of_node letter n) (entries_from lists l (cell n)) ≡ cond b (entries_from lists l (cell n)) []
       step true e = filter_whole (of_node letter n) (entries_from lists l (cell n)) (All-map (λ e. of_node letter n e ≡ true) (entry lists l (cell n)) (lists.entries l (cell n))
-          (All-from_members (λ c. of_node letter n (entry lists l (cell n) c) ≡ true) (lists.entries l (cell n)) (λ c m. and_from (is_letter letter l) (n == number lists.cells (cell n)) e same)))
+          (All-from_members (λ c. of_node letter n (entry lists l (cell n) c) ≡ true) (lists.entries l (cell n)) (λ c m. and_from (is_letter letter l) (n == number_among lists.cells (cell n)) e same)))
       step false e = filter_none (of_node letter n) (entries_from lists l (cell n)) (All-map (λ e. of_node letter n e ≡ false) (entry lists l (cell n)) (lists.entries l (cell n))
-          (All-from_members (λ c. of_node letter n (entry lists l (cell n) c) ≡ false) (lists.entries l (cell n)) (λ c m. and_left (is_letter letter l) (n == number lists.cells (cell n)) e)))
+          (All-from_members (λ c. of_node letter n (entry lists l (cell n) c) ≡ false) (lists.entries l (cell n)) (λ c m. and_left (is_letter letter l) (n == number_among lists.cells (cell n)) e)))
 
   abbrev from : ℕ → Letter → List Entry
   from n l = entries_from lists l (cell n)
@@ -106,7 +106,7 @@ module _ (grid : ℕ) (points : List Point) (cap P : ℕ) (lists : TreeLists) (p
   over_entries letter n lt G F same =
       ap (total_box (λ (e : Entry). G e.c)) (entries_of-cell letter n lt)
       ∙ total_box-map (λ (e : Entry). G e.c) (entry lists letter (cell n)) (lists.entries letter (cell n))
-      ∙ total_box-same (λ c. G (number lists.cells c)) F (lists.entries letter (cell n))
+      ∙ total_box-same (λ c. G (number_among lists.cells c)) F (lists.entries letter (cell n))
       (λ k d h. let t = second_in_tree letter n lt k d h in same _ (number_below grid points cap lists.cells positive inside are.cells_are _ t) ∙ ap F (cell_of_number grid points cap lists.cells positive inside are.cells_are _ t))
 
   pub sum_over_entries : (letter : Letter) (n : ℕ) → n < length lists.cells → (G : ℕ → ℕ) (F : Square → ℕ) → ((m : ℕ) → m < length lists.cells → G m ≡ F (cell m))
@@ -114,5 +114,5 @@ module _ (grid : ℕ) (points : List Point) (cap P : ℕ) (lists : TreeLists) (p
   sum_over_entries letter n lt G F same =
       ap (sum_by (λ (e : Entry). G e.c)) (entries_of-cell letter n lt)
       ∙ sum_by-map (λ (e : Entry). G e.c) (entry lists letter (cell n)) (lists.entries letter (cell n))
-      ∙ sum_by-same (λ c. G (number lists.cells c)) F (lists.entries letter (cell n))
+      ∙ sum_by-same (λ c. G (number_among lists.cells c)) F (lists.entries letter (cell n))
       (λ k d h. let t = second_in_tree letter n lt k d h in same _ (number_below grid points cap lists.cells positive inside are.cells_are _ t) ∙ ap F (cell_of_number grid points cap lists.cells positive inside are.cells_are _ t))

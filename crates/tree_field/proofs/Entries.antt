@@ -28,7 +28,7 @@ use Rattle.quadtree.proofs.Ascending.{ascending_differ}
 use Rattle.tree_field.proofs.Leaves.{leaf_holds, only_leaf, cell_of_leaf, under_is_holding}
 use Rattle.exact_math.proofs.Lists.{All-from_members, Contains-into_map, AllPairs-map, AllPairs-both}
 use Rattle.tree_field.proofs.Members.{count_one}
-use Rattle.tree_field.proofs.Numbers.{number, cell_at, above, number_below, cell_of_number}
+use Rattle.tree_field.proofs.Numbers.{number_among, cell_at, above, number_below, cell_of_number}
 
 letter_itself : (l : Letter) → is_letter l l ≡ true
 letter_itself U = refl
@@ -43,10 +43,10 @@ module _ (grid : ℕ) (points : List Point) (cap P : ℕ) (lists : TreeLists) (p
   abbrev cell : ℕ → Square
   cell n = cell_at lists.cells n
 
-  below : (c : Square) → IsTreeCell grid points cap c → number lists.cells c < length lists.cells
+  below : (c : Square) → IsTreeCell grid points cap c → number_among lists.cells c < length lists.cells
   below c h = number_below grid points cap lists.cells positive inside are.cells_are c h
 
-  is : (c : Square) → IsTreeCell grid points cap c → cell (number lists.cells c) ≡ c
+  is : (c : Square) → IsTreeCell grid points cap c → cell (number_among lists.cells c) ≡ c
   is c h = cell_of_number grid points cap lists.cells positive inside are.cells_are c h
 
   -- a fact of all entries of the lists
@@ -61,44 +61,44 @@ module _ (grid : ℕ) (points : List Point) (cap P : ℕ) (lists : TreeLists) (p
   entries_in_range = All-entries (λ e. e.c < length lists.cells) (λ letter b c tb tc e. below c tc)
 
   -- a node above a point's leaf has it in its cell
-  held_under : (p : Point) → Contains points p → (c : Square) → IsTreeCell grid points cap c → under (above lists.cells) (leaf_number grid points cap lists p) (number lists.cells c) ≡ true → Holds c p.x p.y
+  held_under : (p : Point) → Contains points p → (c : Square) → IsTreeCell grid points cap c → under (above lists.cells) (leaf_number grid points cap lists p) (number_among lists.cells c) ≡ true → Holds c p.x p.y
   held_under p h c tc u =
-      subst (λ s. Holds s p.x p.y) (is c tc) (Holds-from_test (cell (number lists.cells c)) p.x p.y (sym (under_is_holding grid points cap lists.cells positive inside are.cells_are p h (number lists.cells c) (below c tc)) ∙ u))
+      subst (λ s. Holds s p.x p.y) (is c tc) (Holds-from_test (cell (number_among lists.cells c)) p.x p.y (sym (under_is_holding grid points cap lists.cells positive inside are.cells_are p h (number_among lists.cells c) (below c tc)) ∙ u))
 
-  under_held : (p : Point) → Contains points p → (c : Square) → IsTreeCell grid points cap c → Holds c p.x p.y → under (above lists.cells) (leaf_number grid points cap lists p) (number lists.cells c) ≡ true
+  under_held : (p : Point) → Contains points p → (c : Square) → IsTreeCell grid points cap c → Holds c p.x p.y → under (above lists.cells) (leaf_number grid points cap lists p) (number_among lists.cells c) ≡ true
   under_held p h c tc held =
-      under_is_holding grid points cap lists.cells positive inside are.cells_are p h (number lists.cells c) (below c tc)
-      ∙ test-from_Holds (cell (number lists.cells c)) p.x p.y (subst (λ s. Holds s p.x p.y) (sym (is c tc)) held)
+      under_is_holding grid points cap lists.cells positive inside are.cells_are p h (number_among lists.cells c) (below c tc)
+      ∙ test-from_Holds (cell (number_among lists.cells c)) p.x p.y (subst (λ s. Holds s p.x p.y) (sym (is c tc)) held)
 
   -- ---- their places are apart
   far_at : (b c : Square) → IsTreeCell grid points cap b → IsTreeCell grid points cap c → b.level ≤ c.level → (Touches b c → ⊥) → (p : Point) → Contains points p
-      → under (above lists.cells) (leaf_number grid points cap lists p) (number lists.cells b) ≡ true → IsFarFrom (cell (number lists.cells c)) (place p)
+      → under (above lists.cells) (leaf_number grid points cap lists p) (number_among lists.cells b) ≡ true → IsFarFrom (cell (number_among lists.cells c)) (place p)
   far_at b c tb tc le apart p h u =
       subst (λ s. IsFarFrom s (place p)) (sym (is c tc)) (far_places b c p.x p.y (tb.of_grid ∙ sym tc.of_grid) le (omega (arith, tc.level_in_grid, tc.of_grid)) apart (held_under p h b tb u))
 
-  apart_of : (letter : Letter) (b c : Square) → IsTreeCell grid points cap b → IsTreeCell grid points cap c → IsPair grid points cap letter b c → Apart given letter (number lists.cells b) (number lists.cells c)
+  apart_of : (letter : Letter) (b c : Square) → IsTreeCell grid points cap b → IsTreeCell grid points cap c → IsPair grid points cap letter b c → Apart given letter (number_among lists.cells b) (number_among lists.cells c)
   apart_of U b c tb tc e = tt
   apart_of V b c tb tc e =
       let grids : b.grid ≡ c.grid = tb.of_grid ∙ sym tc.of_grid in
       let a = e.2 in
-      subst (λ s. CellsAreApart s (cell (number lists.cells c))) (sym (is b tb)) (subst (λ s. CellsAreApart b s) (sym (is c tc))
+      subst (λ s. CellsAreApart s (cell (number_among lists.cells c))) (sym (is b tb)) (subst (λ s. CellsAreApart b s) (sym (is c tc))
       (record { grid = grids; level = a.same_level; apart = (pairs_of_cells b c grids a.same_level a.apart a.parents_touch).kernel.apart }))
   apart_of W b c tb tc e =
       let a = e.2 in
-      All-map (λ (t : LeafTarget). under (above lists.cells) t.leaf (number lists.cells b) ≡ true → IsFarFrom (cell (number lists.cells c)) t.place) (leaf_target grid points cap P lists) (targets points)
-      (All-from_members (λ t. under (above lists.cells) (leaf_number grid points cap lists t) (number lists.cells b) ≡ true → IsFarFrom (cell (number lists.cells c)) (place t)) (targets points)
+      All-map (λ (t : LeafTarget). under (above lists.cells) t.leaf (number_among lists.cells b) ≡ true → IsFarFrom (cell (number_among lists.cells c)) t.place) (leaf_target grid points cap P lists) (targets points)
+      (All-from_members (λ t. under (above lists.cells) (leaf_number grid points cap lists t) (number_among lists.cells b) ≡ true → IsFarFrom (cell (number_among lists.cells c)) (place t)) (targets points)
       (λ t h u. far_at b c tb tc (omega (arith, a.deeper)) (λ w. a.apart (Touches-sym b c w)) t (Contains-filter _ points t h).0 u))
   apart_of X b c tb tc e =
       let a = e.2 in
-      All-map (λ (x : LeafSource). under (above lists.cells) x.leaf (number lists.cells c) ≡ true → IsFarFrom (cell (number lists.cells b)) (place x.point)) (leaf_source grid points cap lists) (sources points)
-      (All-from_members (λ p. under (above lists.cells) (leaf_number grid points cap lists p) (number lists.cells c) ≡ true → IsFarFrom (cell (number lists.cells b)) (place p)) (sources points)
+      All-map (λ (x : LeafSource). under (above lists.cells) x.leaf (number_among lists.cells c) ≡ true → IsFarFrom (cell (number_among lists.cells b)) (place x.point)) (leaf_source grid points cap lists) (sources points)
+      (All-from_members (λ p. under (above lists.cells) (leaf_number grid points cap lists p) (number_among lists.cells c) ≡ true → IsFarFrom (cell (number_among lists.cells b)) (place p)) (sources points)
       (λ p h u. far_at c b tc tb (omega (arith, a.deeper)) (λ w. a.apart (Touches-sym c b w)) p (Contains-filter _ points p h).0 u))
 
   pub entries_apart : All (λ e. Apart given e.letter e.b e.c) given.entries
   entries_apart = All-entries (λ e. Apart given e.letter e.b e.c) (λ letter b c tb tc e. apart_of letter b c tb tc e.pair)
 
   -- ---- no entry stands twice
-  same_cells : (b c : Square) → IsTreeCell grid points cap b → IsTreeCell grid points cap c → number lists.cells b ≡ number lists.cells c → b ≡ c
+  same_cells : (b c : Square) → IsTreeCell grid points cap b → IsTreeCell grid points cap c → number_among lists.cells b ≡ number_among lists.cells c → b ≡ c
   same_cells b c tb tc e = sym (is b tb) ∙ ap cell e ∙ is c tc
 
   letters_differ : (l m : Letter) (x y : Entry) → is_letter l m ≡ false → x.letter ≡ l → y.letter ≡ m → x ≢ y
@@ -149,20 +149,20 @@ module _ (grid : ℕ) (points : List Point) (cap P : ℕ) (lists : TreeLists) (p
       at X x h = Contains-append_right (entries_from lists U b) _ x (Contains-append_right (entries_from lists V b) _ x (Contains-append_right (entries_from lists W b) _ x h))
 
   -- ---- an entry reaches the targets that its cell holds
-  at_leaf : (t : Point) → Contains points t → (b : Square) → IsTreeCell grid points cap b → (leaf_number grid points cap lists t == number lists.cells b) ≡ true → Holds b t.x t.y
+  at_leaf : (t : Point) → Contains points t → (b : Square) → IsTreeCell grid points cap b → (leaf_number grid points cap lists t == number_among lists.cells b) ≡ true → Holds b t.x t.y
   at_leaf t h b tb e =
-      subst (λ s. Holds s t.x t.y) (sym (cell_of_leaf grid points cap lists.cells positive inside are.cells_are t h) ∙ ap cell (eqb-true (leaf_number grid points cap lists t) (number lists.cells b) e) ∙ is b tb) (leaf_holds grid points cap lists.cells positive inside are.cells_are t h)
+      subst (λ s. Holds s t.x t.y) (sym (cell_of_leaf grid points cap lists.cells positive inside are.cells_are t h) ∙ ap cell (eqb-true (leaf_number grid points cap lists t) (number_among lists.cells b) e) ∙ is b tb) (leaf_holds grid points cap lists.cells positive inside are.cells_are t h)
 
-  holds_from_reaches : (letter : Letter) (t : Point) → Contains points t → (b : Square) → IsTreeCell grid points cap b → reaches given letter (number lists.cells b) (leaf_number grid points cap lists t) ≡ true → Holds b t.x t.y
+  holds_from_reaches : (letter : Letter) (t : Point) → Contains points t → (b : Square) → IsTreeCell grid points cap b → reaches given letter (number_among lists.cells b) (leaf_number grid points cap lists t) ≡ true → Holds b t.x t.y
   holds_from_reaches U t h b tb e = at_leaf t h b tb e
   holds_from_reaches V t h b tb e = held_under t h b tb e
   holds_from_reaches W t h b tb e = at_leaf t h b tb e
   holds_from_reaches X t h b tb e = held_under t h b tb e
 
-  reaches_from_holds : (letter : Letter) (t : Point) → Contains points t → (b c : Square) → IsPair grid points cap letter b c → Holds b t.x t.y → reaches given letter (number lists.cells b) (leaf_number grid points cap lists t) ≡ true
-  reaches_from_holds U t h b c e held = eq-eqb _ _ (ap (number lists.cells) (sym (only_leaf grid points cap lists.cells positive inside are.cells_are t h b e.0 held)))
+  reaches_from_holds : (letter : Letter) (t : Point) → Contains points t → (b c : Square) → IsPair grid points cap letter b c → Holds b t.x t.y → reaches given letter (number_among lists.cells b) (leaf_number grid points cap lists t) ≡ true
+  reaches_from_holds U t h b c e held = eq-eqb _ _ (ap (number_among lists.cells) (sym (only_leaf grid points cap lists.cells positive inside are.cells_are t h b e.0 held)))
   reaches_from_holds V t h b c e held = under_held t h b e.0 held
-  reaches_from_holds W t h b c e held = eq-eqb _ _ (ap (number lists.cells) (sym (only_leaf grid points cap lists.cells positive inside are.cells_are t h b e.0 held)))
+  reaches_from_holds W t h b c e held = eq-eqb _ _ (ap (number_among lists.cells) (sym (only_leaf grid points cap lists.cells positive inside are.cells_are t h b e.0 held)))
   reaches_from_holds X t h b c e held = under_held t h b e.1 held
 
   -- ---- exactly one accounts for a target and a source
@@ -175,9 +175,9 @@ module _ (grid : ℕ) (points : List Point) (cap P : ℕ) (lists : TreeLists) (p
       let test : Entry → Bool = accounts given (leaf_number grid points cap lists t) (leaf_source grid points cap lists p) in
       let the : Entry = entry lists o.letter o.b o.c in
       count_one test given.entries the entries_differ (has_entry o.letter o.b o.c o.entry)
-      (and_from (reaches given o.letter (number lists.cells o.b) (leaf_number grid points cap lists t)) (under (above lists.cells) (leaf_number grid points cap lists p) (number lists.cells o.c))
+      (and_from (reaches given o.letter (number_among lists.cells o.b) (leaf_number grid points cap lists t)) (under (above lists.cells) (leaf_number grid points cap lists p) (number_among lists.cells o.c))
       (reaches_from_holds o.letter t kt.0 o.b o.c o.entry.pair o.accounts.target_held) (under_held p kp.0 o.c tc o.accounts.source_held))
       (λ y h. All-contains (λ y. test y ≡ true → y ≡ the) given.entries y (All-entries (λ y. test y ≡ true → y ≡ the) (λ letter b c tb tc e passes.
-      let parts = and_parts (reaches given letter (number lists.cells b) (leaf_number grid points cap lists t)) (under (above lists.cells) (leaf_number grid points cap lists p) (number lists.cells c)) passes in
+      let parts = and_parts (reaches given letter (number_among lists.cells b) (leaf_number grid points cap lists t)) (under (above lists.cells) (leaf_number grid points cap lists p) (number_among lists.cells c)) passes in
       let one = o.no_other letter b c e (record { target_held = holds_from_reaches letter t kt.0 b tb parts.0; source_held = held_under p kp.0 c tc parts.1 }) in
       λ i. entry lists (one.0 i) (one.1 i) (one.2 i))) h)

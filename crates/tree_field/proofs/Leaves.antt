@@ -14,7 +14,7 @@ use Rattle.quadtree.proofs.LeafLevel.{cell_of, IsListed, IsLeafLevel, leaf_level
 use Rattle.soundness.specs.Accounts.{under}
 use Rattle.soundness.proofs.Nodes.{strong, under-root, under-parent, under-self}
 use Rattle.tree_field.specs.Field.{leaf_below, leaf_at}
-use Rattle.tree_field.proofs.Numbers.{number, cell_at, above, tree_cell, number_below, cell_of_number, number_of_cell, level_positive, above_root, above_first, cell_above, above_number}
+use Rattle.tree_field.proofs.Numbers.{number_among, cell_at, above, tree_cell, number_below, cell_of_number, number_of_cell, level_positive, above_root, above_first, cell_above, above_number}
 
 -- tests that say the same
 pub same_test : (a b : Bool) → (a ≡ true → b ≡ true) → (b ≡ true → a ≡ true) → a ≡ b
@@ -56,7 +56,7 @@ has_leaf grid points cap p positive given =
 
 module _ (grid : ℕ) (points : List Point) (cap : ℕ) (cells : List Square) (positive : 0 < grid) (inside : AreInGrid grid points) (are : AreExactly (IsTreeCell grid points cap) cells) where
   abbrev pub leaf_number : Point → ℕ
-  leaf_number p = number cells (leaf_at points cap grid (place p))
+  leaf_number p = number_among cells (leaf_at points cap grid (place p))
 
   pub leaf_is : (p : Point) → Contains points p → IsLeaf grid points cap (leaf_at points cap grid (place p))
   leaf_is p h =
@@ -109,24 +109,24 @@ module _ (grid : ℕ) (points : List Point) (cap : ℕ) (cells : List Square) (p
 
   -- a point's cell of a level is above its leaf
   above_leaf : (p : Point) → Contains points p → (j m k : ℕ) → m ≡ j + k → ((l : ℕ) → l ≤ m → IsTreeCell grid points cap (cell_of grid p l))
-      → under (above cells) (number cells (cell_of grid p m)) (number cells (cell_of grid p k)) ≡ true
+      → under (above cells) (number_among cells (cell_of grid p m)) (number_among cells (cell_of grid p k)) ≡ true
   above_leaf p h zero m k e all =
-      ap (λ l. under (above cells) (number cells (cell_of grid p l)) (number cells (cell_of grid p k))) (omega arith)
-      ∙ under-self (above cells) (above_root grid points cap cells positive inside are) (above_first grid points cap cells positive inside are) (number cells (cell_of grid p k))
+      ap (λ l. under (above cells) (number_among cells (cell_of grid p l)) (number_among cells (cell_of grid p k))) (omega arith)
+      ∙ under-self (above cells) (above_root grid points cap cells positive inside are) (above_first grid points cap cells positive inside are) (number_among cells (cell_of grid p k))
   above_leaf p h (suc j) m k e all =
       let root_is = above_root grid points cap cells positive inside are in
       let first = above_first grid points cap cells positive inside are in
       let here = all m (omega arith) in
       let c : Square = cell_of grid p m in
-      let n : ℕ = number cells c in
+      let n : ℕ = number_among cells c in
       let next : m - 1 + 1 ≡ m = omega arith in
       let whole : parent (cell_of grid p (m - 1 + 1)) ≡ cell_of grid p (m - 1) = parent-square_at grid (m - 1) p.x p.y (omega (arith, here.level_in_grid)) in
       let up : parent c ≡ cell_of grid p (m - 1) = rw next at whole in
-      let above_is : above cells n ≡ number cells (cell_of grid p (m - 1)) = above_number grid points cap cells positive inside are c here ∙ ap (number cells) up in
+      let above_is : above cells n ≡ number_among cells (cell_of grid p (m - 1)) = above_number grid points cap cells positive inside are c here ∙ ap (number_among cells) up in
       let ih = above_leaf p h j (m - 1) k (omega arith) (λ l le. all l (omega arith)) in
       elim (cases_lt 0 n) [
-        | inl lo ↦ under-parent (above cells) root_is first n (number cells (cell_of grid p k)) lo ∙ or_right _ _ (ap (λ m. under (above cells) m (number cells (cell_of grid p k))) above_is ∙ ih)
-        | inr le ↦ ap (λ m. under (above cells) m (number cells (cell_of grid p k))) (zero_is n le ∙ sym (ap (above cells) (zero_is n le) ∙ root_is) ∙ above_is) ∙ ih
+        | inl lo ↦ under-parent (above cells) root_is first n (number_among cells (cell_of grid p k)) lo ∙ or_right _ _ (ap (λ m. under (above cells) m (number_among cells (cell_of grid p k))) above_is ∙ ih)
+        | inr le ↦ ap (λ m. under (above cells) m (number_among cells (cell_of grid p k))) (zero_is n le ∙ sym (ap (above cells) (zero_is n le) ∙ root_is) ∙ above_is) ∙ ih
       ]
     where
       zero_is : (n : ℕ) → n ≤ 0 → n ≡ 0
@@ -144,6 +144,6 @@ module _ (grid : ℕ) (points : List Point) (cap : ℕ) (cells : List Square) (p
       let is : c ≡ cell_of grid p c.level = cell_is grid c p here.of_grid given.in_grid (Holds-from_test c p.x p.y e) in
       let le : c.level ≤ l.level = l.leaf_level.no_deeper c.level (subst (IsTreeCell grid points cap) is here) in
       let u = above_leaf p h (l.level - c.level) l.level c.level (omega arith) l.leaf_level.in_tree in
-      ap (λ m. under (above cells) m n) (ap (number cells) l.is_cell)
-      ∙ ap (under (above cells) (number cells (cell_of grid p l.level))) (sym (number_of_cell grid points cap cells positive inside are n lt) ∙ ap (number cells) is)
+      ap (λ m. under (above cells) m n) (ap (number_among cells) l.is_cell)
+      ∙ ap (under (above cells) (number_among cells (cell_of grid p l.level))) (sym (number_of_cell grid points cap cells positive inside are n lt) ∙ ap (number_among cells) is)
       ∙ u)

@@ -13,7 +13,7 @@ use Rattle.quadtree.specs.Tree.{AreInGrid, has_target}
 use Rattle.complex_box.proofs.ZeroBoxes.{zero_left}
 use Rattle.row_recursions.specs.Rows.{converted, shifted_down, multipole_value, local_value}
 use Rattle.soundness.specs.Accounts.{LeafTarget, Accounting, sources_under}
-use Rattle.soundness.specs.Computed.{total_box, total_row, weight_under, weight_of_entry, local_row as given_local_row, converted_rows as given_converted_rows, far_rows as given_far_rows, local_radius as given_local_radius, target_box as given_target_box, multipoles_at, pairs_at as given_pairs_at}
+use Rattle.soundness.specs.Computed.{total_box, total_row, weight_under, weight_of_entry, computed_local_row as given_local_row, converted_rows as given_converted_rows, far_rows as given_far_rows, computed_local_radius as given_local_radius, computed_target_box as given_target_box, multipoles_at, pairs_at as given_pairs_at}
 use Rattle.soundness.specs.Accounts.{entries_of}
 use Rattle.soundness.specs.Squares.{offset, quadrant, sides_between}
 use Rattle.soundness.specs.Steps.{v_rows, x_rows, w_values, u_pairs}

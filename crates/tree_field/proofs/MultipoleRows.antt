@@ -23,8 +23,8 @@ use Rattle.quadtree.proofs.Parents.{cell_of_point, leaf_or_split, IsTreeCell-bel
 use Rattle.cell_name.proofs.Quarters.{IsQuarter, quarters_are, quarters_contain}
 use Rattle.complex_box.proofs.ZeroBoxes.{zero_scaled, zero_gscaled, zero_over, zero_right}
 use Rattle.row_recursions.specs.Rows.{up_round, shifted_up}
-use Rattle.soundness.specs.Accounts.{Accounting, is_child, is_leaf, children}
-use Rattle.soundness.specs.Computed.{total_box, total_row, shifted_rows, leaf_row as given_leaf_row}
+use Rattle.soundness.specs.Accounts.{Accounting, names_parent, is_leaf, children}
+use Rattle.soundness.specs.Computed.{total_box, total_row, shifted_rows, computed_leaf_row as given_leaf_row}
 use Rattle.soundness.specs.Squares.{quadrant}
 use Rattle.tree_field.specs.Lists.{TreeLists, AreTreeLists}
 use Rattle.tree_field.specs.Field.{leaf_row, multipole_above, multipole_row}
@@ -33,7 +33,7 @@ use Rattle.quadtree.proofs.Ascending.{same_list, quarters_ascend}
 use Rattle.exact_math.proofs.Lists.{image_of, Contains-into_map, AllPairs-map, AllPairs-range, Contains-range, range_below, filter_none}
 use Rattle.tree_field.proofs.Members.{found, list_any-member, none_passes}
 use Rattle.quadtree.proofs.Occupants.{occupied_from_source}
-use Rattle.tree_field.proofs.Numbers.{number, cell_at, above, tree_cell, number_below, cell_of_number, number_of_cell, first_is_root, level_positive, cell_above, above_number}
+use Rattle.tree_field.proofs.Numbers.{number_among, cell_at, above, tree_cell, number_below, cell_of_number, number_of_cell, first_is_root, level_positive, cell_above, above_number}
 use Rattle.soundness.proofs.Sums.{total_box-map, total_box-same, total_box-fewer}
 use Rattle.row_recursions.specs.Cells.{moments_in}
 
@@ -126,11 +126,11 @@ module _ (grid : ℕ) (points : List Point) (cap P : ℕ) (lists : TreeLists) (p
       let d : Square = cell_of grid p (suc c.level) in
       let below : IsTreeCell grid points cap d = tree_at_next grid points cap p o.given c.level room (subst (λ s. cap < count_in points s) o.is_cell split) in
       let up : parent d ≡ cell_of grid p c.level = rw add-one at (parent-square_at grid c.level p.x p.y room) in
-      let m : ℕ = number lists.cells d in
+      let m : ℕ = number_among lists.cells d in
       let in_range = number_below grid points cap lists.cells positive inside are.cells_are d below in
-      let e : above lists.cells m ≡ n = above_number grid points cap lists.cells positive inside are.cells_are d below ∙ ap (number lists.cells) (up ∙ sym o.is_cell) ∙ number_of_cell grid points cap lists.cells positive inside are.cells_are n lt in
+      let e : above lists.cells m ≡ n = above_number grid points cap lists.cells positive inside are.cells_are d below ∙ ap (number_among lists.cells) (up ∙ sym o.is_cell) ∙ number_of_cell grid points cap lists.cells positive inside are.cells_are n lt in
       let level : (cell m).level ≡ suc c.level = ap (λ (s : Square). s.level) (cell_of_number grid points cap lists.cells positive inside are.cells_are d below) in
-      let some = list_any-member (is_child given n) (range_with_len 0 (length lists.cells)) m (Contains-range (length lists.cells) m in_range)
+      let some = list_any-member (names_parent given n) (range_with_len 0 (length lists.cells)) m (Contains-range (length lists.cells) m in_range)
       (and_from (nat_lt 0 m) (above lists.cells m == n) (lt-ltb 0 m (not_first m in_range level)) (eq-eqb (above lists.cells m) n e)) in
       ap not some
     where
@@ -153,7 +153,7 @@ module _ (grid : ℕ) (points : List Point) (cap P : ℕ) (lists : TreeLists) (p
     pub positive_number : 0 < d
     pub parent_is : parent (cell d) ≡ cell n
 
-  child_is : (n d : ℕ) → Contains (range_with_len 0 (length lists.cells)) d → is_child given n d ≡ true → IsChildOf n d
+  child_is : (n d : ℕ) → Contains (range_with_len 0 (length lists.cells)) d → names_parent given n d ≡ true → IsChildOf n d
   child_is n d h e =
       let parts = and_parts (nat_lt 0 d) (above lists.cells d == n) e in
       let lo : 0 < d = ltb-true 0 d parts.0 in
@@ -167,7 +167,7 @@ module _ (grid : ℕ) (points : List Point) (cap P : ℕ) (lists : TreeLists) (p
   -- a node with a child is split
   pub split_from_node : (n : ℕ) → n < length lists.cells → is_leaf given n ≡ false → (cap < count_in points (cell n)) × ((cell n).level < grid)
   split_from_node n lt e =
-      let f = found (is_child given n) (range_with_len 0 (length lists.cells)) (not-false _ e) in
+      let f = found (names_parent given n) (range_with_len 0 (length lists.cells)) (not-false _ e) in
       let d : ℕ = f.member in
       let h = child_is n d f.listed f.passes in
       let here = tree_cell grid points cap lists.cells positive inside are.cells_are d h.in_range in
@@ -192,7 +192,7 @@ module _ (grid : ℕ) (points : List Point) (cap P : ℕ) (lists : TreeLists) (p
   -- the cells of the children are the quarters that have a point
   children_are : (n : ℕ) → n < length lists.cells → (cap < count_in points (cell n)) → (cell n).level < grid → map cell (children given n) ≡ filter is_occupied (quarters (cell n))
   children_are n lt split room = same_list (map cell (children given n)) (filter is_occupied (quarters (cell n)))
-      (AllPairs-map IsBefore cell (children given n) (AllPairs-filter (λ a b. IsBefore (cell a) (cell b)) (is_child given n) (range_with_len 0 (length lists.cells))
+      (AllPairs-map IsBefore cell (children given n) (AllPairs-filter (λ a b. IsBefore (cell a) (cell b)) (names_parent given n) (range_with_len 0 (length lists.cells))
       (λ i j d l in_range. let r = AllPairs-range (length lists.cells) i j d l in_range in are.cells_are.ascending _ _ no_square r.0 r.1)))
       (AllPairs-filter IsBefore is_occupied (quarters (cell n)) (quarters_ascend (cell n)))
       down
@@ -202,7 +202,7 @@ module _ (grid : ℕ) (points : List Point) (cap P : ℕ) (lists : TreeLists) (p
       down q h =
           let i = image_of cell (children given n) q h in
           let d : ℕ = i.source in
-          let kept = Contains-filter (is_child given n) (range_with_len 0 (length lists.cells)) d i.listed in
+          let kept = Contains-filter (names_parent given n) (range_with_len 0 (length lists.cells)) d i.listed in
           let c = child_is n d kept.0 kept.1 in
           let here = tree_cell grid points cap lists.cells positive inside are.cells_are d c.in_range in
           let lo = level_positive grid points cap lists.cells positive inside are.cells_are d c.positive_number c.in_range in
@@ -215,12 +215,12 @@ module _ (grid : ℕ) (points : List Point) (cap P : ℕ) (lists : TreeLists) (p
           let quarter = All-contains (IsQuarter (cell n)) (quarters (cell n)) q (quarters_are (cell n)) kept.0 in
           let here = tree_cell grid points cap lists.cells positive inside are.cells_are n lt in
           let in_tree : IsTreeCell grid points cap q = IsTreeCell-from_below grid points cap q (quarter.of_grid ∙ here.of_grid) (omega (arith, quarter.level)) (omega (arith, quarter.level)) (ltb-true 0 (count_in points q) kept.1) (subst (λ v. cap < count_in points v) (sym quarter.parent_is) split) in
-          let m : ℕ = number lists.cells q in
+          let m : ℕ = number_among lists.cells q in
           let in_range = number_below grid points cap lists.cells positive inside are.cells_are q in_tree in
           let is = cell_of_number grid points cap lists.cells positive inside are.cells_are q in_tree in
-          let e : above lists.cells m ≡ n = above_number grid points cap lists.cells positive inside are.cells_are q in_tree ∙ ap (number lists.cells) quarter.parent_is ∙ number_of_cell grid points cap lists.cells positive inside are.cells_are n lt in
+          let e : above lists.cells m ≡ n = above_number grid points cap lists.cells positive inside are.cells_are q in_tree ∙ ap (number_among lists.cells) quarter.parent_is ∙ number_of_cell grid points cap lists.cells positive inside are.cells_are n lt in
           subst (Contains (map cell (children given n))) is
-          (Contains-into_map cell (children given n) m (Contains-into_filter (is_child given n) (range_with_len 0 (length lists.cells)) m (Contains-range (length lists.cells) m in_range)
+          (Contains-into_map cell (children given n) m (Contains-into_filter (names_parent given n) (range_with_len 0 (length lists.cells)) m (Contains-range (length lists.cells) m in_range)
           (and_from (nat_lt 0 m) (above lists.cells m == n) (lt-ltb 0 m (not_first m in_range (ap (λ (s : Square). s.level) is) quarter.level)) (eq-eqb (above lists.cells m) n e))))
         where
           not_first : (m : ℕ) → m < length lists.cells → (cell m).level ≡ q.level → q.level ≡ (cell n).level + 1 → 0 < m

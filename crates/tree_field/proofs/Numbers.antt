@@ -8,7 +8,7 @@ use Rattle.cell_name.specs.Square.{Square, root, no_square, parent}
 use Rattle.cell_name.proofs.Cells.{same_square}
 use Rattle.cell_name.proofs.Order.{IsBefore-irrefl}
 use Rattle.quadtree.specs.Tree.{AreInGrid, IsTreeCell, AreExactly}
-pub use Rattle.tree_field.specs.Accounting.{same_cell, number, cell_at, above}
+pub use Rattle.tree_field.specs.Accounting.{same_cell, number_among, cell_at, above}
 use Rattle.quadtree.proofs.Parents.{IsTreeCell-parent}
 
 pub same_from_test : (c d : Square) → same_cell c d ≡ true → c ≡ d
@@ -26,12 +26,12 @@ pub record IsNumber (cells : List Square) (c : Square) (n : ℕ) : Type 0 where
   pub in_range : n < length cells
   pub is : (d : Square) → slice_index_or cells n d ≡ c
 
-pub number_is : (cells : List Square) (c : Square) → Contains cells c → IsNumber cells c (number cells c)
-unfolding number
+pub number_is : (cells : List Square) (c : Square) → Contains cells c → IsNumber cells c (number_among cells c)
+unfolding number_among
 number_is [] c h = absurd (omega (arith, h.1))
 number_is (d ∷ ds) c h = step (same_cell d c) refl h (number_is ds c)
   where
-    step : (b : Bool) → same_cell d c ≡ b → Contains (d ∷ ds) c → (Contains ds c → IsNumber ds c (number ds c)) → IsNumber (d ∷ ds) c (cond b 0 (suc (number ds c)))
+    step : (b : Bool) → same_cell d c ≡ b → Contains (d ∷ ds) c → (Contains ds c → IsNumber ds c (number_among ds c)) → IsNumber (d ∷ ds) c (cond b 0 (suc (number_among ds c)))
     step true e h rest = record { in_range = omega arith; is = λ z. same_from_test d c e }
     step false e (zero, lt, f) rest = absurd (false≢true (sym e ∙ ap (λ z. same_cell z c) f ∙ test_itself c))
     step false e (suc k, lt, f) rest = let r = rest (k, omega arith, f) in record { in_range = omega (arith, r.in_range); is = r.is }
@@ -40,10 +40,10 @@ module _ (grid : ℕ) (points : List Point) (cap : ℕ) (cells : List Square) (p
   pub tree_cell : (n : ℕ) → n < length cells → IsTreeCell grid points cap (cell_at cells n)
   tree_cell n lt = are.each n no_square lt
 
-  pub number_below : (c : Square) → IsTreeCell grid points cap c → number cells c < length cells
+  pub number_below : (c : Square) → IsTreeCell grid points cap c → number_among cells c < length cells
   number_below c h = (number_is cells c (are.whole c h)).in_range
 
-  pub cell_of_number : (c : Square) → IsTreeCell grid points cap c → cell_at cells (number cells c) ≡ c
+  pub cell_of_number : (c : Square) → IsTreeCell grid points cap c → cell_at cells (number_among cells c) ≡ c
   cell_of_number c h = (number_is cells c (are.whole c h)).is no_square
 
   -- a cell has one number
@@ -57,15 +57,15 @@ module _ (grid : ℕ) (points : List Point) (cap : ℕ) (cells : List Square) (p
         ]
       ]
 
-  pub number_of_cell : (n : ℕ) → n < length cells → number cells (cell_at cells n) ≡ n
+  pub number_of_cell : (n : ℕ) → n < length cells → number_among cells (cell_at cells n) ≡ n
   number_of_cell n lt = same_number _ n (number_below _ (tree_cell n lt)) lt (cell_of_number _ (tree_cell n lt))
 
   -- a cell stands after its parent
-  parent_first : (n : ℕ) → n < length cells → 0 < (cell_at cells n).level → number cells (parent (cell_at cells n)) < n
+  parent_first : (n : ℕ) → n < length cells → 0 < (cell_at cells n).level → number_among cells (parent (cell_at cells n)) < n
   parent_first n lt lo =
       let c : Square = cell_at cells n in
       let up = IsTreeCell-parent grid points cap c positive inside (tree_cell n lt) lo in
-      let m : ℕ = number cells (parent c) in
+      let m : ℕ = number_among cells (parent c) in
       let level : (cell_at cells m).level ≡ c.level - 1 = ap (λ (s : Square). s.level) (cell_of_number (parent c) up) in
       elim (cases_lt m n) [
         | inl before ↦ before
@@ -95,16 +95,16 @@ module _ (grid : ℕ) (points : List Point) (cap : ℕ) (cells : List Square) (p
         | inr le ↦ absurd (let e : n ≡ 0 = same_number n 0 lt (omega arith) (root_from_level n lt le ∙ sym (first_is_root (omega arith))) in omega arith)
       ]
 
-  above-inside : (n : ℕ) → n < length cells → above cells n ≡ number cells (parent (cell_at cells n))
-  above-inside n lt = ap (λ (b : Bool). cond b (number cells (parent (cell_at cells n))) 0) (lt-ltb n (length cells) lt)
+  above-inside : (n : ℕ) → n < length cells → above cells n ≡ number_among cells (parent (cell_at cells n))
+  above-inside n lt = ap (λ (b : Bool). cond b (number_among cells (parent (cell_at cells n))) 0) (lt-ltb n (length cells) lt)
 
   above-outside : (n : ℕ) → length cells ≤ n → above cells n ≡ 0
-  above-outside n le = ap (λ (b : Bool). cond b (number cells (parent (cell_at cells n))) 0) (le-ltb n (length cells) le)
+  above-outside n le = ap (λ (b : Bool). cond b (number_among cells (parent (cell_at cells n))) 0) (le-ltb n (length cells) le)
 
   pub above_root : above cells 0 ≡ 0
   above_root =
       elim (cases_lt 0 (length cells)) [
-        | inl lt ↦ above-inside 0 lt ∙ ap (λ c. number cells (parent c)) (first_is_root lt) ∙ ap (number cells) (sym (first_is_root lt)) ∙ number_of_cell 0 lt
+        | inl lt ↦ above-inside 0 lt ∙ ap (λ c. number_among cells (parent c)) (first_is_root lt) ∙ ap (number_among cells) (sym (first_is_root lt)) ∙ number_of_cell 0 lt
         | inr le ↦ above-outside 0 le
       ]
 
@@ -121,5 +121,5 @@ module _ (grid : ℕ) (points : List Point) (cap : ℕ) (cells : List Square) (p
       ap (cell_at cells) (above-inside n lt) ∙ cell_of_number _ (IsTreeCell-parent grid points cap (cell_at cells n) positive inside (tree_cell n lt) (level_positive n lo lt))
 
   -- the number of a cell that has another as its parent
-  pub above_number : (c : Square) → IsTreeCell grid points cap c → above cells (number cells c) ≡ number cells (parent c)
-  above_number c h = above-inside _ (number_below c h) ∙ ap (λ d. number cells (parent d)) (cell_of_number c h)
+  pub above_number : (c : Square) → IsTreeCell grid points cap c → above cells (number_among cells c) ≡ number_among cells (parent c)
+  above_number c h = above-inside _ (number_below c h) ∙ ap (λ d. number_among cells (parent d)) (cell_of_number c h)

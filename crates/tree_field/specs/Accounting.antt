@@ -20,9 +20,9 @@ abbrev pub same_cell : Square → Square → Bool
 same_cell c d = (c.grid == d.grid) && (c.level == d.level) && (c.i == d.i) && (c.j == d.j)
 
 -- exactly where a cell stands in a list; the list's length where it doesn't
-unfoldable pub number : List Square → Square → ℕ
-number [] c = 0
-number (d ∷ ds) c = cond (same_cell d c) 0 (suc (number ds c))
+unfoldable pub number_among : List Square → Square → ℕ
+number_among [] c = 0
+number_among (d ∷ ds) c = cond (same_cell d c) 0 (suc (number_among ds c))
 
 -- the cell of a number
 abbrev pub cell_at : List Square → ℕ → Square
@@ -30,7 +30,7 @@ cell_at cells n = slice_index_or cells n no_square
 
 -- the number of the parent
 abbrev pub above : List Square → ℕ → ℕ
-above cells n = cond (nat_lt n (length cells)) (number cells (parent (cell_at cells n))) 0
+above cells n = cond (nat_lt n (length cells)) (number_among cells (parent (cell_at cells n))) 0
 
 -- the points that are sources
 abbrev pub sources : List Point → List Point
@@ -39,7 +39,7 @@ sources points = filter (λ p. is_source p.kind) points
 -- ---- entries
 module _ (lists : TreeLists) where
   abbrev pub entry : Letter → Square → Square → Entry
-  entry letter b c = record { letter = letter; b = number lists.cells b; c = number lists.cells c }
+  entry letter b c = record { letter = letter; b = number_among lists.cells b; c = number_among lists.cells c }
 
   abbrev pub entries_from : Letter → Square → List Entry
   entries_from letter b = map (entry letter b) (lists.entries letter b)
@@ -52,7 +52,7 @@ module _ (grid : ℕ) (points : List Point) (cap : ℕ) where
   -- ---- sources in their leaves
   module _ (lists : TreeLists) where
     abbrev pub leaf_number : Point → ℕ
-    leaf_number p = number lists.cells (leaf_at points cap grid (place p))
+    leaf_number p = number_among lists.cells (leaf_at points cap grid (place p))
 
     abbrev pub leaf_source : Point → LeafSource
     leaf_source p = record { point = p; leaf = leaf_number p }

@@ -35,11 +35,11 @@ module _ (points : List Point) where
     abbrev pub weight_in : Square → ℕ
     weight_in c = weight_of (λ p. p) P (sources_in c)
 
-    -- what an entry of two cells of the side s can lose
+    -- what an entry of two cells of the side s can lose. No public contract cites it.
     abbrev pub pair_loss_in : ℕ → Square → ℕ
     pair_loss_in s c = pair_loss P (weight_in c) s
 
-    -- and one of a cell of the side s and of points
+    -- and one of a cell of the side s and of points. No public contract cites it.
     abbrev pub single_loss_in : ℕ → Square → ℕ
     single_loss_in s c = single_loss P (weight_in c) s
 

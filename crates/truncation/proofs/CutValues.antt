@@ -13,7 +13,7 @@ use Rattle.exact_math.proofs.Fractions.{complex_value, complex_value-split, Stan
 use Rattle.exact_math.proofs.WholeSizes.{unsigned_abs-within}
 use Rattle.exact_math.proofs.KernelIdentity.{Stands-kernel, Stands-kernel_slope}
 use Rattle.exact_math.proofs.DirectTerms.{norm_positive, Stands-reciprocal, Stands-pole, Stands-dipole}
-use Rattle.truncation.specs.CutTerms.{half, pair_pole_cut, pair_dipole_cut, multipole_pole_cut, multipole_dipole_cut, local_pole_cut, local_dipole_cut}
+use Rattle.truncation.specs.CutTerms.{halved, pair_pole_cut, pair_dipole_cut, multipole_pole_cut, multipole_dipole_cut, local_pole_cut, local_dipole_cut}
 use Rattle.exact_math.specs.Within.{GaussianWithin, GaussianBeyond}
 use Rattle.truncation.specs.Places.{pair_distance}
 use Rattle.truncation.specs.Truncation.{halved_pole_term, halved_dipole_term}
@@ -61,16 +61,16 @@ Stands-invert {x} {z} h z>0 =
 
 -- ---- offsets
 -- g/2
-abbrev pub halved : Gaussian → ℂ
-halved g = complex_value (half g)
+abbrev pub halved_value : Gaussian → ℂ
+halved_value g = complex_value (halved g)
 
-Stands-half : (g : Gaussian) → Stands (half g) (halved g)
-Stands-half g = record { positive = omega (arith, ints); is = refl }
+Stands-halved : (g : Gaussian) → Stands (halved g) (halved_value g)
+Stands-halved g = record { positive = omega (arith, ints); is = refl }
 
 two_inverse : of_int (pos 2) *ℚ inverse (of_int (pos 2)) ≡ of_int (pos 1)
 two_inverse = inverse_right _ (int-< _ _ (omega (arith, ints)))
 
-double_halved : (g : Gaussian) → double (halved g) ≡ value g
+double_halved : (g : Gaussian) → double (halved_value g) ≡ value g
 double_halved g = parts-add _ _ ∙ same_pair rational_ring _ _ (one (of_int g.re) (inverse (of_int (pos 2))) two_inverse) (one (of_int g.im) (inverse (of_int (pos 2))) two_inverse)
   where
     one : (a i : ℚ) → of_int (pos 2) *ℚ i ≡ of_int (pos 1) → a *ℚ i +ℚ a *ℚ i ≡ a
@@ -80,7 +80,7 @@ int_le : (m n : ℕ) → m ≤ n → of_int (pos m) ≤ℚ of_int (pos n)
 int_le m n h = (of_int-≤ _ _).1 (omega (arith, ints))
 
 -- an offset within s
-pub offset_parts : (g : Gaussian) (s : ℕ) → GaussianWithin s g → PartsAtMost (double (halved g)) (of_int (pos s))
+pub offset_parts : (g : Gaussian) (s : ℕ) → GaussianWithin s g → PartsAtMost (double (halved_value g)) (of_int (pos s))
 offset_parts g s h = subst (λ z. PartsAtMost z (of_int (pos s))) (sym (double_halved g)) (record {
   re = subst (λ q. q ≤ℚ of_int (pos s)) (sym (absolute_int g.re)) (int_le _ _ (unsigned_abs-within s g.re h.re));
   im = subst (λ q. q ≤ℚ of_int (pos s)) (sym (absolute_int g.im)) (int_le _ _ (unsigned_abs-within s g.im h.im));
@@ -105,14 +105,14 @@ pub centre_parts : (s : ℕ) (e : Gaussian) → GaussianBeyond 2 e → SomePartA
 centre_parts s e h = subst (λ m. SomePartAtLeast (value (scale_gaussian s e)) m) (of_int-mul (pos 2) (pos s)) (value_parts (scale_gaussian s e) (2 * s) (times_side_parts s e h))
 
 -- a place beyond 3 sides
-pub far_parts : (s : ℕ) (z : Gaussian) → GaussianBeyond (3 * s) z → SomePartAtLeast (double (halved z)) (of_int (pos 3) *ℚ of_int (pos s))
+pub far_parts : (s : ℕ) (z : Gaussian) → GaussianBeyond (3 * s) z → SomePartAtLeast (double (halved_value z)) (of_int (pos 3) *ℚ of_int (pos s))
 far_parts s z h = subst₂ SomePartAtLeast (sym (double_halved z)) (of_int-mul (pos 3) (pos s)) (value_parts z (3 * s) h)
 
 -- ---- the doubled distances
-pub pair_distance_is : (s : ℕ) (e o q : Gaussian) → value (pair_distance s e o q) ≡ double (value (scale_gaussian s e) +ℂ halved q -ℂ halved o)
+pub pair_distance_is : (s : ℕ) (e o q : Gaussian) → value (pair_distance s e o q) ≡ double (value (scale_gaussian s e) +ℂ halved_value q -ℂ halved_value o)
 pair_distance_is s e o q =
     parts_is ∙ ap₂ (λ a b. double (value (scale_gaussian s e)) +ℂ a -ℂ b) (sym (double_halved q)) (sym (double_halved o))
-    ∙ ring3 complex_rationals (value (scale_gaussian s e)) (halved q) (halved o) (λ d v u. search quotes depth 12) tt
+    ∙ ring3 complex_rationals (value (scale_gaussian s e)) (halved_value q) (halved_value o) (λ d v u. search quotes depth 12) tt
   where
     one : (d q o : ℤ) → of_int (d +ℤ d +ℤ q -ℤ o) ≡ of_int d +ℚ of_int d +ℚ of_int q +ℚ neg_ℚ (of_int o)
     one d q o = of_int-add _ _ ∙ ap₂ ◌+ℚ◌ (of_int-add _ _ ∙ ap (λ z. z +ℚ of_int q) (of_int-add d d)) (of_int-neg o)
@@ -123,10 +123,10 @@ pair_distance_is s e o q =
         ∙ sym (ap₂ ◌+ℂ◌ (ap (λ z. z +ℂ value q) (parts-add (value (scale_gaussian s e)) (value (scale_gaussian s e))) ∙ parts-add _ (value q)) (parts-neg (value o)) ∙ parts-add _ _)
 
 -- twice w - u
-pub single_distance_is : (z o : Gaussian) → value (sub_gaussian z o) ≡ double (halved z -ℂ halved o)
+pub single_distance_is : (z o : Gaussian) → value (sub_gaussian z o) ≡ double (halved_value z -ℂ halved_value o)
 single_distance_is z o =
     value-sub z o ∙ ap₂ (λ a b. a -ℂ b) (sym (double_halved z)) (sym (double_halved o))
-    ∙ ring2 complex_rationals (halved z) (halved o) (λ w u. search quotes depth 12) tt
+    ∙ ring2 complex_rationals (halved_value z) (halved_value o) (λ w u. search quotes depth 12) tt
 
 value-twice : (g : Gaussian) → value (twice g) ≡ double (value g)
 value-twice g = same_pair rational_ring _ _ (of_int-add g.re g.re) (of_int-add g.im g.im) ∙ sym (parts-add _ _)
@@ -170,42 +170,42 @@ module _ (P s : ℕ) (e o q : Gaussian) (d>0 : of_int (pos 0) <ℚ norm (value (
   stands_d : Stands (reciprocal (scale_gaussian s e)) (inverse_ℂ d)
   stands_d = Stands-reciprocal (scale_gaussian s e) (norm_positive (scale_gaussian s e) d>0)
 
-  stands_x : Stands (half o *ᶜ reciprocal (scale_gaussian s e)) (halved o *ℂ inverse_ℂ d)
-  stands_x = Stands-mul (Stands-half o) stands_d
+  stands_x : Stands (halved o *ᶜ reciprocal (scale_gaussian s e)) (halved_value o *ℂ inverse_ℂ d)
+  stands_x = Stands-mul (Stands-halved o) stands_d
 
-  stands_y : Stands (neg_complex (half q *ᶜ reciprocal (scale_gaussian s e))) (neg_ℂ (halved q *ℂ inverse_ℂ d))
-  stands_y = Stands-neg (Stands-mul (Stands-half q) stands_d)
+  stands_y : Stands (neg_complex (halved q *ᶜ reciprocal (scale_gaussian s e))) (neg_ℂ (halved_value q *ℂ inverse_ℂ d))
+  stands_y = Stands-neg (Stands-mul (Stands-halved q) stands_d)
 
   -- (a/d) T(u/d, -v/d)
   pub Stands-pair_pole_cut : (a : Gaussian) → Stands (pair_pole_cut P s e o q a)
-      (value a *ℂ inverse_ℂ (value (scale_gaussian s e)) *ℂ kernel_sum complex_rationals (halved o *ℂ inverse_ℂ (value (scale_gaussian s e))) (neg_ℂ (halved q *ℂ inverse_ℂ (value (scale_gaussian s e)))) P P)
+      (value a *ℂ inverse_ℂ (value (scale_gaussian s e)) *ℂ kernel_sum complex_rationals (halved_value o *ℂ inverse_ℂ (value (scale_gaussian s e))) (neg_ℂ (halved_value q *ℂ inverse_ℂ (value (scale_gaussian s e)))) P P)
   Stands-pair_pole_cut a = Stands-mul (Stands-mul (Stands-whole a) stands_d) (Stands-kernel stands_x stands_y P)
 
   -- (b/d^2) T'(u/d, -v/d)
   pub Stands-pair_dipole_cut : (b : Gaussian) → Stands (pair_dipole_cut P s e o q b)
-      (value b *ℂ (inverse_ℂ (value (scale_gaussian s e)) *ℂ inverse_ℂ (value (scale_gaussian s e))) *ℂ slope_sum complex_rationals (halved o *ℂ inverse_ℂ (value (scale_gaussian s e))) (neg_ℂ (halved q *ℂ inverse_ℂ (value (scale_gaussian s e)))) P P)
+      (value b *ℂ (inverse_ℂ (value (scale_gaussian s e)) *ℂ inverse_ℂ (value (scale_gaussian s e))) *ℂ slope_sum complex_rationals (halved_value o *ℂ inverse_ℂ (value (scale_gaussian s e))) (neg_ℂ (halved_value q *ℂ inverse_ℂ (value (scale_gaussian s e)))) P P)
   Stands-pair_dipole_cut b = Stands-mul (Stands-mul (Stands-whole b) (Stands-mul stands_d stands_d)) (Stands-kernel_slope stands_x stands_y P)
 
-module _ (P : ℕ) (z o : Gaussian) (z>0 : of_int (pos 0) <ℚ norm (halved z)) where
-  stands_w : Stands (invert (half z)) (inverse_ℂ (halved z))
-  stands_w = Stands-invert (Stands-half z) z>0
+module _ (P : ℕ) (z o : Gaussian) (z>0 : of_int (pos 0) <ℚ norm (halved_value z)) where
+  stands_w : Stands (invert (halved z)) (inverse_ℂ (halved_value z))
+  stands_w = Stands-invert (Stands-halved z) z>0
 
   -- a times the sum of u^k / w^(k + 1)
   pub Stands-multipole_pole_cut : (a : Gaussian) → Stands (multipole_pole_cut P z o a)
-      (value a *ℂ sum_below complex_rationals P (λ k. pow complex_rationals (halved o) k *ℂ pow complex_rationals (inverse_ℂ (halved z)) (suc k)))
-  Stands-multipole_pole_cut a = Stands-mul (Stands-whole a) (Stands-sum P (λ k. Stands-mul (Stands-pow (Stands-half o) k) (Stands-pow stands_w (suc k))))
+      (value a *ℂ sum_below complex_rationals P (λ k. pow complex_rationals (halved_value o) k *ℂ pow complex_rationals (inverse_ℂ (halved_value z)) (suc k)))
+  Stands-multipole_pole_cut a = Stands-mul (Stands-whole a) (Stands-sum P (λ k. Stands-mul (Stands-pow (Stands-halved o) k) (Stands-pow stands_w (suc k))))
 
   -- b times the sum of k u^(k - 1) / w^(k + 1)
   pub Stands-multipole_dipole_cut : (b : Gaussian) → Stands (multipole_dipole_cut P z o b)
-      (value b *ℂ sum_below complex_rationals P (λ k. pow_slope complex_rationals (halved o) k *ℂ pow complex_rationals (inverse_ℂ (halved z)) (suc k)))
-  Stands-multipole_dipole_cut b = Stands-mul (Stands-whole b) (Stands-sum P (λ k. Stands-mul (Stands-slope (Stands-half o) k) (Stands-pow stands_w (suc k))))
+      (value b *ℂ sum_below complex_rationals P (λ k. pow_slope complex_rationals (halved_value o) k *ℂ pow complex_rationals (inverse_ℂ (halved_value z)) (suc k)))
+  Stands-multipole_dipole_cut b = Stands-mul (Stands-whole b) (Stands-sum P (λ k. Stands-mul (Stands-slope (Stands-halved o) k) (Stands-pow stands_w (suc k))))
 
   -- -a times the sum of v^l / zeta^(l + 1)
   pub Stands-local_pole_cut : (a : Gaussian) → Stands (local_pole_cut P z o a)
-      (neg_ℂ (value a) *ℂ sum_below complex_rationals P (λ l. pow complex_rationals (halved o) l *ℂ pow complex_rationals (inverse_ℂ (halved z)) (suc l)))
-  Stands-local_pole_cut a = Stands-mul (Stands-neg (Stands-whole a)) (Stands-sum P (λ l. Stands-mul (Stands-pow (Stands-half o) l) (Stands-pow stands_w (suc l))))
+      (neg_ℂ (value a) *ℂ sum_below complex_rationals P (λ l. pow complex_rationals (halved_value o) l *ℂ pow complex_rationals (inverse_ℂ (halved_value z)) (suc l)))
+  Stands-local_pole_cut a = Stands-mul (Stands-neg (Stands-whole a)) (Stands-sum P (λ l. Stands-mul (Stands-pow (Stands-halved o) l) (Stands-pow stands_w (suc l))))
 
   -- b times the sum of (l + 1) v^l / zeta^(l + 2)
   pub Stands-local_dipole_cut : (b : Gaussian) → Stands (local_dipole_cut P z o b)
-      (value b *ℂ sum_below complex_rationals P (λ l. of_int_ℂ (pos (suc l)) *ℂ pow complex_rationals (halved o) l *ℂ pow complex_rationals (inverse_ℂ (halved z)) (suc (suc l))))
-  Stands-local_dipole_cut b = Stands-mul (Stands-whole b) (Stands-sum P (λ l. Stands-mul (Stands-mul (Stands-count (suc l)) (Stands-pow (Stands-half o) l)) (Stands-pow stands_w (suc (suc l)))))
+      (value b *ℂ sum_below complex_rationals P (λ l. of_int_ℂ (pos (suc l)) *ℂ pow complex_rationals (halved_value o) l *ℂ pow complex_rationals (inverse_ℂ (halved_value z)) (suc (suc l))))
+  Stands-local_dipole_cut b = Stands-mul (Stands-whole b) (Stands-sum P (λ l. Stands-mul (Stands-mul (Stands-count (suc l)) (Stands-pow (Stands-halved o) l)) (Stands-pow stands_w (suc (suc l)))))

@@ -21,7 +21,7 @@ use Rattle.quadtree.proofs.Parents.{IsTreeCell-parent, IsTreeCell-below}
 use Rattle.cell_name.proofs.Quarters.{IsQuarter, quarters_are, quarters_contain, quarters_differ}
 use Rattle.quadtree.proofs.Ascending.{ascending_differ}
 use Rattle.exact_math.proofs.Lists.{AllPairs-range, Contains-range, range_below}
-use Rattle.tree_field.proofs.Numbers.{number, number_below, cell_of_number, number_of_cell}
+use Rattle.tree_field.proofs.Numbers.{number_among, number_below, cell_of_number, number_of_cell}
 use Rattle.upward_rows.specs.Shifted.{is_shifted}
 use Rattle.upward_rows.proofs.Trees.{inner_is, quarter_listed}
 
@@ -76,13 +76,13 @@ module _ (tree : TreeModel) (points : List Point) (capacity : ℕ) (is : IsTreeO
   range_differs : AllPairs (λ a b. a ≢ b) (range_with_len 0 (size tree))
   range_differs i j d lt in_range e = let h = AllPairs-range (size tree) i j d lt in_range in omega (arith, h.0, e)
 
-  parent_number : (n : ℕ) (q : Square) → Contains (range_with_len 0 (size tree)) n → Contains (shifted_quarters points tree n) q → number (squares tree) (parent q) ≡ n
+  parent_number : (n : ℕ) (q : Square) → Contains (range_with_len 0 (size tree)) n → Contains (shifted_quarters points tree n) q → number_among (squares tree) (parent q) ≡ n
   parent_number n q listed h =
-      ap (number (squares tree)) (shifted_is points tree n q h).quarter.parent_is
+      ap (number_among (squares tree)) (shifted_is points tree n q h).quarter.parent_is
       ∙ number_of_cell tree.grid points capacity (squares tree) some inside is.cells_are n (in_squares n (range_below (size tree) n listed))
 
   shifted_differ : AllPairs (λ a b. a ≢ b) (flat_map (shifted_quarters points tree) (range_with_len 0 (size tree)))
-  shifted_differ = different-flat_map (shifted_quarters points tree) (λ q. number (squares tree) (parent q)) (range_with_len 0 (size tree)) range_differs
+  shifted_differ = different-flat_map (shifted_quarters points tree) (λ q. number_among (squares tree) (parent q)) (range_with_len 0 (size tree)) range_differs
       (λ n h. kept_differ (node_of tree n).is_leaf (has_source points) (quarters (square_of tree n)) (quarters_differ (square_of tree n)))
       parent_number
 
@@ -101,7 +101,7 @@ module _ (tree : TreeModel) (points : List Point) (capacity : ℕ) (is : IsTreeO
       let lo : 0 < q.level = ltb-true 0 q.level parts.0 in
       let here : IsTreeCell tree.grid points capacity q = All-contains (IsTreeCell tree.grid points capacity) (squares tree) q is.cells_are.each kept.0 in
       let above = IsTreeCell-parent tree.grid points capacity q some inside here lo in
-      let n : ℕ = number (squares tree) (parent q) in
+      let n : ℕ = number_among (squares tree) (parent q) in
       let lt : n < size tree = omega (arith, number_below tree.grid points capacity (squares tree) some inside is.cells_are (parent q) above, length-map tree.cells square) in
       let e : square_of tree n ≡ parent q = cell_of_number tree.grid points capacity (squares tree) some inside is.cells_are (parent q) above in
       let split = (IsTreeCell-below tree.grid points capacity q lo here.level_in_grid here).1 in

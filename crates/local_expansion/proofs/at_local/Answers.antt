@@ -2,7 +2,7 @@ use Rattle.std.proofs.Common.{◌∙◌, ap₂, ◌*◌, ◌^◌, subst, subst�
 use Rattle.exact_math.specs.Ends.{BoxEndsContain, BoxEndsWithin}
 use Rattle.exact_math.specs.Gaussian.{gaussian}
 use Rattle.exact_math.specs.Within.{GaussianWithin}
-use Rattle.row_recursions.specs.Cells.{side_of, centre_of, offset_from}
+use Rattle.row_recursions.specs.Cells.{side_of, doubled_centre_of, offset_from}
 use Rattle.row_recursions.specs.Rows.{row_of, local_value}
 use Rattle.row_recursions.proofs.FieldLaws.{local_values}
 use Rattle.row_recursions.proofs.Points.{held_in_grid, side_positive, offset_within}
@@ -31,7 +31,7 @@ returns-clause-ends g c =
 
 pub returns-clause-contains : goal.returns-clause-contains
 returns-clause-contains g c = λ field h. subst (λ b. BoxEndsContain (pos (2 ^ 40)) b (field (gaussian c.args.x c.args.y))) (sym (returns-clause-ends g c))
-    (local_values g.row.P (side_of c.args.cell) (centre_of c.args.cell) (gaussian c.args.x c.args.y) field (row_of c.args.row.cells.now) (side_positive c.args.cell) h)
+    (local_values g.row.P (side_of c.args.cell) (doubled_centre_of c.args.cell) (gaussian c.args.x c.args.y) field (row_of c.args.row.cells.now) (side_positive c.args.cell) h)
 
 pub returns-clause-size : goal.returns-clause-size
 returns-clause-size g c = λ n h. subst (BoxEndsWithin (g.row.P * n)) (sym (returns-clause-ends g c))

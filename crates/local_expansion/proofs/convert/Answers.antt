@@ -13,10 +13,10 @@ use Rattle.local_expansion.proofs.convert.Goals as goal
 pub coefficient-requires : goal.coefficient-requires
 coefficient-requires g c =
     let few = order_bounds g.row.P c.requires.order in
-    (lit< tt, (c.column.ensures.whole, (omega (arith, few), (column_within g.row.P (number c.args.e) (row_of c.args.row.cells.now) c.requires.order c.requires.distance c.loop-l.l c.column.result.now (omega arith) c.column.ensures, (c.requires.row, search rules)))))
+    (lit< tt, (c.column.ensures.whole, (omega (arith, few), (column_within g.row.P (number c.args.e) (row_of c.args.row.cells.now) c.requires.order c.requires.distance c.loop-l.l c.column.result.now (omega arith) c.column.ensures, (c.requires.size, search rules)))))
 
 pub add-requires : goal.add-requires
-add-requires g c = sum_fits g.row.P (number c.args.e) (row_of c.args.row.cells.now) c.requires.order c.requires.distance (row_of c.args.into.now) c.loop-l.l _ _ (omega arith) c.requires.row c.requires.size
+add-requires g c = sum_fits g.row.P (number c.args.e) (row_of c.args.row.cells.now) c.requires.order c.requires.distance (row_of c.args.into.now) c.loop-l.l _ _ (omega arith) c.requires.size c.requires.sum
     (row_read c.loop-l.into c.loop-l.l _ (omega (arith, c.loop-l.invariant.len)) c.index-into-l.is ∙ c.loop-l.invariant.written.above c.loop-l.l (omega arith))
     (c.coefficient.ensures ∙ by_kernel g.row.P (number c.args.e) c.loop-l.l (row_of c.column.result.now) (row_of c.args.row.cells.now) (λ k h. c.column.ensures.entries k zero_cbox h))
 

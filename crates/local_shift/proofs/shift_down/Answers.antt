@@ -4,7 +4,7 @@ use Rattle.local_shift.proofs.Sums.{halves_add, halves_fit, holds_both, sum_with
 use Rattle.local_shift.proofs.shift_down.Goals as goal
 
 pub add_halves-requires-clause-fits : goal.add_halves-requires-clause-fits
-add_halves-requires-clause-fits g c = λ k h. halves_fit g.row.P c.args.q (row_of c.args.parent.cells.now) (row_of c.args.into.now) (row_of c.move_down.new.moved) c.requires.parent c.requires.sum c.move_down.ensures.moved k (omega arith)
+add_halves-requires-clause-fits g c = λ k h. halves_fit g.row.P c.args.q (row_of c.args.parent.cells.now) (row_of c.args.into.now) (row_of c.move_down.new.moved) c.requires.size c.requires.sum c.move_down.ensures.moved k (omega arith)
 
 pub returns-clause-adds : goal.returns-clause-adds
 returns-clause-adds g c = halves_add g.row.P c.args.q (row_of c.args.parent.cells.now) (row_of c.args.into.now) (row_of c.move_down.new.moved) (row_of c.add_halves.new.into)

@@ -9,7 +9,7 @@ use Rattle.cell_name.specs.Cell.{square}
 use Rattle.multipole.proofs.add_source.Goals as goal
 
 pub add_row-requires-clause-fits : goal.add_row-requires-clause-fits
-add_row-requires-clause-fits g c = λ k h. sum_fits g.row.P c.args.cell c.args.p.now c.requires.order c.requires.inside (row_of c.args.row.now) (row_of c.fill_moments.new.row) c.requires.range c.requires.size
+add_row-requires-clause-fits g c = λ k h. sum_fits g.row.P c.args.cell c.args.p.now c.requires.order c.requires.inside (row_of c.args.row.now) (row_of c.fill_moments.new.row) c.requires.range c.requires.sum
     (λ j l. c.fill_moments.ensures.moments j (omega arith)) k (omega arith)
 
 pub returns-clause-adds : goal.returns-clause-adds

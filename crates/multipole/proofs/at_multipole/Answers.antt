@@ -4,7 +4,7 @@ use Rattle.exact_math.specs.Gaussian.{gaussian}
 use Rattle.exact_math.specs.Sums.{sum_terms}
 use Rattle.truncation.specs.Entries.{multipole_cut}
 use Rattle.exact_math.specs.Within.{GaussianBeyond}
-use Rattle.row_recursions.specs.Cells.{side_of, centre_of, offset_from}
+use Rattle.row_recursions.specs.Cells.{side_of, doubled_centre_of, offset_from}
 use Rattle.row_recursions.specs.Rows.{row_of, multipole_value}
 use Rattle.row_recursions.proofs.Points.{side_positive}
 use Rattle.row_recursions.proofs.RowSizes.{multipole_value_within}
@@ -26,7 +26,7 @@ returns-clause-ends g c =
     c.value_at.ensures ∙ ap₂ (multipole_value g.row.P (row_of c.args.row.cells.now)) c.side_bits.ensures.side e
 
 pub returns-clause-contains : goal.returns-clause-contains
-returns-clause-contains g c = λ xs h. subst (λ b. BoxEndsContain (pos (2 ^ 40)) b (sum_terms (multipole_cut g.row.P (centre_of c.args.cell) (gaussian c.args.x c.args.y)) xs)) (sym (returns-clause-ends g c))
+returns-clause-contains g c = λ xs h. subst (λ b. BoxEndsContain (pos (2 ^ 40)) b (sum_terms (multipole_cut g.row.P (doubled_centre_of c.args.cell) (gaussian c.args.x c.args.y)) xs)) (sym (returns-clause-ends g c))
     (value_contains g.row.P c.args.cell (gaussian c.args.x c.args.y) xs (row_of c.args.row.cells.now) c.requires.far h)
 
 pub returns-clause-size : goal.returns-clause-size

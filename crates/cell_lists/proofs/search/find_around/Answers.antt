@@ -14,20 +14,20 @@ pub returns-then-b-eq0-clause-whole : goal.returns-then-b-eq0-clause-whole
 returns-then-b-eq0-clause-whole c n met =
     let P : List ℕ → Type 0 = λ l. Contains l 0 in
     let first : Contains c.push.new.self.items 0 = subst P (sym c.in_ok-push.ensures.items) (Contains-push c.clear.new.self.items 0) in
-    root_met c.args.tree.now c.args.b n c.push.new.self.items c.requires.tree c.if-b-eq0.true c.requires.number first met
+    root_met c.args.tree.now c.args.b n c.push.new.self.items c.requires.tree c.if-b-eq0.true c.requires.cell first met
 
 pub list-colleagues-requires : goal.list-colleagues-requires
 list-colleagues-requires c =
-    let up = parent_before c.args.tree.now c.requires.tree c.args.b (omega arith) c.requires.number in
-    omega (arith, up.before, c.parent.ensures, c.requires.near.as_many)
+    let up = parent_before c.args.tree.now c.requires.tree c.args.b (omega arith) c.requires.cell in
+    omega (arith, up.before, c.parent.ensures, c.requires.colleagues.as_many)
 
 pub is_leaf-requires : goal.is_leaf-requires
 is_leaf-requires c =
-    parent_list_numbers c.args.tree.now c.args.b c.parent.result c.args.near.now c.list-colleagues.result.now c.requires.tree (omega arith) c.requires.number c.parent.ensures c.requires.near c.list-colleagues.ensures c.loop-c.c-index 0 (omega arith)
+    parent_list_numbers c.args.tree.now c.args.b c.parent.result c.args.near.now c.list-colleagues.result.now c.requires.tree (omega arith) c.requires.cell c.parent.ensures c.requires.colleagues c.list-colleagues.ensures c.loop-c.c-index 0 (omega arith)
 
 pub children-requires : goal.children-requires
 children-requires c =
-    parent_list_numbers c.args.tree.now c.args.b c.parent.result c.args.near.now c.list-colleagues.result.now c.requires.tree (omega arith) c.requires.number c.parent.ensures c.requires.near c.list-colleagues.ensures c.loop-c.c-index 0 (omega arith)
+    parent_list_numbers c.args.tree.now c.args.b c.parent.result c.args.near.now c.list-colleagues.result.now c.requires.tree (omega arith) c.requires.cell c.parent.ensures c.requires.colleagues c.list-colleagues.ensures c.loop-c.c-index 0 (omega arith)
 
 pub loop-c-init : goal.loop-c-init
 loop-c-init c = around_none c.args.tree.now c.list-colleagues.result.now c.clear.new.self.items c.clear.ensures.items
@@ -38,7 +38,7 @@ loop-c-preserved c =
     let near : List ℕ = c.list-colleagues.result.now in
     let count : ℕ = c.loop-c.c-index in
     let n : ℕ = slice_index near count in
-    let lt : n < size tree = parent_list_numbers tree c.args.b c.parent.result c.args.near.now near c.requires.tree (omega arith) c.requires.number c.parent.ensures c.requires.near c.list-colleagues.ensures count 0 (omega arith) in
+    let lt : n < size tree = parent_list_numbers tree c.args.b c.parent.result c.args.near.now near c.requires.tree (omega arith) c.requires.cell c.parent.ensures c.requires.colleagues c.list-colleagues.ensures count 0 (omega arith) in
     let P : List ℕ → Type 0 = λ l. AreNumbers tree l in
     let Q : List ℕ → Type 0 = λ l. (k : ℕ) → IsChild tree n k → Contains l k in
     let numbers : AreNumbers tree c.children.result.now = subst P (sym c.children.ensures) (children_numbers tree c.requires.tree n lt) in
@@ -55,4 +55,4 @@ loop-c-preserved c =
 
 pub returns-clause-whole : goal.returns-clause-whole
 returns-clause-whole c n met =
-    around_list c.args.tree.now c.args.b c.parent.result c.loop-c.c-index c.args.near.now c.list-colleagues.result.now c.loop-c.found.items c.requires.tree (omega arith) c.requires.number c.parent.ensures c.requires.near c.list-colleagues.ensures (omega arith) c.loop-c.invariant n met
+    around_list c.args.tree.now c.args.b c.parent.result c.loop-c.c-index c.args.near.now c.list-colleagues.result.now c.loop-c.found.items c.requires.tree (omega arith) c.requires.cell c.parent.ensures c.requires.colleagues c.list-colleagues.ensures (omega arith) c.loop-c.invariant n met

@@ -26,7 +26,7 @@ loop-c-preserved c =
       | else-touches w ↦
           let grown : c.if-touches.touching.items ≡ c.loop-c.touching.items ++ [] = ap (λ v. v.items) w.touching-is ∙ sym (append-nil c.loop-c.touching.items) in
           let ex : square c.index-cells-c.result ≡ square_of tree n = read_at tree c.cells-cells.result.now n c.index-cells-c.result c.cells-cells.ensures.all lt c.index-cells-c.is in
-          let ey : square c.index-cells-b.result ≡ square_of tree b = read_at tree c.cells-cells.result.now b c.index-cells-b.result c.cells-cells.ensures.all c.requires.number c.index-cells-b.is in
+          let ey : square c.index-cells-b.result ≡ square_of tree b = read_at tree c.cells-cells.result.now b c.index-cells-b.result c.cells-cells.ensures.all c.requires.cell c.index-cells-b.is in
           keeps_more tree b found count c.loop-c.touching.items c.if-touches.touching.items [] c.loop-c.invariant grown (λ k d inside. absurd (omega arith))
           (λ t. absurd (false≢true (sym w.if-touches.false ∙ touch_from_test tree (square c.index-cells-c.result) (square c.index-cells-b.result) n b c.touches.result ex ey c.touches.ensures t)))
     ]

@@ -10,7 +10,7 @@ use Rattle.cell_lists.proofs.search.push_below.Goals as goal
 
 pub loop-level-init : goal.loop-level-init
 loop-level-init c =
-    let e : square c.index-cells-b.result ≡ square_of c.args.tree.now c.args.b = read_at c.args.tree.now c.cells.result.now c.args.b c.index-cells-b.result c.cells.ensures.all c.requires.number c.index-cells-b.is in
+    let e : square c.index-cells-b.result ≡ square_of c.args.tree.now c.args.b = read_at c.args.tree.now c.cells.result.now c.args.b c.index-cells-b.result c.cells.ensures.all c.requires.cell c.index-cells-b.is in
     let level : c.index-cells-b.result.level ≡ (square_of c.args.tree.now c.args.b).level = ap (λ (s : Square). s.level) e in
     below_begins c.args.tree.now c.args.b _ c.args.found.now.items (omega (arith, level, ap (λ (x : Cell). x.level) c.index-cells-b.is)) c.requires.numbers c.requires.found
 

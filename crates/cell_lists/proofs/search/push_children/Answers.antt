@@ -22,7 +22,7 @@ bounds-cells-c c =
     below_length c.args.tree.now c.cells-cells.result.now c.index.result.now c.cells-cells.ensures.all in_tree
 
 pub bounds-cells-b : goal.bounds-cells-b
-bounds-cells-b c = below_length c.args.tree.now c.cells-cells.result.now c.args.b c.cells-cells.ensures.all c.requires.number
+bounds-cells-b c = below_length c.args.tree.now c.cells-cells.result.now c.args.b c.cells-cells.ensures.all c.requires.cell
 
 pub children-requires : goal.children-requires
 children-requires c =
@@ -52,7 +52,7 @@ loop-at-preserved c =
           adds_row tree b c.args.start at was now c.if-touches.found.items w.children.result.now (subst P (sym w.children.ensures) (children_numbers tree c.cells-cells.ensures.tree n in_tree)) (subst R before (subst Q (sym w.children.ensures) (λ k child. children_whole tree c.cells-cells.ensures.tree n k in_tree child))) items c.loop-at.invariant
       | else-touches w ↦
           let ex : square c.index-cells-c.result ≡ square_of tree (slice_index was at) = read_at tree c.cells-cells.result.now n c.index-cells-c.result c.cells-cells.ensures.all in_tree c.index-cells-c.is ∙ ap (square_of tree) before in
-          let ey : square c.index-cells-b.result ≡ square_of tree b = read_at tree c.cells-cells.result.now b c.index-cells-b.result c.cells-cells.ensures.all c.requires.number c.index-cells-b.is in
+          let ey : square c.index-cells-b.result ≡ square_of tree b = read_at tree c.cells-cells.result.now b c.index-cells-b.result c.cells-cells.ensures.all c.requires.cell c.index-cells-b.is in
           let kept = adds_kept tree b c.args.start at was now lt (λ t. false≢true (sym w.if-touches.false ∙ touch_from_test tree (square c.index-cells-c.result) (square c.index-cells-b.result) (slice_index was at) b c.touches.result ex ey c.touches.ensures t)) c.loop-at.invariant in
           let V : List ℕ → Type 0 = λ l. AddsChildren tree b c.args.start (at + 1) was l in
           subst V (sym (ap (λ v. v.items) w.found-is)) kept

@@ -41,11 +41,11 @@ ancestor_number-requires-2-clause-level c =
     let ec : square c.index-cells-c.result ≡ square_of tree c.args.c = read_at tree c.cells-cells.result.now c.args.c c.index-cells-c.result c.cells-cells.ensures.all c.requires.second c.index-cells-c.is in
     (case_levels (square c.index-cells-b.result) (square c.index-cells-c.result) (square_of tree c.args.b) (square_of tree c.args.c) c.descend-stop.result.letter c.descend-stop.result.first c.descend-stop.result.second c.descend-stop.ensures eb ec).1
 
-pub ancestor_number-requires-clause-number : goal.ancestor_number-requires-clause-number
-ancestor_number-requires-clause-number c = c.requires.first
+pub ancestor_number-requires-clause-cell : goal.ancestor_number-requires-clause-cell
+ancestor_number-requires-clause-cell c = c.requires.first
 
-pub ancestor_number-requires-2-clause-number : goal.ancestor_number-requires-2-clause-number
-ancestor_number-requires-2-clause-number c = c.requires.second
+pub ancestor_number-requires-2-clause-cell : goal.ancestor_number-requires-2-clause-cell
+ancestor_number-requires-2-clause-cell c = c.requires.second
 
 pub returns-clause-first_in_range : goal.returns-clause-first_in_range
 returns-clause-first_in_range c = c.ancestor_number.ensures.in_range

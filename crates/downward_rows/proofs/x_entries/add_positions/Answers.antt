@@ -15,7 +15,7 @@ loop-k-init g c = record {
 
 pub add_position-requires-clause-sum : goal.add_position-requires-clause-sum
 add_position-requires-clause-sum g c =
-    wider g.row.P (2 ^ 109 + 2 ^ 67 * c.loop-k.k-index) (2 ^ 110) (row_of c.loop-k.into) (omega (arith, c.requires.few, c.loop-k-test.true)) (c.loop-k.invariant.size (2 ^ 109) c.requires.sum)
+    wider g.row.P (2 ^ 109 + 2 ^ 67 * c.loop-k.k-index) (2 ^ 110) (row_of c.loop-k.into) (omega (arith, c.requires.length, c.loop-k-test.true)) (c.loop-k.invariant.size (2 ^ 109) c.requires.sum)
 
 pub loop-k-preserved : goal.loop-k-preserved
 loop-k-preserved g c = record {
@@ -25,4 +25,4 @@ loop-k-preserved g c = record {
 }
 
 pub returns-clause-size : goal.returns-clause-size
-returns-clause-size g c = λ n h. wider g.row.P (n + 2 ^ 67 * c.loop-k.k-index) (n + 2 ^ 84) (row_of c.loop-k.into) (omega (arith, c.requires.few, c.loop-k.auto.k-index-end)) (c.loop-k.invariant.size n h)
+returns-clause-size g c = λ n h. wider g.row.P (n + 2 ^ 67 * c.loop-k.k-index) (n + 2 ^ 84) (row_of c.loop-k.into) (omega (arith, c.requires.length, c.loop-k.auto.k-index-end)) (c.loop-k.invariant.size n h)

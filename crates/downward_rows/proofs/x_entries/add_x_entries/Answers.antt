@@ -54,8 +54,8 @@ add_positions-requires-clause-far g c =
     let members = c.members.ensures ∙ ap (λ b. (node_of b.tree k).members) c.basis.view_is in
     positions_far g.row.P b s c.args.n c.requires.cell k far c.deref.result.now points (square c.index-cells-n.result) cell c.members.result.now members
 
-pub add_positions-requires-clause-few : goal.add_positions-requires-clause-few
-add_positions-requires-clause-few g c =
+pub add_positions-requires-clause-length : goal.add_positions-requires-clause-length
+add_positions-requires-clause-length g c =
     let b = c.args.basis.now in
     let s : IsBasis g.row.P b = subst (IsBasis g.row.P) c.basis.view_is c.basis.invariant in
     let same = c.x_list-c-items.ensures ∙ ap (λ b. list_at b.lists.x c.args.n) c.basis.view_is in

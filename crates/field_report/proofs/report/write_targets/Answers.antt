@@ -14,21 +14,21 @@ use Rattle.field_report.proofs.report.write_targets.Goals.{then-not-is_source+in
 pub value-requires : goal.value-requires
 value-requires g c =
     let grid = c.args.field.now.basis.tree.grid in
-    let some = each_list_has_tree grid c.args.points.now c.args.field.now.basis.cap (grid_positive grid c.requires.field.is_tree.known_grid) (in_grid grid c.args.points.now c.requires.range) in
+    let some = each_list_has_tree grid c.args.points.now c.args.field.now.basis.cap (grid_positive grid c.requires.solved.is_tree.known_grid) (in_grid grid c.args.points.now c.requires.range) in
     let here = value-in_range c.args.mode c.args.points.now c.args.field.now.basis.cap g.row.P some.0 c.args.field.now.values c.loop-p.p-index c.loop-p.k _ (omega arith)
-    (ap not (sym c.is_source.ensures ∙ c.if-not-is_source.true)) c.loop-p.invariant.count (c.requires.field.over some.0 some.1).values_are in
+    (ap not (sym c.is_source.ensures ∙ c.if-not-is_source.true)) c.loop-p.invariant.count (c.requires.solved.over some.0 some.1).values_are in
     (omega arith, omega (arith, here))
 
 pub write_target-requires : goal.write_target-requires
 write_target-requires g c =
     let grid = c.args.field.now.basis.tree.grid in
-    box_wider (most_box grid) most_printed (box_ends c.value.result) (box_printed grid c.requires.field.is_tree.known_grid) c.value.ensures.size
+    box_wider (most_box grid) most_printed (box_ends c.value.result) (box_printed grid c.requires.solved.is_tree.known_grid) c.value.ensures.size
 
 pub returns-in_err-write_target-clause-bytes : goal.returns-in_err-write_target-clause-bytes
 returns-in_err-write_target-clause-bytes g c lists are =
     Writes-failed _ c.from_residual.result _ _ _ c.from_residual.ensures.1
     (written-exit c.args.mode c.args.points.now c.args.field.now.basis.cap g.row.P lists c.args.field.now.values c.loop-p.p-index c.loop-p.k _ c.value.result (omega arith)
-    (ap not (sym c.is_source.ensures ∙ c.if-not-is_source.true)) c.loop-p.invariant.count (c.requires.field.over lists are).values_are c.args.field.now.basis.tree.grid c.requires.field.is_tree.known_grid (c.requires.range _ _ (omega arith)) c.value.ensures.value
+    (ap not (sym c.is_source.ensures ∙ c.if-not-is_source.true)) c.loop-p.invariant.count (c.requires.solved.over lists are).values_are c.args.field.now.basis.tree.grid c.requires.solved.is_tree.known_grid (c.requires.range _ _ (omega arith)) c.value.ensures.value
     _ _ _ (c.loop-p.invariant.held lists are) c.in_err-write_target.ensures.bytes)
 
 pub overflow_add-k : goal.overflow_add-k
@@ -42,7 +42,7 @@ loop-p-preserved g c =
           record {
             held = λ lists are. subst (λ s. Appends (g.S.Sink.held c.args.sink.now) (g.S.Sink.held s) _) (sym w.sink-is)
                 (written-step c.args.mode c.args.points.now c.args.field.now.basis.cap g.row.P lists c.args.field.now.values c.loop-p.p-index c.loop-p.k _ w.value.result (omega arith)
-                has c.loop-p.invariant.count (c.requires.field.over lists are).values_are c.args.field.now.basis.tree.grid c.requires.field.is_tree.known_grid (c.requires.range _ _ (omega arith)) w.value.ensures.value
+                has c.loop-p.invariant.count (c.requires.solved.over lists are).values_are c.args.field.now.basis.tree.grid c.requires.solved.is_tree.known_grid (c.requires.range _ _ (omega arith)) w.value.ensures.value
                 _ _ _ (c.loop-p.invariant.held lists are) w.in_ok-write_target.ensures.bytes);
             faults = rw w.sink-is (omega (arith, c.loop-p.invariant.faults, w.in_ok-write_target.ensures.cause.passed));
             count = w.k-is ∙ ap (λ n. n + 1) c.loop-p.invariant.count ∙ sym (count-target c.args.points.now c.loop-p.p-index _ (omega arith) has);

@@ -13,4 +13,4 @@ overflow_mul-ways c =
 pub loop-chosen-preserved : goal.loop-chosen-preserved
 loop-chosen-preserved c =
     ap₂ (λ a b. a / b) (ap₂ ◌*◌ c.loop-chosen.invariant c.from.ensures) c.from-in-loop-chosen.ensures
-    ∙ choose-next c.args.n c.loop-chosen.chosen (omega (arith, c.loop-chosen-test.true, c.requires.within))
+    ∙ choose-next c.args.n c.loop-chosen.chosen (omega (arith, c.loop-chosen-test.true, c.requires.index))

@@ -9,12 +9,12 @@ use Rattle.kernel_table.proofs.powers.entry_of.Goals as goal
 use Rattle.kernel_table.proofs.powers.entry_of.Goals.{After-quot_shift-entry}
 
 pub scale-requires : goal.scale-requires
-scale-requires c = scale-fits c.requires.size (omega (arith, ints, c.requires.counted)) (omega (arith, ints, c.requires.counted, c.requires.small))
+scale-requires c = scale-fits c.requires.size (omega (arith, ints, c.requires.least)) (omega (arith, ints, c.requires.least, c.requires.most))
 
 -- the quotient, before its sign
 unsigned : (c : After-quot_shift-entry) → box_ends c.quot_shift-entry.result ≡ quot_box (scale_box (box_ends c.args.power) c.args.ways) (pos (2 ^ (c.args.k + c.args.l + 20)))
 unsigned c =
-    let counted : wide c.args.ways ≡ c.args.ways = wide-is c.args.ways (omega (arith, ints, c.requires.counted)) (omega (arith, ints, c.requires.small)) in
+    let counted : wide c.args.ways ≡ c.args.ways = wide-is c.args.ways (omega (arith, ints, c.requires.least)) (omega (arith, ints, c.requires.most)) in
     c.quot_shift-entry.ensures.ends ∙ ap (λ b. quot_box b (pos (2 ^ (c.args.k + c.args.l + 20)))) (c.scale.ensures.ends ∙ ap (λ k. scale_box (box_ends c.args.power) k) counted)
 
 pub returns-then-l-eq0 : goal.returns-then-l-eq0

@@ -89,14 +89,14 @@ entry_of-requires-clause-size g c =
     let m = made g (goal.at.entry_of-requires-clause-size g c).After-index in
     subst (BoxEndsWithin (2 ^ 60)) (sym m.power) (power-fits (distance_at c.args.index) m.distance _ (sum g.row.P c.loop-i.i c.requires.order c.loop-i-test.true).small)
 
-pub entry_of-requires-clause-counted : goal.entry_of-requires-clause-counted
-entry_of-requires-clause-counted g c =
-    let m = made g (goal.at.entry_of-requires-clause-counted g c).After-index in
+pub entry_of-requires-clause-least : goal.entry_of-requires-clause-least
+entry_of-requires-clause-least g c =
+    let m = made g (goal.at.entry_of-requires-clause-least g c).After-index in
     subst (λ w. pos 0 ≤ℤ w) (sym m.ways) (not_negative (choose (c.loop-i.i % g.row.P + c.loop-i.i / g.row.P) (c.loop-i.i % g.row.P)))
 
-pub entry_of-requires-clause-small : goal.entry_of-requires-clause-small
-entry_of-requires-clause-small g c =
-    let m = made g (goal.at.entry_of-requires-clause-small g c).After-index in
+pub entry_of-requires-clause-most : goal.entry_of-requires-clause-most
+entry_of-requires-clause-most g c =
+    let m = made g (goal.at.entry_of-requires-clause-most g c).After-index in
     let s = sum g.row.P c.loop-i.i c.requires.order c.loop-i-test.true in
     let few = choose_small (c.loop-i.i % g.row.P + c.loop-i.i / g.row.P) (c.loop-i.i % g.row.P) s.small in
     subst (λ w. w ≤ℤ pos (2 ^ 62)) (sym m.ways) (omega (arith, ints, few))

@@ -6,15 +6,15 @@ use Rattle.local_expansion.proofs.ProductSums.{product_fits, sum_fits, product_n
 use Rattle.local_expansion.proofs.conversion.wide_coefficient.Goals as goal
 
 pub add_product-requires-clause-product : goal.add_product-requires-clause-product
-add_product-requires-clause-product g c = product_fits g.row.P (row_of c.args.column.now) (row_of c.args.row.cells.now) c.requires.order c.requires.column c.requires.row c.loop-k.k _ _ (omega arith)
+add_product-requires-clause-product g c = product_fits g.row.P (row_of c.args.column.now) (row_of c.args.row.cells.now) c.requires.most c.requires.entries c.requires.size c.loop-k.k _ _ (omega arith)
     (row_read c.args.column.now c.loop-k.k _ (omega (arith, c.requires.len)) c.index-column-k.is) (row_got c.args.row.cells.now c.loop-k.k c.get.ensures)
 
 pub add_product-requires-clause-sum : goal.add_product-requires-clause-sum
-add_product-requires-clause-sum g c = sum_fits g.row.P (row_of c.args.column.now) (row_of c.args.row.cells.now) c.requires.order c.requires.column c.requires.row c.loop-k.k _ _ _ (omega arith) c.loop-k.invariant
+add_product-requires-clause-sum g c = sum_fits g.row.P (row_of c.args.column.now) (row_of c.args.row.cells.now) c.requires.most c.requires.entries c.requires.size c.loop-k.k _ _ _ (omega arith) c.loop-k.invariant
     (row_read c.args.column.now c.loop-k.k _ (omega (arith, c.requires.len)) c.index-column-k.is) (row_got c.args.row.cells.now c.loop-k.k c.get.ensures)
 
 pub loop-k-preserved : goal.loop-k-preserved
-loop-k-preserved g c = product_next g.row.P (row_of c.args.column.now) (row_of c.args.row.cells.now) c.requires.order c.requires.column c.requires.row c.loop-k.k _ _ _ _ c.loop-k.invariant
+loop-k-preserved g c = product_next g.row.P (row_of c.args.column.now) (row_of c.args.row.cells.now) c.requires.most c.requires.entries c.requires.size c.loop-k.k _ _ _ _ c.loop-k.invariant
     (row_read c.args.column.now c.loop-k.k _ (omega (arith, c.requires.len)) c.index-column-k.is) (row_got c.args.row.cells.now c.loop-k.k c.get.ensures) c.add_product.ensures.ends
 
 pub returns : goal.returns

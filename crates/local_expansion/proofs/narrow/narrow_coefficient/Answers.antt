@@ -9,18 +9,18 @@ use Rattle.local_expansion.proofs.narrow.narrow_coefficient.Goals as goal
 
 pub box_product-requires-clause-left : goal.box_product-requires-clause-left
 box_product-requires-clause-left g c = subst (BoxEndsWithin (2 ^ 62)) (sym (row_read c.args.column.now c.loop-k.k _ (omega (arith, c.requires.len)) c.index-column-k.is))
-    (box_wider (2 ^ 39 + 1) (2 ^ 62) _ (lit≤ tt) (c.requires.column c.loop-k.k (omega arith)))
+    (box_wider (2 ^ 39 + 1) (2 ^ 62) _ (lit≤ tt) (c.requires.entries c.loop-k.k (omega arith)))
 
 pub box_product-requires-clause-right : goal.box_product-requires-clause-right
-box_product-requires-clause-right g c = subst (BoxEndsWithin (2 ^ 62)) (sym (row_got c.args.row.cells.now c.loop-k.k c.get.ensures)) (c.requires.row c.loop-k.k (omega arith))
+box_product-requires-clause-right g c = subst (BoxEndsWithin (2 ^ 62)) (sym (row_got c.args.row.cells.now c.loop-k.k c.get.ensures)) (c.requires.size c.loop-k.k (omega arith))
 
 pub add-sum-requires : goal.add-sum-requires
 add-sum-requires g c = subst (λ b. BoxEndsWithin (2 ^ 126) (add_box (box_ends c.loop-k.sum) b)) (sym c.box_product.ensures)
-    (sum_fits g.row.P (row_of c.args.column.now) (row_of c.args.row.cells.now) c.requires.order c.requires.column (λ k h. box_wider (2 ^ 62) (2 ^ 80) _ (lit≤ tt) (c.requires.row k h)) c.loop-k.k _ _ _ (omega arith) c.loop-k.invariant
+    (sum_fits g.row.P (row_of c.args.column.now) (row_of c.args.row.cells.now) c.requires.most c.requires.entries (λ k h. box_wider (2 ^ 62) (2 ^ 80) _ (lit≤ tt) (c.requires.size k h)) c.loop-k.k _ _ _ (omega arith) c.loop-k.invariant
     (row_read c.args.column.now c.loop-k.k _ (omega (arith, c.requires.len)) c.index-column-k.is) (row_got c.args.row.cells.now c.loop-k.k c.get.ensures))
 
 pub loop-k-preserved : goal.loop-k-preserved
-loop-k-preserved g c = product_next g.row.P (row_of c.args.column.now) (row_of c.args.row.cells.now) c.requires.order c.requires.column (λ k h. box_wider (2 ^ 62) (2 ^ 80) _ (lit≤ tt) (c.requires.row k h)) c.loop-k.k _ _ _ _ c.loop-k.invariant
+loop-k-preserved g c = product_next g.row.P (row_of c.args.column.now) (row_of c.args.row.cells.now) c.requires.most c.requires.entries (λ k h. box_wider (2 ^ 62) (2 ^ 80) _ (lit≤ tt) (c.requires.size k h)) c.loop-k.k _ _ _ _ c.loop-k.invariant
     (row_read c.args.column.now c.loop-k.k _ (omega (arith, c.requires.len)) c.index-column-k.is) (row_got c.args.row.cells.now c.loop-k.k c.get.ensures) (c.add-sum.ensures.ends ∙ ap (add_box (box_ends c.loop-k.sum)) c.box_product.ensures)
 
 pub returns : goal.returns

@@ -46,7 +46,7 @@ add-requires c =
     let e : to_z w128 (of_z w128 (to_z w128 c.loop-l.l +ℤ pos 1)) ≡ pos (suc c.loop-l.l) = omega (arith, ints, c.requires.len) in
     let w : Within 32 (pos (suc c.loop-l.l)) = record { above = omega (arith, ints); below = omega (arith, ints, c.requires.len) } in
     let size = power_next_within c.args.bits (number c.args.zeta) _ _ _ _ c.requires.far c.loop-l.invariant.size c.far_ratio-ratio.ensures.factor (d ∙ c.far_ratio-ratio.ensures.divisor) c.gquot-power-in-loop-l.ensures.ends in
-    added_fits (row_of c.args.into.now) (length c.args.into.now) c.loop-l.l _ _ c.requires.row (omega arith)
+    added_fits (row_of c.args.into.now) (length c.args.into.now) c.loop-l.l _ _ c.requires.sum (omega arith)
     (row_read c.loop-l.into c.loop-l.l _ (omega arith) c.index-into-l.is ∙ c.loop-l.invariant.written.above c.loop-l.l (omega arith))
     (subst (BoxEndsWithin (2 ^ 65)) (sym (c.scale.ensures.ends ∙ ap (λ n. scale_box (box_ends c.gquot-power-in-loop-l.result) n) e)) (scale_box_within 32 (2 ^ 60) (pos (suc c.loop-l.l)) (box_ends c.gquot-power-in-loop-l.result) w size))
 

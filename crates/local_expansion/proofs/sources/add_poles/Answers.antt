@@ -22,7 +22,7 @@ add-requires c =
     let high = c.far_ratio-ratio.ensures.most in
     let d : to_z w128 (of_z w128 c.far_ratio-ratio.result.divisor) ≡ c.far_ratio-ratio.result.divisor = omega (arith, ints) in
     let size = power_next_within c.args.bits (number c.args.zeta) _ _ _ _ c.requires.far c.loop-l.invariant.size c.far_ratio-ratio.ensures.factor (d ∙ c.far_ratio-ratio.ensures.divisor) c.gquot-power.ensures.ends in
-    added_fits (row_of c.args.into.now) (length c.args.into.now) c.loop-l.l _ _ c.requires.row (omega arith)
+    added_fits (row_of c.args.into.now) (length c.args.into.now) c.loop-l.l _ _ c.requires.sum (omega arith)
     (row_read c.loop-l.into c.loop-l.l _ (omega arith) c.index-into-l.is ∙ c.loop-l.invariant.written.above c.loop-l.l (omega arith))
     (box_wider (2 ^ 60) (2 ^ 65) _ (omega arith) (subst (BoxEndsWithin (2 ^ 60)) (sym c.neg.ensures.ends) (neg_box_within (2 ^ 60) (box_ends c.gquot-power.result) size)))
 

@@ -7,7 +7,7 @@ use Rattle.complex_box.proofs.Sizes.{quot_box_within}
 use Rattle.points.specs.Points.{place}
 use Rattle.points.specs.Strength.{pole_part, dipole_part}
 use Rattle.truncation.specs.Places.{doubled_offset}
-use Rattle.row_recursions.specs.Cells.{side_of, centre_of}
+use Rattle.row_recursions.specs.Cells.{side_of, doubled_centre_of}
 use Rattle.row_recursions.specs.Rows.{source_moment}
 use Rattle.row_recursions.proofs.Points.{grid_fits, held_in_grid, offset_within, side_positive, units_fit}
 use Rattle.complex_box.specs.Rows.{zero_cbox}
@@ -47,7 +47,7 @@ returns-in-Pole-clause-moments c = λ k h.
     let i = f.1 in
     c.fill_powers.ensures.powers k h
     ∙ pole_moments _ _ (gaussian c.in-Pole.re c.in-Pole.im) _ _ _ k (side_positive c.args.cell) c.side_bits-s.ensures.side (simp to_z-of_z at c.offset-o.ensures.value) (units_fit c.in-Pole.ensures.size.0 c.in-Pole.ensures.size.1 c.units.ensures.ends)
-    ∙ ap (λ a. source_moment (side_of c.args.cell) (pole_part a) (dipole_part a) (doubled_offset (place c.args.p.now) (centre_of c.args.cell)) k) c.in-Pole.ensures.value
+    ∙ ap (λ a. source_moment (side_of c.args.cell) (pole_part a) (dipole_part a) (doubled_offset (place c.args.p.now) (doubled_centre_of c.args.cell)) k) c.in-Pole.ensures.value
 
 pub returns-in-Dipole-clause-moments : goal.returns-in-Dipole-clause-moments
 returns-in-Dipole-clause-moments c = λ k h.
@@ -57,9 +57,9 @@ returns-in-Dipole-clause-moments c = λ k h.
     c.fill_slopes.ensures.slopes k h
     ∙ dipole_moments _ _ (gaussian c.in-Dipole.re c.in-Dipole.im) _ _ _ k (side_positive c.args.cell) c.side_bits-s.ensures.side (simp to_z-of_z at c.offset-o.ensures.value)
     (c.quot_shift.ensures.ends ∙ ap₂ (λ b n. quot_box b (pos n)) (units_fit c.in-Dipole.ensures.size.0 c.in-Dipole.ensures.size.1 c.units-in-Dipole.ensures.ends) c.side_bits-s.ensures.side)
-    ∙ ap (λ a. source_moment (side_of c.args.cell) (pole_part a) (dipole_part a) (doubled_offset (place c.args.p.now) (centre_of c.args.cell)) k) c.in-Dipole.ensures.value
+    ∙ ap (λ a. source_moment (side_of c.args.cell) (pole_part a) (dipole_part a) (doubled_offset (place c.args.p.now) (doubled_centre_of c.args.cell)) k) c.in-Dipole.ensures.value
 
 pub returns-in-Nothing-clause-moments : goal.returns-in-Nothing-clause-moments
 returns-in-Nothing-clause-moments c = λ k h.
     c.clear.ensures k zero_cbox (omega arith) ∙ sym (none_alone (side_of c.args.cell) _ (side_positive c.args.cell) k)
-    ∙ ap (λ a. source_moment (side_of c.args.cell) (pole_part a) (dipole_part a) (doubled_offset (place c.args.p.now) (centre_of c.args.cell)) k) c.in-Nothing.ensures.value
+    ∙ ap (λ a. source_moment (side_of c.args.cell) (pole_part a) (dipole_part a) (doubled_offset (place c.args.p.now) (doubled_centre_of c.args.cell)) k) c.in-Nothing.ensures.value

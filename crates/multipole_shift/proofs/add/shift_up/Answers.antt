@@ -7,7 +7,7 @@ use Rattle.multipole_shift.proofs.RowShifts.{part_within, sum_fits, added_moment
 use Rattle.multipole_shift.proofs.add.shift_up.Goals as goal
 
 pub add_row-requires-clause-fits : goal.add_row-requires-clause-fits
-add_row-requires-clause-fits g c = λ k h. sum_fits g.row.P (row_of c.args.child.cells.now) c.args.q (row_of c.args.into.now) (row_of c.shift_in_place.new.row) c.requires.child c.requires.size
+add_row-requires-clause-fits g c = λ k h. sum_fits g.row.P (row_of c.args.child.cells.now) c.args.q (row_of c.args.into.now) (row_of c.shift_in_place.new.row) c.requires.size c.requires.sum
     (λ j l. c.shift_in_place.ensures.shifted j (omega arith) ∙ ap (λ cells. shifted_up (row_of cells) (quadrant_of c.args.q) j) c.copy_from_slice.ensures.after) k (omega arith)
 
 pub returns-clause-adds : goal.returns-clause-adds

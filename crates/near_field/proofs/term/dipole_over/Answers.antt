@@ -4,19 +4,19 @@ use Rattle.near_field.proofs.TermSizes.{small_product, small_square, same_fracti
 use Rattle.near_field.proofs.term.dipole_over.Goals as goal
 
 pub difference_of_products-across-requires-clause-first : goal.difference_of_products-across-requires-clause-first
-difference_of_products-across-requires-clause-first c = small_square c.ranges.dx c.ranges.dx c.requires.distance.0 c.requires.distance.0
+difference_of_products-across-requires-clause-first c = small_square c.ranges.dx c.ranges.dx c.requires.size.0 c.requires.size.0
 
 pub difference_of_products-across-requires-clause-second : goal.difference_of_products-across-requires-clause-second
-difference_of_products-across-requires-clause-second c = small_square c.ranges.dy c.ranges.dy c.requires.distance.1 c.requires.distance.1
+difference_of_products-across-requires-clause-second c = small_square c.ranges.dy c.ranges.dy c.requires.size.1 c.requires.size.1
 
 pub sum_of_products-twice-requires-clause-first : goal.sum_of_products-twice-requires-clause-first
-sum_of_products-twice-requires-clause-first c = small_square c.ranges.dx c.ranges.dy c.requires.distance.0 c.requires.distance.1
+sum_of_products-twice-requires-clause-first c = small_square c.ranges.dx c.ranges.dy c.requires.size.0 c.requires.size.1
 
 pub sum_of_products-twice-requires-clause-second : goal.sum_of_products-twice-requires-clause-second
-sum_of_products-twice-requires-clause-second c = small_square c.ranges.dx c.ranges.dy c.requires.distance.0 c.requires.distance.1
+sum_of_products-twice-requires-clause-second c = small_square c.ranges.dx c.ranges.dy c.requires.size.0 c.requires.size.1
 
 pub norm-size-requires : goal.norm-size-requires
-norm-size-requires c = record { distance = (given_within c.ranges.dx c.requires.distance.0, given_within c.ranges.dy c.requires.distance.1) }
+norm-size-requires c = record { size = (given_within c.ranges.dx c.requires.size.0, given_within c.ranges.dy c.requires.size.1) }
 
 pub overflow_mul-result : goal.overflow_mul-result
 overflow_mul-result c =
@@ -25,22 +25,22 @@ overflow_mul-result c =
 
 pub sum_of_products-requires-clause-first : goal.sum_of_products-requires-clause-first
 sum_of_products-requires-clause-first c =
-    let w = across_within _ _ c.requires.distance.0 c.requires.distance.1 (across_is c.ranges.dx c.ranges.dy c.difference_of_products-across.ensures.value) in
+    let w = across_within _ _ c.requires.size.0 c.requires.size.1 (across_is c.ranges.dx c.ranges.dy c.difference_of_products-across.ensures.value) in
     small_product _ _ c.ranges.re (norm_fits _ w) c.requires.dipole.0 w (omega arith)
 
 pub sum_of_products-requires-clause-second : goal.sum_of_products-requires-clause-second
 sum_of_products-requires-clause-second c =
-    let w = twice_within _ _ c.requires.distance.0 c.requires.distance.1 (twice_is c.ranges.dx c.ranges.dy c.sum_of_products-twice.ensures.value) in
+    let w = twice_within _ _ c.requires.size.0 c.requires.size.1 (twice_is c.ranges.dx c.ranges.dy c.sum_of_products-twice.ensures.value) in
     small_product _ _ c.ranges.im (norm_fits _ w) c.requires.dipole.1 w (omega arith)
 
 pub difference_of_products-requires-clause-first : goal.difference_of_products-requires-clause-first
 difference_of_products-requires-clause-first c =
-    let w = across_within _ _ c.requires.distance.0 c.requires.distance.1 (across_is c.ranges.dx c.ranges.dy c.difference_of_products-across.ensures.value) in
+    let w = across_within _ _ c.requires.size.0 c.requires.size.1 (across_is c.ranges.dx c.ranges.dy c.difference_of_products-across.ensures.value) in
     small_product _ _ c.ranges.im (norm_fits _ w) c.requires.dipole.1 w (omega arith)
 
 pub difference_of_products-requires-clause-second : goal.difference_of_products-requires-clause-second
 difference_of_products-requires-clause-second c =
-    let w = twice_within _ _ c.requires.distance.0 c.requires.distance.1 (twice_is c.ranges.dx c.ranges.dy c.sum_of_products-twice.ensures.value) in
+    let w = twice_within _ _ c.requires.size.0 c.requires.size.1 (twice_is c.ranges.dx c.ranges.dy c.sum_of_products-twice.ensures.value) in
     small_product _ _ c.ranges.re (norm_fits _ w) c.requires.dipole.0 w (omega arith)
 
 pub returns : goal.returns
@@ -51,8 +51,8 @@ returns c =
     let b = c.ranges.im in
     let d = c.ranges.dx in
     let e = c.ranges.dy in
-    let x = norm_fits _ (across_within _ _ c.requires.distance.0 c.requires.distance.1 across) in
-    let y = norm_fits _ (twice_within _ _ c.requires.distance.0 c.requires.distance.1 twice) in
+    let x = norm_fits _ (across_within _ _ c.requires.size.0 c.requires.size.1 across) in
+    let y = norm_fits _ (twice_within _ _ c.requires.size.0 c.requires.size.1 twice) in
     let r = simp (across, twice) at (simp to_z-of_z at c.sum_of_products.ensures.value) in
     let s = simp (across, twice) at (simp to_z-of_z at c.difference_of_products.ensures.value) in
     let n = simp to_z-of_z at c.norm-size.ensures.value in

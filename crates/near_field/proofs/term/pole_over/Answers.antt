@@ -5,10 +5,10 @@ use Rattle.near_field.proofs.TermSizes.{small_product, same_fraction, pole_re, p
 use Rattle.near_field.proofs.term.pole_over.Goals as goal
 
 pub difference_of_products-requires-clause-first : goal.difference_of_products-requires-clause-first
-difference_of_products-requires-clause-first c = small_product _ _ c.ranges.im c.ranges.dx c.requires.pole.1 c.requires.distance.0 (omega arith)
+difference_of_products-requires-clause-first c = small_product _ _ c.ranges.im c.ranges.dx c.requires.pole.1 c.requires.size.0 (omega arith)
 
 pub difference_of_products-requires-clause-second : goal.difference_of_products-requires-clause-second
-difference_of_products-requires-clause-second c = small_product _ _ c.ranges.re c.ranges.dy c.requires.pole.0 c.requires.distance.1 (omega arith)
+difference_of_products-requires-clause-second c = small_product _ _ c.ranges.re c.ranges.dy c.requires.pole.0 c.requires.size.1 (omega arith)
 
 pub returns : goal.returns
 returns c =

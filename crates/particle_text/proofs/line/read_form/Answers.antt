@@ -4,7 +4,7 @@ use Rattle.number_text.specs.Parts.{IsCut}
 use Rattle.number_text.proofs.Rows.{kept}
 use Rattle.points.specs.declared.Kind.TheVariants.{Charge, Dipole, Vortex, Target, Pole}
 use Rattle.points.specs.Limits.{IsKindOf}
-use Rattle.particle_text.specs.Private.{kind_of, word_of}
+use Rattle.particle_text.specs.Private.{kind_of_form, word_of}
 use Rattle.particle_text.proofs.Forms.{reads_as, form_of_kind, form_of_version, word_of_kind, no_charge, no_dipole, no_vortex, no_target, no_pole, same_point}
 use Rattle.particle_text.proofs.line.read_form.Goals as goal
 
@@ -91,7 +91,7 @@ returns-in_err-x-in-Pole-clause-none c =
 pub returns-in_ok-x-in-Pole-clause-some : goal.returns-in_ok-x-in-Pole-clause-some
 returns-in_ok-x-in-Pole-clause-some c =
     let found = c.in_ok-x-in-Pole.ensures.some in
-    let kind = subst (λ form. IsKindOf (grid_of c.args.version) (kind_of form)) c.in-Pole.is c.in_ok-form_of.ensures.kind in
+    let kind = subst (λ form. IsKindOf (grid_of c.args.version) (kind_of_form form)) c.in-Pole.is c.in_ok-form_of.ensures.kind in
     let name = c.in_ok-form_of.ensures.some ∙ ap word_of c.in-Pole.is in
     let numbers = c.in_ok-name.numbers.now in
     let cut = subst (λ word. IsCut 32 c.args.line.now word numbers) name c.in_ok-name.ensures.some in (

@@ -6,7 +6,7 @@ use Rattle.limits.proofs.Grids.{grid_positive}
 use Rattle.cell_name.specs.Square.{Square}
 use Rattle.quadtree.specs.declared.split.Run.{Run}
 use Rattle.quadtree.specs.declared.tree.Node.{Node}
-use Rattle.quadtree.specs.Fields.{IsRange}
+use Rattle.quadtree.specs.Fields.{HasRange}
 use Rattle.quadtree.specs.Nodes.{AreNodesTo, LeavesAreApart, LeavesAreTo}
 use Rattle.quadtree.specs.Splitting.{squares_of, parents_of}
 use Rattle.quadtree.specs.Tree.{IsTreeCell}
@@ -31,8 +31,8 @@ nodes_are c =
 
 pub leaves_of-requires-clause-ranges : goal.leaves_of-requires-clause-ranges
 leaves_of-requires-clause-ranges c =
-    let P : List ℕ → Type 0 = λ l. All (IsRange l) c.deref-6.result.now in
-    let Q : List Node → Type 0 = λ l. All (IsRange c.args.splits.positions.items) l in
+    let P : List ℕ → Type 0 = λ l. All (HasRange l) c.deref-6.result.now in
+    let Q : List Node → Type 0 = λ l. All (HasRange c.args.splits.positions.items) l in
     subst P (sym c.deref-7.ensures.value) (subst Q (sym c.deref-6.ensures.value) (ranges c.args.grid c.args.points.now c.args.cap c.args.splits.positions.items (squares_of c.args.splits.runs.items) (parents_of c.args.splits.runs.items) c.in_ok-families.families.items c.in_ok-nodes.nodes.items (grid_positive c.args.grid c.requires.known_grid) c.requires.in_grid c.requires.cells (nodes_are c)))
 
 pub leaves_of-requires-clause-apart : goal.leaves_of-requires-clause-apart
@@ -51,7 +51,7 @@ made c =
       in_grid = c.requires.in_grid;
       few_points = c.requires.few_points;
       few_cells = c.requires.few_cells;
-      capacity = c.requires.cap;
+      capacity = c.requires.capacity;
       lent_are = c.deref-2.ensures.value;
       cells_of = c.in_ok-cells.ensures ∙ ap (map (λ (r : Run). r.cell)) c.deref.ensures.value;
       cells_are = c.requires.cells;

@@ -26,13 +26,13 @@ returns g c these given =
     let values = c.args.field.now.values in
     let points : List Point = c.args.points.now in
     let cap = c.args.cap in
-    let h = c.requires.field.is_tree in
-    let are = c.requires.field.lists_are in
+    let h = c.requires.solved.is_tree in
+    let are = c.requires.solved.lists_are in
     let a = subst (λ n. AreTreeLists n points cap these) (sym c.requires.grid) given in
     let is_tree = c.tree.ensures in
     let are_lists = c.lists.ensures in
     let inside : AreInGrid tree.grid points = points_in_grid tree points cap (subst IsTree is_tree c.prepend_tree.ensures.tree) h in
-    let over = c.requires.field.over these a in
+    let over = c.requires.solved.over these a in
     let as_many : length values ≡ length (targets points) =
     sym (length-map values box_ends) ∙ ap length over.values_are ∙ length-map (targets points) (λ p. target_box points cap g.row.P these (place p)) in
     rw (

@@ -1,6 +1,6 @@
 -- The field of the basis is that of the points.
 use Rattle.std.proofs.Common.{ℕ, List, subst}
-use Rattle.field_basis.specs.FieldPlaces.{BoxesContain}
+use Rattle.field_basis.specs.FieldPlaces.{TargetsContain}
 use Rattle.points.specs.declared.Point.{Point}
 use Rattle.solve_phase.specs.Contents.{RowsContain}
 use Rattle.solve_phase.specs.Field.{IsSolved}
@@ -16,4 +16,4 @@ pub returns-clause-rows : goal.returns-clause-rows
 returns-clause-rows g c = let f : FieldParts = c.filled.result in subst (λ (ps : List Point). RowsContain ps g.row.P f) c.in_ok-basis.ensures.points c.filled.ensures.rows
 
 pub returns-clause-contains : goal.returns-clause-contains
-returns-clause-contains g c = let f : FieldParts = c.filled.result in subst (λ (ps : List Point). BoxesContain ps f.values) c.in_ok-basis.ensures.points c.filled.ensures.contains
+returns-clause-contains g c = let f : FieldParts = c.filled.result in subst (λ (ps : List Point). TargetsContain ps f.values) c.in_ok-basis.ensures.points c.filled.ensures.contains

@@ -23,14 +23,14 @@ use Rattle.target_values.proofs.u_entries.cell_pairs.Goals as goal
 pub members-k-items-requires : goal.members-k-items-requires
 members-k-items-requires g c =
     let same : size c.basis.inside.tree ≡ size c.args.basis.now.tree = ap (λ (b : BasisModel). size b.tree) c.basis.view_is in
-    omega (arith, same, c.requires.number)
+    omega (arith, same, c.requires.cell)
 
 pub index-requires : goal.index-requires
 index-requires g c =
     let b = c.args.basis.now in
     let is : IsBasis g.row.P b = subst (IsBasis g.row.P) c.basis.view_is c.basis.invariant in
     let same = c.members-k-items.ensures ∙ ap (λ (b : BasisModel). (node_of b.tree c.args.c).members) c.basis.view_is in
-    let here = member_below g.row.P b is c.args.c c.requires.number c.members-k-items.result.now same c.loop-k.k-index c.loop-k-test.true in
+    let here = member_below g.row.P b is c.args.c c.requires.cell c.members-k-items.result.now same c.loop-k.k-index c.loop-k-test.true in
     let long : length c.basis.inside.points.items ≡ length b.points = ap (λ (b : BasisModel). length b.points) c.basis.view_is in
     omega (arith, here, long, c.basis.inside.points.ok.0)
 
@@ -39,20 +39,20 @@ with_pair-sum-requires-clause-range g c =
     let b = c.args.basis.now in
     let is : IsBasis g.row.P b = subst (IsBasis g.row.P) c.basis.view_is c.basis.invariant in
     let same = c.members-k-items.ensures ∙ ap (λ (b : BasisModel). (node_of b.tree c.args.c).members) c.basis.view_is in
-    let here = member_below g.row.P b is c.args.c c.requires.number c.members-k-items.result.now same c.loop-k.k-index c.loop-k-test.true in
+    let here = member_below g.row.P b is c.args.c c.requires.cell c.members-k-items.result.now same c.loop-k.k-index c.loop-k-test.true in
     subst (InRange widest_grid) (sym c.index.ensures)
     (range_in_widest c.basis.inside.tree.grid _ c.basis.invariant.is_tree.known_grid (c.basis.invariant.within.range (get_or c.members-k-items.result.now c.loop-k.k-index 0) c.index.result.now (subst (λ (b : BasisModel). get_or c.members-k-items.result.now c.loop-k.k-index 0 < length b.points) (sym c.basis.view_is) here)))
 
-pub with_pair-sum-requires-clause-size : goal.with_pair-sum-requires-clause-size
-with_pair-sum-requires-clause-size g c =
+pub with_pair-sum-requires-clause-sum : goal.with_pair-sum-requires-clause-sum
+with_pair-sum-requires-clause-sum g c =
     let is : IsBasis g.row.P c.args.basis.now = subst (IsBasis g.row.P) c.basis.view_is c.basis.invariant in
-    let few = few_members g.row.P c.args.basis.now is c.args.c c.requires.number c.members-k-items.result.now (c.members-k-items.ensures ∙ ap (λ (b : BasisModel). (node_of b.tree c.args.c).members) c.basis.view_is) in
+    let few = few_members g.row.P c.args.basis.now is c.args.c c.requires.cell c.members-k-items.result.now (c.members-k-items.ensures ∙ ap (λ (b : BasisModel). (node_of b.tree c.args.c).members) c.basis.view_is) in
     box_wider _ _ _ (omega (arith, few, c.loop-k-test.true)) c.loop-k.invariant.size
 
 pub with_pair-sum-requires-clause-room : goal.with_pair-sum-requires-clause-room
 with_pair-sum-requires-clause-room g c =
     let is : IsBasis g.row.P c.args.basis.now = subst (IsBasis g.row.P) c.basis.view_is c.basis.invariant in
-    let few = few_members g.row.P c.args.basis.now is c.args.c c.requires.number c.members-k-items.result.now (c.members-k-items.ensures ∙ ap (λ (b : BasisModel). (node_of b.tree c.args.c).members) c.basis.view_is) in
+    let few = few_members g.row.P c.args.basis.now is c.args.c c.requires.cell c.members-k-items.result.now (c.members-k-items.ensures ∙ ap (λ (b : BasisModel). (node_of b.tree c.args.c).members) c.basis.view_is) in
     omega (arith, few, c.loop-k-test.true, c.loop-k.invariant.few, c.requires.room)
 
 pub loop-k-preserved : goal.loop-k-preserved
@@ -66,7 +66,7 @@ loop-k-preserved g c =
     let lt : i < length ms = omega (arith, ap length same, c.loop-k-test.true) in
     let p : Point = c.index.result.now in
     let basis_is : IsBasis g.row.P b = subst (IsBasis g.row.P) c.basis.view_is c.basis.invariant in
-    let below = member_below g.row.P b basis_is c.args.c c.requires.number members same i c.loop-k-test.true in
+    let below = member_below g.row.P b basis_is c.args.c c.requires.cell members same i c.loop-k-test.true in
     let is : p ≡ point_at b.points (get_or ms i 0) = point_read c.basis.view_is (get_or members i 0) below p c.index.ensures ∙ ap (λ (l : List ℕ). point_at b.points (get_or l i 0)) same in
     let one = one_at_most t p in
     let counted = ap (λ w. w.pairs) c.with_pair-sum.ensures.work in
@@ -86,18 +86,18 @@ returns-clause-ends g c =
     let same : c.members-k-items.result.now ≡ ms = c.members-k-items.ensures ∙ ap (λ (b : BasisModel). (node_of b.tree c.args.c).members) c.basis.view_is in
     c.loop-k.invariant.ends
     ∙ ap (λ (l : List ℕ). total_box (pair_box t) (sources_at b.points l)) (take_all c.loop-k.k-index ms (omega (arith, ap length same, c.loop-k-test.false)))
-    ∙ ap (total_box (pair_box t)) ((nodes_of_tree b.tree b.points b.cap (inside g.row.P b is) is.is_tree c.args.c c.requires.number).members no_point)
+    ∙ ap (total_box (pair_box t)) ((nodes_of_tree b.tree b.points b.cap (inside g.row.P b is) is.is_tree c.args.c c.requires.cell).members no_point)
 
 pub returns-clause-size : goal.returns-clause-size
 returns-clause-size g c =
     let is : IsBasis g.row.P c.args.basis.now = subst (IsBasis g.row.P) c.basis.view_is c.basis.invariant in
-    let few = few_members g.row.P c.args.basis.now is c.args.c c.requires.number c.members-k-items.result.now (c.members-k-items.ensures ∙ ap (λ (b : BasisModel). (node_of b.tree c.args.c).members) c.basis.view_is) in
+    let few = few_members g.row.P c.args.basis.now is c.args.c c.requires.cell c.members-k-items.result.now (c.members-k-items.ensures ∙ ap (λ (b : BasisModel). (node_of b.tree c.args.c).members) c.basis.view_is) in
     box_wider _ _ _ (omega (arith, few, c.loop-k.auto.k-index-end)) c.loop-k.invariant.size
 
 pub returns-clause-few : goal.returns-clause-few
 returns-clause-few g c =
     let is : IsBasis g.row.P c.args.basis.now = subst (IsBasis g.row.P) c.basis.view_is c.basis.invariant in
-    let few = few_members g.row.P c.args.basis.now is c.args.c c.requires.number c.members-k-items.result.now (c.members-k-items.ensures ∙ ap (λ (b : BasisModel). (node_of b.tree c.args.c).members) c.basis.view_is) in
+    let few = few_members g.row.P c.args.basis.now is c.args.c c.requires.cell c.members-k-items.result.now (c.members-k-items.ensures ∙ ap (λ (b : BasisModel). (node_of b.tree c.args.c).members) c.basis.view_is) in
     omega (arith, few, c.loop-k.auto.k-index-end, c.loop-k.invariant.few)
 
 pub returns-clause-work : goal.returns-clause-work

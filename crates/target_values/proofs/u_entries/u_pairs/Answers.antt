@@ -22,7 +22,7 @@ pub u_list-c-items-requires : goal.u_list-c-items-requires
 u_list-c-items-requires g c =
     let e = c.basis.invariant.lists_are.as_many U in
     let same : size c.basis.inside.tree ≡ size c.args.basis.now.tree = ap (λ (b : BasisModel). size b.tree) c.basis.view_is in
-    omega (arith, e, same, c.requires.number)
+    omega (arith, e, same, c.requires.cell)
 
 pub cell_pairs-requires : goal.cell_pairs-requires
 cell_pairs-requires g c =
@@ -30,14 +30,14 @@ cell_pairs-requires g c =
     let is : IsBasis g.row.P b = subst (IsBasis g.row.P) c.basis.view_is c.basis.invariant in
     let items : List ℕ = c.u_list-c-items.result.now in
     let same : items ≡ list_at b.lists.u c.args.leaf = c.u_list-c-items.ensures ∙ ap (λ (b : BasisModel). list_at b.lists.u c.args.leaf) c.basis.view_is in
-    let few = few_items g.row.P b is U c.args.leaf c.requires.number items same in
-    (search rules, (number_below g.row.P b is U c.args.leaf c.requires.number items same c.loop-c.c-index c.loop-c-test.true, (c.requires.grid, omega (arith, few, c.loop-c-test.true, c.loop-c.invariant.few, c.requires.room))))
+    let few = few_items g.row.P b is U c.args.leaf c.requires.cell items same in
+    (search rules, (number_below g.row.P b is U c.args.leaf c.requires.cell items same c.loop-c.c-index c.loop-c-test.true, (c.requires.in_grid, omega (arith, few, c.loop-c-test.true, c.loop-c.invariant.few, c.requires.room))))
 
 pub add-sum-requires : goal.add-sum-requires
 add-sum-requires g c =
     let b = c.args.basis.now in
     let is : IsBasis g.row.P b = subst (IsBasis g.row.P) c.basis.view_is c.basis.invariant in
-    let few = few_items g.row.P b is U c.args.leaf c.requires.number c.u_list-c-items.result.now (c.u_list-c-items.ensures ∙ ap (λ (b : BasisModel). list_at b.lists.u c.args.leaf) c.basis.view_is) in
+    let few = few_items g.row.P b is U c.args.leaf c.requires.cell c.u_list-c-items.result.now (c.u_list-c-items.ensures ∙ ap (λ (b : BasisModel). list_at b.lists.u c.args.leaf) c.basis.view_is) in
     box_wider _ _ _ (omega (arith, few, c.loop-c-test.true)) (add_box_within _ _ (box_ends c.loop-c.sum) (box_ends c.cell_pairs.result) c.loop-c.invariant.size c.cell_pairs.ensures.size)
 
 pub loop-c-preserved : goal.loop-c-preserved
@@ -62,7 +62,7 @@ pub returns-clause-size : goal.returns-clause-size
 returns-clause-size g c =
     let b = c.args.basis.now in
     let is : IsBasis g.row.P b = subst (IsBasis g.row.P) c.basis.view_is c.basis.invariant in
-    let few = few_items g.row.P b is U c.args.leaf c.requires.number c.u_list-c-items.result.now (c.u_list-c-items.ensures ∙ ap (λ (b : BasisModel). list_at b.lists.u c.args.leaf) c.basis.view_is) in
+    let few = few_items g.row.P b is U c.args.leaf c.requires.cell c.u_list-c-items.result.now (c.u_list-c-items.ensures ∙ ap (λ (b : BasisModel). list_at b.lists.u c.args.leaf) c.basis.view_is) in
     box_wider _ _ _ (omega (arith, few, c.loop-c.auto.c-index-end)) c.loop-c.invariant.size
 
 pub returns-clause-ends : goal.returns-clause-ends

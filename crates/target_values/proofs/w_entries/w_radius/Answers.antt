@@ -15,7 +15,7 @@ pub w_list-c-items-requires : goal.w_list-c-items-requires
 w_list-c-items-requires g c =
     let e = c.basis.invariant.lists_are.as_many W in
     let same : size c.basis.inside.tree ≡ size c.args.basis.now.tree = ap (λ (b : BasisModel). size b.tree) c.basis.view_is in
-    omega (arith, e, same, c.requires.number)
+    omega (arith, e, same, c.requires.cell)
 
 pub add_loss-requires : goal.add_loss-requires
 add_loss-requires g c =
@@ -29,8 +29,8 @@ add_loss-requires g c =
     let lt : i < length xs = omega (arith, ap length same, c.loop-c-test.true) in
     let next : f (get_or items i 0) ≡ f (get_or xs i 0) = ap (λ (l : List ℕ). f (get_or l i 0)) same in
     let so_far = sum_by_more_le f xs i 0 lt in
-    let most = losses_small g.row.P b is c.args.leaf c.requires.number in
-    (search rules, (number_below g.row.P b is W c.args.leaf c.requires.number items same i c.loop-c-test.true, omega (arith, next, so_far, most, c.loop-c.invariant)))
+    let most = losses_small g.row.P b is c.args.leaf c.requires.cell in
+    (search rules, (number_below g.row.P b is W c.args.leaf c.requires.cell items same i c.loop-c-test.true, omega (arith, next, so_far, most, c.loop-c.invariant)))
 
 pub loop-c-preserved : goal.loop-c-preserved
 loop-c-preserved g c =
@@ -48,7 +48,7 @@ returns-clause-size g c =
     let b = c.args.basis.now in
     let is : IsBasis g.row.P b = subst (IsBasis g.row.P) c.basis.view_is c.basis.invariant in
     let so_far = sum_by-take-le (loss_of_cell g.row.P b) (list_at b.lists.w c.args.leaf) c.loop-c.c-index in
-    let most = losses_small g.row.P b is c.args.leaf c.requires.number in
+    let most = losses_small g.row.P b is c.args.leaf c.requires.cell in
     omega (arith, ints, so_far, most, c.loop-c.invariant, c.radius.ensures.value)
 
 pub bounds-c-items-c-index : goal.bounds-c-items-c-index

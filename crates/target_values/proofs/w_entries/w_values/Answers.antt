@@ -23,7 +23,7 @@ pub w_list-c-items-requires : goal.w_list-c-items-requires
 w_list-c-items-requires g c =
     let e = c.basis.invariant.lists_are.as_many W in
     let same : size c.basis.inside.tree ≡ size c.args.basis.now.tree = ap (λ (b : BasisModel). size b.tree) c.basis.view_is in
-    omega (arith, e, same, c.requires.number)
+    omega (arith, e, same, c.requires.cell)
 
 pub w_value-requires : goal.w_value-requires
 w_value-requires g c =
@@ -39,8 +39,8 @@ w_value-requires g c =
       (
         omega (arith, orders),
         (
-          number_below g.row.P b is W c.args.leaf c.requires.number items same i c.loop-c-test.true,
-          (row.0, (row.1, (c.requires.grid, far_from g.row.P b is c.args.leaf c.requires.number items same i c.loop-c-test.true _ _ c.requires.held))),
+          number_below g.row.P b is W c.args.leaf c.requires.cell items same i c.loop-c-test.true,
+          (row.0, (row.1, (c.requires.in_grid, far_from g.row.P b is c.args.leaf c.requires.cell items same i c.loop-c-test.true _ _ c.requires.inside))),
         ),
       ),
     )
@@ -49,7 +49,7 @@ pub add-sum-requires : goal.add-sum-requires
 add-sum-requires g c =
     let b = c.args.basis.now in
     let is : IsBasis g.row.P b = subst (IsBasis g.row.P) c.basis.view_is c.basis.invariant in
-    let few = few_items g.row.P b is W c.args.leaf c.requires.number c.w_list-c-items.result.now (c.w_list-c-items.ensures ∙ ap (λ (b : BasisModel). list_at b.lists.w c.args.leaf) c.basis.view_is) in
+    let few = few_items g.row.P b is W c.args.leaf c.requires.cell c.w_list-c-items.result.now (c.w_list-c-items.ensures ∙ ap (λ (b : BasisModel). list_at b.lists.w c.args.leaf) c.basis.view_is) in
     box_wider _ _ _ (omega (arith, few, c.loop-c-test.true)) (add_box_within _ _ (box_ends c.loop-c.sum) (box_ends c.w_value.result) c.loop-c.invariant.size c.w_value.ensures.size)
 
 pub loop-c-preserved : goal.loop-c-preserved
@@ -69,7 +69,7 @@ pub returns-clause-size : goal.returns-clause-size
 returns-clause-size g c =
     let b = c.args.basis.now in
     let is : IsBasis g.row.P b = subst (IsBasis g.row.P) c.basis.view_is c.basis.invariant in
-    let few = few_items g.row.P b is W c.args.leaf c.requires.number c.w_list-c-items.result.now (c.w_list-c-items.ensures ∙ ap (λ (b : BasisModel). list_at b.lists.w c.args.leaf) c.basis.view_is) in
+    let few = few_items g.row.P b is W c.args.leaf c.requires.cell c.w_list-c-items.result.now (c.w_list-c-items.ensures ∙ ap (λ (b : BasisModel). list_at b.lists.w c.args.leaf) c.basis.view_is) in
     box_wider _ _ _ (omega (arith, few, c.loop-c.auto.c-index-end)) c.loop-c.invariant.size
 
 pub returns-clause-ends : goal.returns-clause-ends

@@ -31,8 +31,8 @@ add_source-requires-clause-range g c =
 pub add_source-requires-clause-inside : goal.add_source-requires-clause-inside
 add_source-requires-clause-inside g c = (member_at c.args.points.now (square c.args.cell) c.args.members.now c.loop-k.k-index c.requires.members c.loop-k-test.true).held
 
-pub add_source-requires-clause-size : goal.add_source-requires-clause-size
-add_source-requires-clause-size g c = λ k h.
+pub add_source-requires-clause-sum : goal.add_source-requires-clause-sum
+add_source-requires-clause-sum g c = λ k h.
     let points = c.args.points.now in
     let members = c.args.members.now in
     let i = c.loop-k.k-index in

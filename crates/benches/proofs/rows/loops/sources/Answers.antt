@@ -4,8 +4,8 @@ use Rattle.complex_box.proofs.Sizes.{box_wider}
 use Rattle.benches.proofs.Weights.{one_more, weight_of}
 use Rattle.benches.proofs.rows.loops.sources.Goals as goal
 
-pub add_source-requires-clause-size : goal.add_source-requires-clause-size
-add_source-requires-clause-size c = λ k h. box_wider (c.loop-n.n * 2 ^ 57) (2 ^ 80) _ (omega arith) (c.loop-n.invariant.size k h)
+pub add_source-requires-clause-sum : goal.add_source-requires-clause-sum
+add_source-requires-clause-sum c = λ k h. box_wider (c.loop-n.n * 2 ^ 57) (2 ^ 80) _ (omega arith) (c.loop-n.invariant.size k h)
 
 pub loop-n-preserved : goal.loop-n-preserved
 loop-n-preserved c = record {

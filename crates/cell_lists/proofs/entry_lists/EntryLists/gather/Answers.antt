@@ -19,8 +19,8 @@ pub pick-requires : goal.pick-requires
 pick-requires c =
     record {
       tree = c.cells-b-end.ensures.tree;
-      number = omega (arith, ap length c.cells-b-end.ensures.all, c.loop-b-test.true);
-      near = c.loop-b.invariant.near;
+      cell = omega (arith, ap length c.cells-b-end.ensures.all, c.loop-b-test.true);
+      colleagues = c.loop-b.invariant.near;
     }
 
 pub loop-b-preserved : goal.loop-b-preserved

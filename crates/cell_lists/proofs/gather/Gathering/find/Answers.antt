@@ -13,4 +13,4 @@ returns-clause-near c =
     let touching : List ℕ = c.find_touching.new.touching.items in
     let grown : c.push.new.self ≡ near ++ touching ∷ [] = c.in_ok-push.ensures ∙ ap (λ l. near ++ l ∷ []) c.deref-2.ensures.value in
     let P : List ℕ → Type 0 = λ l. KeepsTouching tree b l touching in
-    colleagues_more tree near c.push.new.self found touching b c.requires.tree c.requires.number c.requires.near grown c.in_ok-find_touching.ensures.numbers c.in_ok-find_around.ensures.whole (subst P c.deref.ensures.value c.in_ok-find_touching.ensures.whole)
+    colleagues_more tree near c.push.new.self found touching b c.requires.tree c.requires.cell c.requires.colleagues grown c.in_ok-find_touching.ensures.numbers c.in_ok-find_around.ensures.whole (subst P c.deref.ensures.value c.in_ok-find_touching.ensures.whole)

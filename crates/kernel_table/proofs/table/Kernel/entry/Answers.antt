@@ -11,11 +11,11 @@ pub returns-clause-ends : goal.returns-clause-ends
 returns-clause-ends g c =
     let kernel = c.args.self.now in
     ap box_ends c.index.ensures ∙ found g.row.P c.distance_index.result c.args.k c.args.l kernel.entries.items (number c.args.e) kernel.table (sym kernel.entries.ok.0 ∙ kernel.len)
-    c.distance_index.ensures.index c.distance_index.ensures.value c.requires.row c.requires.column _
+    c.distance_index.ensures.index c.distance_index.ensures.value c.requires.first c.requires.second _
 
 -- what the entry keeps
 holds : (g : Over) (c : goal.After-result-1 g) → KernelEntryHolds (number c.args.e) c.args.k c.args.l
-holds g c = kernel_entries (number c.args.e) c.args.k c.args.l c.requires.distance (omega (arith, c.requires.row, c.requires.column, c.args.self.now.order))
+holds g c = kernel_entries (number c.args.e) c.args.k c.args.l c.requires.distance (omega (arith, c.requires.first, c.requires.second, c.args.self.now.order))
 
 pub returns-clause-contains : goal.returns-clause-contains
 returns-clause-contains g c = subst (λ b. BoxEndsContain (pos (2 ^ 40)) b (kernel_fraction (number c.args.e) c.args.k c.args.l)) (sym (returns-clause-ends g c)) (holds g c).contains

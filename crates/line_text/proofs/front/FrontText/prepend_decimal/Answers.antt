@@ -25,8 +25,8 @@ pub returns-clause-text : goal.returns-clause-text
 returns-clause-text g c =
     c.prepend-2.ensures ∙ sym (c.loop-rest.invariant ∙ decimal-one c.loop-rest.rest c.loop-rest.self (omega arith))
 
-pub returns-clause-room : goal.returns-clause-room
-returns-clause-room g c =
+pub returns-clause-length : goal.returns-clause-length
+returns-clause-length g c =
     let fits : c.loop-rest.rest < 2 ^ 64 = omega arith in
     let room = decimal_room c.args.n c.loop-rest.rest c.args.self.now c.loop-rest.self c.ranges.n.fits fits c.loop-rest.invariant in
     rw c.prepend-2.ensures (omega (arith, room))

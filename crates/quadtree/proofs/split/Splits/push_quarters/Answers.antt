@@ -26,7 +26,7 @@ divide-counts-requires-clause-room c =
     subst P (sym c.deref.ensures.value) (has_room c.args.points.now c.args.self.now.positions.items run c.args.parts.now r c.requires.parts)
 
 pub divide-counts-requires-clause-level : goal.divide-counts-requires-clause-level
-divide-counts-requires-clause-level c = room_here c.args.above.now c.args.number c.index-above-number.result c.requires.number c.index-above-number.is c.requires.room
+divide-counts-requires-clause-level c = room_here c.args.above.now c.args.number c.index-above-number.result c.requires.number c.index-above-number.is c.requires.levels
 
 pub divide-counts-requires-clause-held : goal.divide-counts-requires-clause-held
 divide-counts-requires-clause-held c =
@@ -37,7 +37,7 @@ divide-counts-requires-clause-held c =
     subst P (sym (ap (λ l. slice_range l run.from run.to) c.deref.ensures.value ∙ r.members_are)) (members_held points (square run.cell))
 
 pub quarter-requires : goal.quarter-requires
-quarter-requires c = room_here c.args.above.now c.args.number c.index-above-number.result c.requires.number c.index-above-number.is c.requires.room
+quarter-requires c = room_here c.args.above.now c.args.number c.index-above-number.result c.requires.number c.index-above-number.is c.requires.levels
 
 southwest : (c : goal.In_ok-push-4) → IsPushed c.args.points.now c.args.above.now c.push.new.self.positions.items c.args.self.now.runs.items c.push.new.self.runs.items (child (get_or (squares_of c.args.above.now) c.args.number no_square) 0 0)
 southwest c =
@@ -46,7 +46,7 @@ southwest c =
     let lt : c.args.number < length (squares_of c.args.above.now) = omega (arith, c.requires.number, length-map c.args.above.now (λ (r : Run). square r.cell)) in
     let read = cell_at c.args.above.now c.args.number run c.requires.number c.index-above-number.is in
     let r = run_at c.args.points.now first c.args.above.now c.args.number run c.requires.below.above_are c.requires.number c.index-above-number.is in
-    let room = room_here c.args.above.now c.args.number run c.requires.number c.index-above-number.is c.requires.room in
+    let room = room_here c.args.above.now c.args.number run c.requires.number c.index-above-number.is c.requires.levels in
     let P : List ℕ → Type 0 = λ l. IsFront c.args.points.now (child (square run.cell) 0 0) (slice_range l run.from run.to) c.divide-counts.new.self.southwest.items c.divide-counts.result.southwest in
     quarter_pushed c.args.points.now c.args.above.now c.args.self.now.runs.items c.push.new.self.runs.items first c.args.self.now.positions.items c.push.new.self.positions.items c.divide-counts.new.self.southwest.items _ c.quarter.result run c.args.number 0 0 c.divide-counts.result.southwest c.requires.below lt read r room (omega arith) (omega arith) c.quarter.ensures
     (subst P c.deref.ensures.value c.divide-counts.ensures.divided.southwest) (ap (take c.divide-counts.result.southwest) c.deref-2.ensures.value) c.in_ok-push.ensures.positions c.in_ok-push.ensures.runs
@@ -58,7 +58,7 @@ northwest c =
     let lt : c.args.number < length (squares_of c.args.above.now) = omega (arith, c.requires.number, length-map c.args.above.now (λ (r : Run). square r.cell)) in
     let read = cell_at c.args.above.now c.args.number run c.requires.number c.index-above-number.is in
     let r = run_at c.args.points.now first c.args.above.now c.args.number run c.requires.below.above_are c.requires.number c.index-above-number.is in
-    let room = room_here c.args.above.now c.args.number run c.requires.number c.index-above-number.is c.requires.room in
+    let room = room_here c.args.above.now c.args.number run c.requires.number c.index-above-number.is c.requires.levels in
     let P : List ℕ → Type 0 = λ l. IsFront c.args.points.now (child (square run.cell) 0 1) (slice_range l run.from run.to) c.divide-counts.new.self.northwest.items c.divide-counts.result.northwest in
     quarter_pushed c.args.points.now c.args.above.now c.push.new.self.runs.items c.push-2.new.self.runs.items first c.push.new.self.positions.items c.push-2.new.self.positions.items c.divide-counts.new.self.northwest.items _ c.quarter-2.result run c.args.number 0 1 c.divide-counts.result.northwest (southwest c).below lt read r room (omega arith) (omega arith) c.quarter-2.ensures
     (subst P c.deref.ensures.value c.divide-counts.ensures.divided.northwest) (ap (take c.divide-counts.result.northwest) c.deref-3.ensures.value) c.in_ok-push-2.ensures.positions c.in_ok-push-2.ensures.runs
@@ -70,7 +70,7 @@ southeast c =
     let lt : c.args.number < length (squares_of c.args.above.now) = omega (arith, c.requires.number, length-map c.args.above.now (λ (r : Run). square r.cell)) in
     let read = cell_at c.args.above.now c.args.number run c.requires.number c.index-above-number.is in
     let r = run_at c.args.points.now first c.args.above.now c.args.number run c.requires.below.above_are c.requires.number c.index-above-number.is in
-    let room = room_here c.args.above.now c.args.number run c.requires.number c.index-above-number.is c.requires.room in
+    let room = room_here c.args.above.now c.args.number run c.requires.number c.index-above-number.is c.requires.levels in
     let P : List ℕ → Type 0 = λ l. IsFront c.args.points.now (child (square run.cell) 1 0) (slice_range l run.from run.to) c.divide-counts.new.self.southeast.items c.divide-counts.result.southeast in
     quarter_pushed c.args.points.now c.args.above.now c.push-2.new.self.runs.items c.push-3.new.self.runs.items first c.push-2.new.self.positions.items c.push-3.new.self.positions.items c.divide-counts.new.self.southeast.items _ c.quarter-3.result run c.args.number 1 0 c.divide-counts.result.southeast (northwest c).below lt read r room (omega arith) (omega arith) c.quarter-3.ensures
     (subst P c.deref.ensures.value c.divide-counts.ensures.divided.southeast) (ap (take c.divide-counts.result.southeast) c.deref-4.ensures.value) c.in_ok-push-3.ensures.positions c.in_ok-push-3.ensures.runs
@@ -82,7 +82,7 @@ northeast c =
     let lt : c.args.number < length (squares_of c.args.above.now) = omega (arith, c.requires.number, length-map c.args.above.now (λ (r : Run). square r.cell)) in
     let read = cell_at c.args.above.now c.args.number run c.requires.number c.index-above-number.is in
     let r = run_at c.args.points.now first c.args.above.now c.args.number run c.requires.below.above_are c.requires.number c.index-above-number.is in
-    let room = room_here c.args.above.now c.args.number run c.requires.number c.index-above-number.is c.requires.room in
+    let room = room_here c.args.above.now c.args.number run c.requires.number c.index-above-number.is c.requires.levels in
     let P : List ℕ → Type 0 = λ l. IsFront c.args.points.now (child (square run.cell) 1 1) (slice_range l run.from run.to) c.divide-counts.new.self.northeast.items c.divide-counts.result.northeast in
     quarter_pushed c.args.points.now c.args.above.now c.push-3.new.self.runs.items c.push-4.new.self.runs.items first c.push-3.new.self.positions.items c.push-4.new.self.positions.items c.divide-counts.new.self.northeast.items _ c.quarter-4.result run c.args.number 1 1 c.divide-counts.result.northeast (southeast c).below lt read r room (omega arith) (omega arith) c.quarter-4.ensures
     (subst P c.deref.ensures.value c.divide-counts.ensures.divided.northeast) (ap (take c.divide-counts.result.northeast) c.deref-5.ensures.value) c.in_ok-push-4.ensures.positions c.in_ok-push-4.ensures.runs
