@@ -48,6 +48,7 @@ certified order cap input out is_order s =
     record {
       points = points;
       read = s.depth.read;
+      has_order = s.depth.has_order;
       lists = s.lists;
       lists_are = s.lists_are;
       lines = map (field_line points.mode points.list cap order s.lists) (targets points.list);

@@ -111,11 +111,12 @@ pub record HasOneListEntry (lists : TreeLists) (target source : Point) : Type 0 
   pub accounts : Accounts b c target source
   pub no_other : (letter' : Letter) (b' c' : Square) → Contains lists.cells b' → Contains (lists.entries letter' b') c' → Accounts b' c' target source → (letter' ≡ letter) × (b' ≡ b) × (c' ≡ c)
 
--- The input is within its limit and spells points, and the bytes are a report with one line for each target, in order, whose counts contain the exact direct sum.
+-- The input is within its limit and spells points of a version that has the order, and the bytes are a report with one line for each target, in order, whose counts contain the exact direct sum.
 -- Of the lists of the tree exactly one entry accounts for each target and source, and the counts of work are theirs.
 pub record IsCertified (order cap : ℕ) (input out : List ℕ) : Type 0 where
   pub points : Points
   pub read : IsRead input points
+  pub has_order : order ≤ most_order (grid_of points.version)
   pub lists : TreeLists
   pub lists_are : AreTreeLists (grid_of points.version) points.list cap lists
   pub lines : List TargetLine
