@@ -150,19 +150,18 @@ fn near_charge(rt: HostRuntime) -> Result<(), Fail> {
     Ok(())
 }
 
-/// Two charges whose terms cancel almost: the ends are the difference of two large ones.
+/// The terms are 2^60/100 and -2^60/99.
 const CANCELLING: Ends = ((-116_456_717_637_057, -116_456_717_637_055), (0, 0));
 
 #[test]
 fn cancelling_charges(rt: HostRuntime) -> Result<(), Fail> {
-    let field = field_of(
-        rt.alloc(),
-        &[
-            (1, "charge 0 0 1048576\n"),
-            (1, "charge 1 0 -1048576\n"),
-            (1, "target 100 0\n"),
-        ],
-    )?;
+    let lines = [
+        (1, "charge 0 0 1048576\n"),
+        (1, "charge 1 0 -1048576\n"),
+        (1, "target 100 0\n"),
+    ];
+    let field = field_of(rt.alloc(), &lines)?;
+    assert_eq!(rt; (field.targets(), field.pairs()), (1, 2));
     values_are(&rt, &field, CANCELLING);
     Ok(())
 }
