@@ -10,8 +10,7 @@ ghost use Rattle.row_recursions.specs.Sizes.{RowWithin};
 
 use cell_lists::EntryLists;
 use complex_box::{CBox, Row};
-use field_basis::Basis;
-use field_basis::{Place, TargetPlace};
+use field_basis::{Basis, Place, TargetPlace};
 use quadtree::Tree;
 use std::marker::Model;
 

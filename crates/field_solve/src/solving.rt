@@ -12,8 +12,7 @@ ghost use Rattle.field_solve.specs.Field.{IsSolved};
 
 use crate::field::Field;
 use downward_rows::downward_pass;
-use field_basis::Basis;
-use field_basis::{Place, TargetPlace, all_pairs, all_translations};
+use field_basis::{Basis, Place, TargetPlace, all_pairs, all_translations};
 use points::{Point, Points};
 use quadtree::{Tree, TreeFault};
 use std::alloc::{AllocError, Global};

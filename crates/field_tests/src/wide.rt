@@ -18,7 +18,12 @@ fn counts_are<const P: usize>(rt: &impl Abort, field: &Field<P>, counts: (usize,
 }
 
 /// There are so many targets, and this is the box of each.
-fn values_are<const P: usize>(rt: &impl Abort, field: &Field<P>, targets: usize, known: Ends) {
+fn boxes_of_order_are<const P: usize>(
+    rt: &impl Abort,
+    field: &Field<P>,
+    targets: usize,
+    known: Ends,
+) {
     assert_eq!(rt; field.targets(), targets);
     for k in 0..field.targets() {
         assert_eq!(rt; ends(field.value(k)), known);
@@ -32,7 +37,7 @@ const ONE: i128 = 1_099_511_627_776;
 fn a_pole_nearby(rt: HostRuntime) -> Result<(), Fail> {
     let field = wide_field_of::<8>(rt.alloc(), &[(1, "pole 0 0 3 4\n"), (1, "target 3 4\n")])?;
     counts_are(&rt, &field, (1, 0, 1));
-    values_are(&rt, &field, 1, ((ONE, ONE), (0, 0)));
+    boxes_of_order_are(&rt, &field, 1, ((ONE, ONE), (0, 0)));
     Ok(())
 }
 
@@ -45,7 +50,7 @@ fn across_the_grid(rt: HostRuntime) -> Result<(), Fail> {
     ];
     let field = wide_field_of::<8>(rt.alloc(), &lines)?;
     counts_are(&rt, &field, (1, 0, 1));
-    values_are(&rt, &field, 1, ((524_288, 524_289), (-524_289, -524_288)));
+    boxes_of_order_are(&rt, &field, 1, ((524_288, 524_289), (-524_289, -524_288)));
     Ok(())
 }
 
@@ -54,7 +59,7 @@ fn across_the_grid(rt: HostRuntime) -> Result<(), Fail> {
 fn charges_next_to_a_target(rt: HostRuntime) -> Result<(), Fail> {
     let field = wide_field_of::<8>(rt.alloc(), &[(8, "charge 0 0 1\n"), (1, "target 1 0\n")])?;
     counts_are(&rt, &field, (22, 40, 8));
-    values_are(&rt, &field, 1, ((8 * ONE, 8 * ONE), (0, 0)));
+    boxes_of_order_are(&rt, &field, 1, ((8 * ONE, 8 * ONE), (0, 0)));
     Ok(())
 }
 
@@ -63,7 +68,7 @@ fn charges_next_to_a_target(rt: HostRuntime) -> Result<(), Fail> {
 fn charges_far_away(rt: HostRuntime) -> Result<(), Fail> {
     let field = wide_field_of::<4>(rt.alloc(), &[NINE_CHARGES, (9, "target 2 0\n")])?;
     counts_are(&rt, &field, (23, 41, 0));
-    values_are(
+    boxes_of_order_are(
         &rt,
         &field,
         9,
@@ -82,7 +87,7 @@ const NINE_POLES: (u32, &str) = (9, "pole 0 0 3 -4\n");
 fn poles_far_away(rt: HostRuntime) -> Result<(), Fail> {
     let field = wide_field_of::<4>(rt.alloc(), &[NINE_POLES, (9, "target 2 0\n")])?;
     counts_are(&rt, &field, (23, 41, 0));
-    values_are(
+    boxes_of_order_are(
         &rt,
         &field,
         9,
@@ -99,7 +104,7 @@ fn poles_far_away(rt: HostRuntime) -> Result<(), Fail> {
 fn poles_far_from_a_target(rt: HostRuntime) -> Result<(), Fail> {
     let field = wide_field_of::<4>(rt.alloc(), &[NINE_POLES, (1, "target 8 0\n")])?;
     counts_are(&rt, &field, (22, 37, 0));
-    values_are(
+    boxes_of_order_are(
         &rt,
         &field,
         1,
@@ -116,7 +121,7 @@ fn poles_far_from_a_target(rt: HostRuntime) -> Result<(), Fail> {
 fn a_far_pole(rt: HostRuntime) -> Result<(), Fail> {
     let field = wide_field_of::<4>(rt.alloc(), &[(1, "pole 8 0 3 -4\n"), (9, "target 0 0\n")])?;
     counts_are(&rt, &field, (22, 37, 0));
-    values_are(
+    boxes_of_order_are(
         &rt,
         &field,
         9,
@@ -132,7 +137,7 @@ fn a_far_pole(rt: HostRuntime) -> Result<(), Fail> {
 fn order_32_nearby(rt: HostRuntime) -> Result<(), Fail> {
     let field = wide_field_of::<32>(rt.alloc(), &[(1, "charge 0 0 1\n"), (1, "target 3 4\n")])?;
     counts_are(&rt, &field, (1, 0, 1));
-    values_are(
+    boxes_of_order_are(
         &rt,
         &field,
         1,
@@ -149,7 +154,7 @@ fn order_32_nearby(rt: HostRuntime) -> Result<(), Fail> {
 fn order_32_far_away(rt: HostRuntime) -> Result<(), Fail> {
     let field = wide_field_of::<32>(rt.alloc(), &[NINE_CHARGES, (9, "target 2 0\n")])?;
     counts_are(&rt, &field, (23, 41, 0));
-    values_are(
+    boxes_of_order_are(
         &rt,
         &field,
         9,

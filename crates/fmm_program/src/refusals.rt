@@ -9,10 +9,10 @@ ghost use Rattle.fmm_program.specs.Endings.{IsEnding, OneLine, TellsFaults, flow
 
 use crate::status::Status;
 use cell_name::Cell;
+use field_solve::SolveFault;
 use io_ports::{Sink, put};
 use line_text::FrontText;
 use particle_text::TextKind;
-use field_solve::SolveFault;
 
 // A line grows from its end to its front, in at most this many bytes.
 const LINE: usize = 128;

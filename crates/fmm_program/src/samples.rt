@@ -15,12 +15,12 @@ use crate::orders::at_order;
 use crate::refusals::refuse_depth;
 use crate::status::Status;
 use crate::words::{Words, capacity_of, number_in, order_of};
+use field_solve::Field;
 use io_ports::Sink;
 use limits::{FIRST_GRID, most_order};
 use point_sample::{most_sampled, sample_points};
 use points::Points;
 use sample_summary::write_summary;
-use field_solve::Field;
 use std::alloc::Global;
 
 /// The command `sample SEED N ORDER CAP`.

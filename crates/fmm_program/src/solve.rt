@@ -16,11 +16,11 @@ use crate::orders::at_order;
 use crate::refusals::{refuse, refuse_depth, refuse_text};
 use crate::status::Status;
 use field_report::write_report;
+use field_solve::Field;
 use io_ports::{InFault, Sink, Source, read_all};
 use limits::{grid_of, most_order};
 use particle_text::{ParseFault, parse};
 use points::Points;
-use field_solve::Field;
 use std::alloc::Global;
 
 /// The greatest number of bytes of an input.

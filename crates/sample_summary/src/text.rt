@@ -15,11 +15,11 @@ ghost use Rattle.tree_field.specs.Lists.{OfTreeLists};
 use crate::numbers::{leaf_count, source_count};
 use crate::widths::Widest;
 use cell_lists::EntryLists;
+use field_solve::Field;
 use letters::Letter;
 use line_text::FrontText;
 use points::Point;
 use quadtree::Tree;
-use field_solve::Field;
 
 /// The seven lines grow from their end to their front, in at most this many bytes.
 const TEXT: usize = 512;

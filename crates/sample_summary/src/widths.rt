@@ -7,9 +7,9 @@ ghost use Rattle.limits.specs.Limits.{first_grid, most_printed};
 ghost use Rattle.sample_summary.specs.Summary.{width};
 
 use complex_box::CBox;
+use field_solve::Field;
 use fixed_interval::Interval;
 use report_lines::to_count;
-use field_solve::Field;
 
 /// How far the printed counts of an interval are apart.
 fn width(i: Interval) -> u128

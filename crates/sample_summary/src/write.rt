@@ -8,9 +8,9 @@ ghost use Rattle.field_solve.specs.Field.{IsSolved};
 ghost use Rattle.tree_field.specs.Lists.{OfTreeLists};
 
 use crate::text::summary_text;
+use field_solve::Field;
 use io_ports::{Sink, WriteFault, put};
 use points::Points;
-use field_solve::Field;
 
 /// Appends the summary of a sample, the points that a seed gave and their field with a leaf capacity: its seven lines count points, cells,
 /// entries and work, and name the greatest widths of the printed counts over all targets, in units of 10^-12.
