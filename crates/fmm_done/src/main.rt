@@ -1,11 +1,11 @@
-//! A text at fault: the program writes the line that refuses it, and ends with status 1.
+//! A charge and a target: the program writes their report, and ends with status 0.
 #![tactic(auto)]
 
 use fmm_program::{Status, Words, run};
 use io_ports::{DropSink, Memory, SureSource, WriteSink};
 use std::process::ExitCode;
 
-const TEXT: &[u8] = b"fmm 1 field\ncharge 0 0\n";
+const TEXT: &[u8] = b"fmm 1 field\ncharge 0 0 1\ntarget 3 4\n";
 
 fn answer(rt: &HostRuntime) -> Result<Status, Memory> {
     let alloc = rt.alloc();
