@@ -13,9 +13,8 @@ use crate::radius::local_radius;
 use crate::v_entries::add_v_entries;
 use crate::x_entries::add_x_entries;
 use complex_box::{CBox, Row, Work, clear};
-use field_basis::Basis;
+use field_basis::{Basis, Place};
 use local_shift::shift_down;
-use field_basis::Place;
 
 /// Makes the local row of cell `n`, which is below the root, from its parent's.
 fn make_row<const P: usize>(

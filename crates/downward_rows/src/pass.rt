@@ -8,8 +8,7 @@ ghost use Rattle.quadtree.specs.TreeModel.{size};
 
 use crate::fill::fill_place;
 use complex_box::Work;
-use field_basis::Basis;
-use field_basis::Place;
+use field_basis::{Basis, Place};
 
 /// Makes the local rows of all cells and their radii, from the first to the last, whatever rows stood in their places, and keeps in each place
 /// how many translations its row took: together one for each V entry and one for each cell below the root that has a target.

@@ -14,9 +14,8 @@ ghost use Rattle.cell_name.specs.Apart.{sides_between};
 
 use cell_name::Cell;
 use complex_box::{CBox, Gauss, Work};
-use field_basis::Basis;
+use field_basis::{Basis, Place};
 use local_expansion::convert;
-use field_basis::Place;
 
 /// How many sides the centre of `b` lies from that of `c`, for cells of one level.
 fn sides_between(b: Cell, c: Cell) -> Gauss

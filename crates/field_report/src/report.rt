@@ -8,10 +8,10 @@ ghost use Rattle.points.specs.Limits.{InRange, WithinLimits};
 ghost use Rattle.field_solve.specs.Field.{IsSolved};
 ghost use Rattle.tree_field.specs.Lists.{OfTreeLists};
 
+use field_solve::Field;
 use io_ports::{Sink, WriteFault};
 use points::{Mode, Point, Points};
 use report_lines::{write_end, write_head, write_target};
-use field_solve::Field;
 
 // Appends the lines of all targets, in the order of the list, whose points are in range of the field's grid.
 fn write_targets<const P: usize, S: Sink>(

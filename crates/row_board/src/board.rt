@@ -11,8 +11,7 @@ ghost use Rattle.row_board.specs.Names.{IsName, is_filled};
 
 use crate::name::Name;
 use complex_box::CBox;
-use field_basis::Basis;
-use field_basis::Place;
+use field_basis::{Basis, Place};
 use std::marker::Model;
 
 /// A board with a place for the multipole row of each cell with a source, the local row and the radius of each cell with a target, and the box of

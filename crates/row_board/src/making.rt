@@ -13,8 +13,7 @@ ghost use Rattle.row_board.specs.declared.name.Name.{Name};
 
 use crate::board::Board;
 use complex_box::CBox;
-use field_basis::Basis;
-use field_basis::Place;
+use field_basis::{Basis, Place};
 use points::{Point, Points};
 use quadtree::{Tree, TreeFault};
 use std::alloc::{AllocError, Global};

@@ -8,8 +8,7 @@ ghost use Rattle.field_basis.specs.Target.{all_pairs, target_at, values_of};
 
 use crate::value::target_value;
 use complex_box::Work;
-use field_basis::Basis;
-use field_basis::{Place, TargetPlace};
+use field_basis::{Basis, Place, TargetPlace};
 
 /// Writes the box of each target, in the order of the list, and the pairs that were summed for it: together those of the U entries of all
 /// cells. The boxes are those of the field and contain the direct sums at the targets, and no end is larger in size

@@ -12,9 +12,8 @@ ghost use Rattle.near_field.specs.DirectSum.{direct_sum};
 use crate::u_entries::u_pairs;
 use crate::w_entries::{w_radius, w_values};
 use complex_box::{CBox, Work};
-use field_basis::Basis;
+use field_basis::{Basis, Place};
 use local_expansion::at_local;
-use field_basis::Place;
 
 /// The box of the k-th target, counted from 0: the value of its leaf's local row, those of the multipole rows of the leaf's W entries, and the
 /// pairs with the sources of its U entries, widened by the leaf's radius and by what the W entries can lose. It contains the direct sum at the

@@ -15,9 +15,8 @@ ghost use Rattle.target_values.specs.Values.{value_of_cell, loss_of_cell};
 
 use complex_box::CBox;
 use error_ledger::Ledger;
-use field_basis::Basis;
+use field_basis::{Basis, Place};
 use multipole::at_multipole;
-use field_basis::Place;
 use points::Point;
 
 /// The value of the multipole row of the cell `c` at a target far from it.

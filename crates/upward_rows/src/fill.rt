@@ -13,8 +13,8 @@ ghost use Rattle.upward_rows.specs.Behind.{AreBehind};
 
 use crate::sources::sum_sources;
 use complex_box::{CBox, Work, clear};
-use multipole_shift::shift_up;
 use field_basis::Place;
+use multipole_shift::shift_up;
 use points::Point;
 use quadtree::Tree;
 
