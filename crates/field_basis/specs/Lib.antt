@@ -7,6 +7,7 @@ pub mod Inside
 pub mod InsidePlace
 pub mod InsideTarget
 pub mod Lent
+pub mod MadePlaces
 pub mod Place
 pub mod Target
 pub mod Targets

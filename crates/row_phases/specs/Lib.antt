@@ -1,0 +1,2 @@
+-- What the contracts cite: which levels are finished.
+pub mod Levels
