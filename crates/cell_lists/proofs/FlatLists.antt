@@ -42,17 +42,3 @@ lists_total items (r ∷ rs) h =
 
 pub total_is : (items : List ℕ) (ranges : List Range) (lists : List (List ℕ)) → AreRanges items ranges → lists_in items ranges ≡ lists → length items ≡ sum_by (λ (l : List ℕ). length l) lists
 total_is items ranges lists h is = h.filled ∙ sym (lists_total items ranges h.each) ∙ ap (sum_by (λ (l : List ℕ). length l)) is
-
--- one more range, to the new end
-pub ranges_push : (items more items' : List ℕ) (ranges ranges' : List Range) (r : Range) → items' ≡ items ++ more → ranges' ≡ ranges ++ r ∷ [] → r.from ≡ length items → r.to ≡ length items' → AreRanges items ranges → AreRanges items' ranges'
-ranges_push items more items' ranges ranges' r grown pushed from to h =
-    let n : length items' ≡ length items + length more = ap length grown ∙ length-append items more in
-    let P : List Range → Type 0 = λ l. AreRanges items' l in
-    subst P (sym pushed) (record {
-      each = All-push (IsRange items') ranges r (All-weaker (IsRange items) (IsRange items') (λ q k. record { ordered = k.ordered; in_range = omega (arith, k.in_range, n) }) ranges h.each) (record { ordered = omega (arith, from, to, n); in_range = omega (arith, to) });
-      filled = omega (arith, n, h.filled, from, to, sum_by-append (λ (q : Range). q.to - q.from) ranges (r ∷ []), sum_by-cons (λ (q : Range). q.to - q.from) r []);
-    })
-
--- what is kept where the ranges stay
-pub ranges_kept : (items items' : List ℕ) (ranges ranges' : List Range) → items' ≡ items → ranges' ≡ ranges → AreRanges items ranges → AreRanges items' ranges'
-ranges_kept items items' ranges ranges' ei er h = let P : List ℕ → Type 0 = λ l. AreRanges l ranges' in let Q : List Range → Type 0 = λ l. AreRanges items l in subst P (sym ei) (subst Q (sym er) h)

@@ -169,11 +169,6 @@ neg_le_absolute p = by_absolute (λ z. neg_ℚ p ≤ℚ z) p (λ h. ≤ℚ-trans
 pub absolute_le : (p r : ℚ) → p ≤ℚ r → neg_ℚ p ≤ℚ r → absolute p ≤ℚ r
 absolute_le p r h k = by_absolute (λ z. z ≤ℚ r) p (λ l. h) (λ l. k)
 
--- |p + q| <= |p| + |q|
-pub absolute_add : (p q : ℚ) → absolute (p +ℚ q) ≤ℚ absolute p +ℚ absolute q
-absolute_add p q = absolute_le _ _ (add_mono (le_absolute p) (le_absolute q))
-    (subst (λ z. z ≤ℚ absolute p +ℚ absolute q) (ring2 rational_ring p q (λ p q. search quotes depth 9) tt) (add_mono (neg_le_absolute p) (neg_le_absolute q)))
-
 -- p <= q since q is p and something that is at least 0
 pub le_plus : (d : ℚ) {p q : ℚ} → of_int (pos 0) ≤ℚ d → q ≡ p +ℚ d → p ≤ℚ q
 le_plus d {p} {q} h e = rw e (subst (λ z. z ≤ℚ p +ℚ d) (+ℚ-zero p) (add_mono (≤ℚ-refl p) h))
@@ -192,8 +187,3 @@ pub absolute_neg : (p : ℚ) → absolute (neg_ℚ p) ≡ absolute p
 absolute_neg p = ≤ℚ-antisym _ _
     (absolute_le _ _ (neg_le_absolute p) (subst (λ z. z ≤ℚ absolute p) (ring1 rational_ring p (λ p. search quotes depth 9) tt) (le_absolute p)))
     (absolute_le _ _ (subst (λ z. z ≤ℚ absolute (neg_ℚ p)) (ring1 rational_ring p (λ p. search quotes depth 9) tt) (neg_le_absolute (neg_ℚ p))) (le_absolute (neg_ℚ p)))
-
--- a c <= b d from a <= b and c <= d, all at least 0
-pub mul_mono_both : {a b c d : ℚ} → of_int (pos 0) ≤ℚ a → a ≤ℚ b → of_int (pos 0) ≤ℚ c → c ≤ℚ d → a *ℚ c ≤ℚ b *ℚ d
-mul_mono_both {a} {b} {c} {d} a≥0 h c≥0 k = ≤ℚ-trans _ _ _ (mul_mono a a≥0 k) (subst₂ (λ p q. p ≤ℚ q)
-    (ring2 rational_ring a d (λ a d. search quotes depth 9) tt) (ring2 rational_ring b d (λ b d. search quotes depth 9) tt) (mul_mono d (≤ℚ-trans _ _ _ c≥0 k) h))

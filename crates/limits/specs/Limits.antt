@@ -60,3 +60,7 @@ most_box grid = by_grid grid (2 ^ 84 - 1) (2 ^ 94 - 1)
 -- the greatest size of an end that is printed, in any version
 abbrev pub most_printed : ℕ
 most_printed = 2 ^ 96
+
+-- the greatest number of workers of a solve, in any version
+abbrev pub most_workers : ℕ
+most_workers = 64

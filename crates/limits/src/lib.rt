@@ -19,6 +19,9 @@ pub const MOST_STRENGTH: u64 = 1_048_576;
 /// The greatest number of points at one place.
 pub const MOST_AT_A_PLACE: usize = 4096;
 
+/// The greatest number of workers of a solve.
+pub const MOST_WORKERS: u32 = 64;
+
 /// Whether it is a version of the text: 1 or 2.
 pub fn is_version(version: u8) -> bool
     ensures { IsTrue result ↔ IsVersion version }
