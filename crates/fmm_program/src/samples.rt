@@ -1,5 +1,5 @@
 //! The command `sample`.
-ghost use Rattle.std.specs.Prelude.{◌≡◌, ◌≢◌, ℕ, ◌≤◌, decimal, IfSome, IfNone};
+ghost use Rattle.std.specs.Prelude.{◌≡◌, ◌≢◌, ℕ, ◌≤◌, [], ◌∷◌, codes, decimal, IfSome, IfNone};
 ghost use Rattle.exact_math.specs.Orders.{IsCapacity};
 ghost use Rattle.limits.specs.Limits.{first_grid, grid_of, most_points};
 ghost use Rattle.points.specs.Limits.{IsOrderOf, WithinLimits};
@@ -10,11 +10,12 @@ ghost use Rattle.fmm_program.specs.Endings.{IsEnding, TellsFaults, flow, untold}
 ghost use Rattle.fmm_program.specs.Runs.{SampleRun};
 ghost use Rattle.fmm_program.specs.SampleAnswers.{SampleAnswers};
 ghost use Rattle.fmm_program.specs.Samples.{IsSample};
+ghost use Rattle.fmm_program.specs.Workers.{HasWorkers};
 
 use crate::orders::at_order;
 use crate::refusals::refuse_depth;
 use crate::status::Status;
-use crate::words::{Words, capacity_of, number_in, order_of};
+use crate::words::{Words, capacity_of, number_in, order_of, workers_behind};
 use field_solve::Field;
 use io_ports::Sink;
 use limits::{FIRST_GRID, most_order};
@@ -23,13 +24,14 @@ use points::Points;
 use sample_summary::write_summary;
 use std::alloc::Global;
 
-/// The command `sample SEED N ORDER CAP`.
+/// The command `sample SEED N ORDER CAP [WORKERS]`.
 #[derive(Clone, Copy, Debug, PartialEq, Eq)]
 pub(crate) struct SampleCommand {
     pub(crate) seed: u32,
     pub(crate) count: u32,
     pub(crate) order: u32,
     pub(crate) cap: u32,
+    pub(crate) workers: u32,
 }
 
 /// The order of a sample whose decimal a word is.
@@ -46,21 +48,24 @@ fn sample_order_of(word: &str) -> Option<u32>
 
 /// The sample that the words ask for; `None` where they ask for none.
 pub(crate) fn asked_sample(words: &Words) -> Option<SampleCommand>
-    ensures some { IfSome result (λ c. IsSample words.now c.seed c.count c.order c.cap) }
+    ensures some { IfSome result (λ c. IsSample words.now c.seed c.count c.order c.cap
+        × HasWorkers words.now (codes "sample" ∷ decimal c.seed ∷ decimal c.count ∷ decimal c.order ∷ decimal c.cap ∷ []) c.workers) }
     ensures none { IfNone result ((seed n order cap : ℕ) → IsSample words.now seed n order cap → ⊥) }
 {
-    if words.count() != 5 || words.word(0) != "sample" {
+    if words.count() < 5 || words.word(0) != "sample" {
         return None;
     }
     let seed = number_in(words.word(1), 0, u32::MAX)?;
     let count = number_in(words.word(2), 1, most_sampled())?;
     let order = sample_order_of(words.word(3))?;
     let cap = capacity_of(words.word(4))?;
+    let workers = workers_behind(words, 5)?;
     Some(SampleCommand {
         seed,
         count,
         order,
         cap,
+        workers,
     })
 }
 

@@ -79,6 +79,18 @@ fn reports(rt: HostRuntime) -> Result<(), Fail> {
     Ok(())
 }
 
+/// The number of workers changes no byte.
+#[test]
+fn workers(rt: HostRuntime) -> Result<(), Fail> {
+    for workers in ["1", "2", "64"] {
+        let words = ["solve", "8", "8", "-", workers];
+        for &(text, report) in &REPORTS {
+            expect(&rt, rt.alloc(), &words, text, SURE, Status::Done, report)?;
+        }
+    }
+    Ok(())
+}
+
 #[test]
 fn one_byte_at_a_time(rt: HostRuntime) -> Result<(), Fail> {
     let bytewise = Ports { step: 1, ..SURE };
@@ -237,16 +249,20 @@ const USAGE: &[u8] =
     b"usage: fmm solve ORDER CAP FILE [WORKERS] | check FILE | session ORDER CAP | sample SEED N ORDER CAP [WORKERS]\n";
 
 /// Words that are no command.
-const WRONG: [&[&str]; 12] = [
+const WRONG: [&[&str]; 16] = [
     &["solve", "5", "8", "-"],
     &["solve", "8", "7", "-"],
     &["solve", "8", "8", "-", "65"],
+    &["solve", "8", "8", "-", "0"],
+    &["solve", "8", "8", "-", "01"],
+    &["solve", "8", "8", "-", "2", "2"],
     &["check", "-"],
     &["solve", "08", "8", "-"],
     &["solve", "8", "8"],
     &["sample", "0", "0", "8", "32"],
     &["sample", "4294967296", "2", "8", "32"],
-    &["sample", "0", "2", "8", "32", "1"],
+    &["sample", "0", "2", "8", "32", "65"],
+    &["sample", "0", "2", "8", "32", "2", "2"],
     // Samples are of version 1.
     &["sample", "0", "2", "32", "32"],
     &["sample", "0", "65537", "8", "32"],
@@ -290,6 +306,8 @@ fn wrong_words_open_nothing(rt: HostRuntime) -> Result<(), Fail> {
 fn a_solve_opens_its_input(rt: HostRuntime) -> Result<(), Fail> {
     let words = words_of(rt.alloc(), &SOLVE)?;
     assert_eq!(rt; words.count(), 4);
+    assert!(rt; matches!(plan(&words), Opening::SolveInput));
+    let words = words_of(rt.alloc(), &["solve", "8", "8", "-", "64"])?;
     assert!(rt; matches!(plan(&words), Opening::SolveInput));
     Ok(())
 }

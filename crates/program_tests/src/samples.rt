@@ -26,6 +26,16 @@ fn two_points(rt: HostRuntime) -> Result<(), Fail> {
     has_summary(&rt, rt.alloc(), &TWO_POINTS, TWO_POINTS_SUMMARY)
 }
 
+/// The number of workers changes no byte.
+#[test]
+fn workers(rt: HostRuntime) -> Result<(), Fail> {
+    for workers in ["1", "2", "64"] {
+        let words = ["sample", "0", "2", "8", "32", workers];
+        has_summary(&rt, rt.alloc(), &words, TWO_POINTS_SUMMARY)?;
+    }
+    Ok(())
+}
+
 #[test]
 fn a_sample_opens_nothing(rt: HostRuntime) -> Result<(), Fail> {
     let words = words_of(rt.alloc(), &TWO_POINTS)?;
