@@ -16,13 +16,15 @@ use crate::orders::at_order;
 use crate::refusals::refuse_depth;
 use crate::status::Status;
 use crate::words::{Words, capacity_of, number_in, order_of, workers_behind};
+use crate::workshop::Workshop;
 use field_solve::Field;
 use io_ports::Sink;
 use limits::{FIRST_GRID, most_order};
 use point_sample::{most_sampled, sample_points};
 use points::Points;
+use row_phases::Gate;
 use sample_summary::write_summary;
-use std::alloc::Global;
+use std::thread::Threads;
 
 /// The command `sample SEED N ORDER CAP [WORKERS]`.
 #[derive(Clone, Copy, Debug, PartialEq, Eq)]
@@ -92,8 +94,8 @@ fn summarize_field<const P: usize, O: Sink>(
 }
 
 /// Solves the points of a sample at the order `P`, and writes the summary of their field or the line that refuses them.
-fn summarize<const P: usize, O: Sink>(
-    alloc: Global,
+fn summarize<const P: usize, R: Threads + Sync, G: Gate, O: Sink>(
+    shop: &Workshop<'_, R, G>,
     seed: u32,
     points: &Points,
     cap: u32,
@@ -108,7 +110,7 @@ fn summarize<const P: usize, O: Sink>(
     ensures write { TellsFaults result (flow (O.held out.old) (O.held out.new) (O.faults out.old) (O.faults out.new)) }
     ensures read { result ≡ Status.ReadFault → ⊥ }
 {
-    match field_solve::solve::<P>(alloc, points, cap) {
+    match field_solve::solve::<P>(shop.alloc, points, cap) {
         Ok(field) => summarize_field(seed, points, cap, &field, out),
         Err(fault) => refuse_depth(fault, out),
     }
@@ -118,7 +120,11 @@ fn summarize<const P: usize, O: Sink>(
 ///
 /// The sink gets all that goes out with the answer; after a write fault it took a prefix of that, and after want of
 /// memory nothing.
-pub(crate) fn sample<O: Sink>(alloc: Global, command: SampleCommand, out: &mut O) -> Status
+pub(crate) fn sample<R: Threads + Sync, G: Gate, O: Sink>(
+    shop: &Workshop<'_, R, G>,
+    command: SampleCommand,
+    out: &mut O,
+) -> Status
     requires most { command.count ≤ most_points first_grid }
     requires order { IsOrderOf first_grid command.order }
     requires capacity { IsCapacity command.cap }
@@ -128,8 +134,19 @@ pub(crate) fn sample<O: Sink>(alloc: Global, command: SampleCommand, out: &mut O
 {
     let seed = command.seed;
     let cap = command.cap;
-    let Ok(points) = sample_points(alloc, seed, command.count) else {
+    let Ok(points) = sample_points(shop.alloc, seed, command.count) else {
         return Status::Memory;
     };
-    at_order!(command.order, summarize, O, alloc, seed, &points, cap, out)
+    at_order!(
+        command.order,
+        summarize,
+        R,
+        G,
+        O,
+        shop,
+        seed,
+        &points,
+        cap,
+        out
+    )
 }

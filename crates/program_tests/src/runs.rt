@@ -4,9 +4,11 @@ ghost use Rattle.std.specs.Prelude.{◌<◌};
 use crate::ports::{Ports, SOLVE, SURE, expect, flush_fails, words_of};
 use fmm_program::{Opening, Status, plan, run};
 use io_ports::{BrokenSink, BrokenSource, DropSink, MemSink, SureSource};
+use row_phases::OpenGate;
 use std::alloc::Global;
 use std::process::Abort;
 use std::test::Fail;
+use std::thread::Threads;
 
 const SOLVE_WIDE: [&str; 4] = ["solve", "8", "1024", "-"];
 
@@ -61,8 +63,8 @@ const REPORTS: [(&[u8], &[u8]); 11] = [
 ];
 
 /// What a solve of this text ends with and writes.
-fn solves(
-    rt: &impl Abort,
+fn solves<R: Abort + Threads + Sync>(
+    rt: &R,
     alloc: Global,
     text: &[u8],
     status: Status,
@@ -140,8 +142,8 @@ fn long_numbers(rt: HostRuntime) -> Result<(), Fail> {
 }
 
 /// What a solve of this text with 1024 points a leaf ends with and writes.
-fn solves_wide(
-    rt: &impl Abort,
+fn solves_wide<R: Abort + Threads + Sync>(
+    rt: &R,
     alloc: Global,
     text: &[u8],
     status: Status,
@@ -171,8 +173,8 @@ fn long(rt: HostRuntime) -> Result<(), Fail> {
 }
 
 /// What a solve over ports that fail ends with and writes.
-fn fails(
-    rt: &impl Abort,
+fn fails<R: Abort + Threads + Sync>(
+    rt: &R,
     alloc: Global,
     ports: Ports<'_>,
     status: Status,
@@ -218,12 +220,14 @@ fn a_broken_source(rt: HostRuntime) -> Result<(), Fail> {
     let words = words_of(rt.alloc(), &SOLVE)?;
     let mut out = MemSink::with_room(rt.alloc(), 64, 64, Vec::new(rt.alloc()))?;
     let answer = run(
+        &rt,
         rt.alloc(),
         &words,
         &mut BrokenSource::new(),
         &mut SureSource::new(Vec::new(rt.alloc())),
         &mut out,
         &mut DropSink,
+        &OpenGate,
     );
     assert_eq!(rt; (answer, out.held()), (Status::ReadFault, b"".as_slice()));
     Ok(())
@@ -234,12 +238,14 @@ fn a_broken_sink(rt: HostRuntime) -> Result<(), Fail> {
     let words = words_of(rt.alloc(), &SOLVE)?;
     let mut points = SureSource::new(Vec::from_slice(rt.alloc(), ONE_PAIR)?);
     let answer = run(
+        &rt,
         rt.alloc(),
         &words,
         &mut points,
         &mut SureSource::new(Vec::new(rt.alloc())),
         &mut BrokenSink::new(),
         &mut DropSink,
+        &OpenGate,
     );
     assert_eq!(rt; answer, Status::WriteFault);
     Ok(())

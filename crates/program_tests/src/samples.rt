@@ -4,9 +4,15 @@ use fmm_program::{Opening, Status, plan};
 use std::alloc::Global;
 use std::process::Abort;
 use std::test::Fail;
+use std::thread::Threads;
 
 /// The sample that the words ask for has this summary.
-fn has_summary(rt: &impl Abort, alloc: Global, words: &[&str], summary: &str) -> Result<(), Fail> {
+fn has_summary<R: Abort + Threads + Sync>(
+    rt: &R,
+    alloc: Global,
+    words: &[&str],
+    summary: &str,
+) -> Result<(), Fail> {
     let text = summary.as_bytes();
     expect(rt, alloc, words, b"", SURE, Status::Done, text)
 }
