@@ -57,8 +57,8 @@ fn holds(rt: &impl Abort, sink: &MemSink, written: &[u8]) {
 
 /// What a run of the words on a text writes, where the gate is told of each run of places. It ends with this status, and
 /// nothing is read or written beside that.
-pub fn gated_output<R: Abort + Threads + Sync, G: Gate>(
-    rt: &R,
+pub fn gated_output<G: Gate>(
+    rt: &(impl Abort + Threads + Sync),
     alloc: Global,
     words: &[&str],
     text: &[u8],
@@ -88,8 +88,8 @@ pub fn gated_output<R: Abort + Threads + Sync, G: Gate>(
 }
 
 /// What a run of the words on a text writes. It ends with this status, and nothing is read or written beside that.
-pub fn output_of<R: Abort + Threads + Sync>(
-    rt: &R,
+pub fn output_of(
+    rt: &(impl Abort + Threads + Sync),
     alloc: Global,
     words: &[&str],
     text: &[u8],
@@ -102,8 +102,8 @@ pub fn output_of<R: Abort + Threads + Sync>(
 }
 
 /// Runs the words on a text, and compares how it ended and what it wrote. Nothing is read or written beside that.
-pub fn expect<R: Abort + Threads + Sync>(
-    rt: &R,
+pub fn expect(
+    rt: &(impl Abort + Threads + Sync),
     alloc: Global,
     words: &[&str],
     text: &[u8],
@@ -119,8 +119,8 @@ pub fn expect<R: Abort + Threads + Sync>(
 }
 
 /// Runs the words on a text where all is written, a byte at a time, and the flush behind it fails.
-pub fn flush_fails<R: Abort + Threads + Sync>(
-    rt: &R,
+pub fn flush_fails(
+    rt: &(impl Abort + Threads + Sync),
     alloc: Global,
     words: &[&str],
     text: &[u8],

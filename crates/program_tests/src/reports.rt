@@ -5,6 +5,7 @@ use fmm_program::Status;
 use std::alloc::Global;
 use std::process::Abort;
 use std::test::Fail;
+use std::thread::Threads;
 
 /// What is known of a report.
 #[derive(Clone, Copy)]
@@ -29,7 +30,12 @@ pub fn is_report(rt: &impl Abort, bytes: &[u8], known: &Report<'_>) -> Result<()
 }
 
 /// The text has this report.
-fn reports(rt: &impl Abort, alloc: Global, text: &str, known: &Report<'_>) -> Result<(), Fail> {
+fn reports(
+    rt: &(impl Abort + Threads + Sync),
+    alloc: Global,
+    text: &str,
+    known: &Report<'_>,
+) -> Result<(), Fail> {
     let words = ["solve", known.order, known.cap, "-"];
     let out = output_of(rt, alloc, &words, text.as_bytes(), SURE, Status::Done)?;
     is_report(rt, out.held(), known)

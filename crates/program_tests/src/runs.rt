@@ -63,8 +63,8 @@ const REPORTS: [(&[u8], &[u8]); 11] = [
 ];
 
 /// What a solve of this text ends with and writes.
-fn solves<R: Abort + Threads + Sync>(
-    rt: &R,
+fn solves(
+    rt: &(impl Abort + Threads + Sync),
     alloc: Global,
     text: &[u8],
     status: Status,
@@ -142,8 +142,8 @@ fn long_numbers(rt: HostRuntime) -> Result<(), Fail> {
 }
 
 /// What a solve of this text with 1024 points a leaf ends with and writes.
-fn solves_wide<R: Abort + Threads + Sync>(
-    rt: &R,
+fn solves_wide(
+    rt: &(impl Abort + Threads + Sync),
     alloc: Global,
     text: &[u8],
     status: Status,
@@ -173,8 +173,8 @@ fn long(rt: HostRuntime) -> Result<(), Fail> {
 }
 
 /// What a solve over ports that fail ends with and writes.
-fn fails<R: Abort + Threads + Sync>(
-    rt: &R,
+fn fails(
+    rt: &(impl Abort + Threads + Sync),
     alloc: Global,
     ports: Ports<'_>,
     status: Status,

@@ -7,8 +7,8 @@ use std::test::Fail;
 use std::thread::Threads;
 
 /// The sample that the words ask for has this summary.
-fn has_summary<R: Abort + Threads + Sync>(
-    rt: &R,
+fn has_summary(
+    rt: &(impl Abort + Threads + Sync),
     alloc: Global,
     words: &[&str],
     summary: &str,

@@ -4,6 +4,7 @@ use fmm_program::Status;
 use std::alloc::Global;
 use std::process::Abort;
 use std::test::Fail;
+use std::thread::Threads;
 use test_points::{full_text, text_of};
 
 /// The first line of the points.
@@ -80,7 +81,11 @@ const TREES: [Tree<'static>; 6] = [
 ];
 
 /// The tree's points give its report.
-fn tree_reports(rt: &impl Abort, alloc: Global, tree: &Tree<'_>) -> Result<(), Fail> {
+fn tree_reports(
+    rt: &(impl Abort + Threads + Sync),
+    alloc: Global,
+    tree: &Tree<'_>,
+) -> Result<(), Fail> {
     let text = text_of(alloc, HEAD, &tree.points)?;
     let head = format!(in alloc; "fmm report 1 field order {} cap 8\n", tree.order)?;
     let report = text_of(alloc, &head, &[tree.targets, (1, tree.work), (1, "end\n")])?;

@@ -164,8 +164,8 @@ const CASES: [Case<'static>; 12] = [
 ];
 
 /// The text of a version gets this answer.
-fn answers<R: Abort + Threads + Sync>(
-    rt: &R,
+fn answers(
+    rt: &(impl Abort + Threads + Sync),
     alloc: Global,
     version: &str,
     case: &Case<'_>,

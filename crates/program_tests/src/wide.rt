@@ -169,8 +169,8 @@ const SOLVES: [Solve<'static>; 6] = [
 ];
 
 /// The points have this report.
-fn solve_reports<R: Abort + Threads + Sync>(
-    rt: &R,
+fn solve_reports(
+    rt: &(impl Abort + Threads + Sync),
     alloc: Global,
     solve: &Solve<'_>,
 ) -> Result<(), Fail> {
@@ -191,8 +191,8 @@ fn wide_reports(rt: HostRuntime) -> Result<(), Fail> {
 }
 
 /// A solve at order 4 with 8 points a leaf refuses the text with this line.
-fn is_refused<R: Abort + Threads + Sync>(
-    rt: &R,
+fn is_refused(
+    rt: &(impl Abort + Threads + Sync),
     alloc: Global,
     text: &[u8],
     line: &str,
@@ -211,8 +211,8 @@ fn one_unit_too_heavy(rt: HostRuntime) -> Result<(), Fail> {
 }
 
 /// The charges of the text are solved: so many translations, no pairs, and no line of a target.
-fn has_translations<R: Abort + Threads + Sync>(
-    rt: &R,
+fn has_translations(
+    rt: &(impl Abort + Threads + Sync),
     alloc: Global,
     text: &[u8],
     translations: u32,
