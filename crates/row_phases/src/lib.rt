@@ -7,6 +7,8 @@
 
 mod crew;
 mod gate;
+mod levels;
+mod up;
 
 pub use crew::Crew;
 pub use gate::{Gate, OpenGate, Piece};
