@@ -12,7 +12,7 @@ use Rattle.quadtree.specs.TreeModel.{size, square_of, IsLevel}
 use Rattle.tree_field.specs.Program.{source_children}
 use Rattle.upward_rows.proofs.Children.{source_child_is}
 use Rattle.upward_rows.specs.Behind.{AreBehind, IsBehind}
-use Rattle.row_phases.specs.Levels.{AreMadeFrom}
+use Rattle.row_phases.specs.Levels.{AreAllMadeUp, AreMadeFrom}
 use Rattle.row_phases.specs.UpRuns.{IsRunAbove}
 
 -- places are cut at `first` and at `end`
@@ -108,3 +108,13 @@ module _ (P : ℕ) (b : BasisModel) (level first end : ℕ) (is_level : IsLevel 
                     ]
               ];
         }
+
+-- ---- from no level to all
+pub none_made : (P : ℕ) (b : BasisModel) (levels : ℕ) (places : List PlaceModel) → length places ≡ size b.tree → ((n : ℕ) → n < size b.tree → (square_of b.tree n).level < levels) → AreMadeFrom P b levels places
+none_made P b levels places many last = record { as_many = many; each = λ n inside deep. absurd (let lt = last n inside in omega (arith, lt, deep)) }
+
+pub one_more : (P : ℕ) (b : BasisModel) (level : ℕ) (places : List PlaceModel) → 0 < level → AreMadeFrom P b level places → AreMadeFrom P b (level - 1 + 1) places
+one_more P b level places lo made = let e : level ≡ level - 1 + 1 = omega (arith, lo) in subst (λ l. AreMadeFrom P b l places) e made
+
+pub all_made : (P : ℕ) (b : BasisModel) (level : ℕ) (places : List PlaceModel) → level ≤ 0 → AreMadeFrom P b level places → AreAllMadeUp P b places
+all_made P b level places none made = record { as_many = made.as_many; each = λ n inside. made.each n inside (omega (arith, none)) }

@@ -12,3 +12,4 @@ mod up;
 
 pub use crew::Crew;
 pub use gate::{Gate, OpenGate, Piece};
+pub use up::{fill_up, fill_up_alone};

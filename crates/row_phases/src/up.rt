@@ -105,3 +105,30 @@ fn level_by_crew<const P: usize, R: Threads + Sync, G: Gate>(
     let (_, run) = front.split_at_mut(range.start);
     run_by_crew(crew, basis, level, behind, range.start, run);
 }
+
+/// Makes the multipole rows of all cells on the calling thread, level by level from the deepest to the root, whatever stood in their places, and keeps in each
+/// how many rows were shifted into it.
+///
+/// Condition: there is a place for each cell.
+pub fn fill_up_alone<const P: usize>(basis: &Basis<P>, places: &mut [Place<P>])
+    requires len { length places.old ≡ size basis.now.tree }
+    ensures made { AreAllMadeUp P basis.now places.new }
+{
+    for level in (0..level_count(&basis.tree)).rev() {
+        level_alone(basis, level, places);
+    }
+}
+
+/// Makes the multipole rows of all cells by workers, as `fill_up_alone` does, and under its condition.
+pub fn fill_up<const P: usize, R: Threads + Sync, G: Gate>(
+    crew: &Crew<R, G>,
+    basis: &Basis<P>,
+    places: &mut [Place<P>],
+)
+    requires len { length places.old ≡ size basis.now.tree }
+    ensures made { AreAllMadeUp P basis.now places.new }
+{
+    for level in (0..level_count(&basis.tree)).rev() {
+        level_by_crew(crew, basis, level, places);
+    }
+}

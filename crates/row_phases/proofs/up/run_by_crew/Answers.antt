@@ -1,7 +1,7 @@
 -- Each part is a run, and each place lies in one.
-use Rattle.std.proofs.Common.{rules, ◌≡◌, ◌+◌, length, subst, arith, lit<}
+use Rattle.std.proofs.Common.{rules, ℕ, ◌≡◌, ◌+◌, length, subst, arith, lit<}
 use Rattle.field_basis.specs.MadePlaces.{IsMadeUp}
-use Rattle.field_basis.specs.Place.{no_place, place_at}
+use Rattle.field_basis.specs.Place.{PlaceModel, no_place, place_at}
 use Rattle.row_phases.proofs.up.run_by_crew.Goals as goal
 
 pub for_each_chunk_mut-requires-clause-accepts : goal.for_each_chunk_mut-requires-clause-accepts
@@ -26,6 +26,6 @@ for_each_chunk_mut-requires-clause-accepts g c κs within start p chunk = (
 pub returns : goal.returns
 returns g c k lt =
     let here = (c.for_each_chunk_mut.ensures.by_index k no_place lt).1 in
+    let made : ℕ → PlaceModel → Type 0 = IsMadeUp g.row.P c.args.basis.now.points c.args.basis.now.tree in
     let e : c.args.first + here.start + here.offset ≡ c.args.first + k = omega (arith, here.start_plus_offset) in
-    subst (IsMadeUp g.row.P c.args.basis.now.points c.args.basis.now.tree (c.args.first + k)) here.new_element
-    (subst (λ n. IsMadeUp g.row.P c.args.basis.now.points c.args.basis.now.tree n (place_at here.after_call.now here.offset)) e (here.call here.offset here.offset_in_chunk))
+    subst (made (c.args.first + k)) {y = place_at c.for_each_chunk_mut.new.s k} here.new_element (subst (λ n. made n (place_at here.after_call.now here.offset)) e (here.call here.offset here.offset_in_chunk))
