@@ -7,6 +7,9 @@
 
 mod crew;
 mod gate;
+mod levels;
+mod up;
 
 pub use crew::Crew;
 pub use gate::{Gate, OpenGate, Piece};
+pub use up::{fill_up, fill_up_alone};
