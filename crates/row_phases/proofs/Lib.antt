@@ -1,1 +1,2 @@
 -- Lemmas of the phases.
+pub mod DownLevels

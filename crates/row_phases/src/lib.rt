@@ -6,7 +6,10 @@
 #![tactic(auto)]
 
 mod crew;
+mod down;
 mod gate;
+mod levels;
 
 pub use crew::Crew;
+pub use down::{fill_down, fill_down_alone};
 pub use gate::{Gate, OpenGate, Piece};
