@@ -1,3 +1,4 @@
 -- Lemmas of the phases.
 pub mod Depth
+pub mod DownLevels
 pub mod UpLevels

@@ -6,10 +6,12 @@
 #![tactic(auto)]
 
 mod crew;
+mod down;
 mod gate;
 mod levels;
 mod up;
 
 pub use crew::Crew;
+pub use down::{fill_down, fill_down_alone};
 pub use gate::{Gate, OpenGate, Piece};
 pub use up::{fill_up, fill_up_alone};
