@@ -6,7 +6,7 @@ use crate::gate::Gate;
 use std::thread::Threads;
 
 /// Workers: the places of a phase are cut into at most `workers` runs, 1 to `limits::MOST_WORKERS`, which threads of `rt` fill, and the gate is told of each.
-#[derive(Clone, Copy)]
+#[derive(Drop)]
 pub struct Crew<'a, R: Threads + Sync, G: Gate> {
     pub rt: &'a R,
     pub workers: u32,

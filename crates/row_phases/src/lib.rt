@@ -7,6 +7,9 @@
 
 mod crew;
 mod gate;
+mod levels;
+mod targets;
 
 pub use crew::Crew;
 pub use gate::{Gate, OpenGate, Piece};
+pub use targets::{fill_targets, fill_targets_alone};
