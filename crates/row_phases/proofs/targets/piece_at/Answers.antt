@@ -1,5 +1,5 @@
 -- There are few targets.
-use Rattle.std.proofs.Common.{◌≡◌, ◌/◌, ◌≤◌, ap, subst, arith, length}
+use Rattle.std.proofs.Common.{◌≤◌, ap, subst, arith, length}
 use Rattle.std.proofs.Math.Nat.{div-le_self}
 use Rattle.field_basis.proofs.Positions.{few_positions}
 use Rattle.field_basis.specs.Basis.{IsBasis}
