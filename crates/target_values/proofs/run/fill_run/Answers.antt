@@ -1,5 +1,5 @@
 -- One place more.
-use Rattle.std.proofs.Common.{◌≡◌, ◌∙◌, ◌+◌, ◌<◌, arith, length, length-set}
+use Rattle.std.proofs.Common.{◌∙◌, ◌+◌, ◌<◌, arith, length, length-set}
 use Rattle.field_basis.specs.MadePlaces.{IsMadeTarget}
 use Rattle.field_basis.specs.Target.{no_target}
 use Rattle.target_values.proofs.PassBoxes.{one_more}

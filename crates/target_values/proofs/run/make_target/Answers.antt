@@ -1,5 +1,5 @@
 -- The place of one target.
-use Rattle.std.proofs.Common.{rules, ◌≡◌, ◌∙◌, ◌<◌, ap, sym, subst, arith, length, get_or}
+use Rattle.std.proofs.Common.{rules, ◌∙◌, ap, sym, subst, arith, get_or}
 use Rattle.exact_math.proofs.Orders.{order_bounds}
 use Rattle.exact_math.specs.Units.{unit}
 use Rattle.cell_lists.specs.ListAt.{list_at}
