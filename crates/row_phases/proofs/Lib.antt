@@ -1,4 +1,3 @@
 -- Lemmas of the phases.
-pub mod Depth
 pub mod DownLevels
 pub mod UpLevels

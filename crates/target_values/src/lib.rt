@@ -3,9 +3,11 @@
 #![tactic(auto)]
 
 mod pass;
+mod run;
 mod u_entries;
 mod value;
 mod w_entries;
 
 pub use pass::value_pass;
+pub use run::fill_run;
 pub use value::target_value;

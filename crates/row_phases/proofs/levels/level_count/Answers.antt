@@ -1,16 +1,18 @@
--- No cell is deeper than the last.
-use Rattle.std.proofs.Common.{◌≡◌, ◌-◌, List, length, sym, subst, arith}
-use Rattle.std.specs.Prelude.{Some, slice_get}
+-- The last cell has the greatest level.
+use Rattle.std.proofs.Common.{◌≡◌, ◌∙◌, ◌-◌, ◌≤◌, length, get_or, ap, arith}
+use Rattle.std.proofs.lemmas.List.{get_or-map}
+use Rattle.cell_name.specs.Cell.{square}
+use Rattle.cell_name.specs.Square.{Square, no_square}
 use Rattle.cell_name.specs.declared.cell.Cell.{Cell}
-use Rattle.row_phases.proofs.Depth.{none_deeper, levels_few}
+use Rattle.quadtree.proofs.LevelRanges.{levels_rise}
+use Rattle.quadtree.specs.TreeModel.{size, square_of}
 use Rattle.row_phases.proofs.levels.level_count.Goals as goal
 
-pub overflow_add-result : goal.overflow_add-result
-overflow_add-result c =
-    let last = subst (λ (l : List Cell). slice_get l (length l - 1) ≡ Some c.in-Some.cell.now) c.cells.ensures.all (sym c.in-Some.ensures.value) in
-    omega (arith, levels_few c.args.tree.now c.cells.ensures.tree c.in-Some.cell.now last)
-
 pub returns-in-Some : goal.returns-in-Some
-returns-in-Some c n inside =
-    let last = subst (λ (l : List Cell). slice_get l (length l - 1) ≡ Some c.in-Some.cell.now) c.cells.ensures.all (sym c.in-Some.ensures.value) in
-    omega (arith, none_deeper c.args.tree.now c.cells.ensures.tree c.in-Some.cell.now last n inside)
+returns-in-Some c n lt =
+    let tree = c.args.tree.now in
+    let cell : Cell = c.in-Some.cell.now in
+    let rise : (get_or tree.cells n cell).level ≤ (get_or tree.cells (size tree - 1) cell).level = levels_rise tree.cells c.cells.ensures.tree.is_tree.cells_are.ascending n (size tree - 1) cell (omega (arith, lt)) (omega (arith, lt)) in
+    let here : (square_of tree n).level ≡ (get_or tree.cells n cell).level = ap (λ (s : Square). s.level) (get_or-map square tree.cells n cell no_square lt) in
+    let last : cell.level ≡ (get_or tree.cells (size tree - 1) cell).level = ap (λ (d : Cell). d.level) (c.in-Some.ensures.item.1 ∙ ap (λ l. get_or l (length l - 1) cell) c.cells.ensures.all) in
+    omega (arith, rise, here, last)
