@@ -68,8 +68,8 @@ module _ (P : ℕ) (b : BasisModel) (level first end : ℕ) (is_level : IsLevel 
       record {
         few = omega (arith, many);
         each = All-from_members (IsBehind P b.points b.tree behind) (source_children b.tree n) (λ m listed.
-        let child = source_child_is b.points b.tree (tree_of_basis P b is) n (omega (arith, before, is_level.in_range)) m listed in
-        child_behind n from before m child.in_range child.behind child.level_is);
+            let child = source_child_is b.points b.tree (tree_of_basis P b is) n (omega (arith, before, is_level.in_range)) m listed in
+            child_behind n from before m child.in_range child.behind child.level_is);
       }
 
   pub level_run : IsBasis P b → IsRunAbove P b behind first (length run)

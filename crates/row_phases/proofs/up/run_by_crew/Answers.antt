@@ -1,5 +1,5 @@
 -- Each part is a run, and each place lies in one.
-use Rattle.std.proofs.Common.{rules, ℕ, ◌≡◌, ◌+◌, length, subst, arith, lit<}
+use Rattle.std.proofs.Common.{rules, ℕ, ◌≡◌, ◌+◌, subst, arith, lit<}
 use Rattle.field_basis.specs.MadePlaces.{IsMadeUp}
 use Rattle.field_basis.specs.Place.{PlaceModel, no_place, place_at}
 use Rattle.row_phases.proofs.up.run_by_crew.Goals as goal
