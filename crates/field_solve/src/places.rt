@@ -1,5 +1,6 @@
 //! The places of a field in an arena.
 ghost use Rattle.std.specs.Prelude.{◌≡◌, length, IfOk};
+ghost use Rattle.exact_math.specs.Orders.{IsOrder};
 ghost use Rattle.quadtree.specs.TreeModel.{size};
 ghost use Rattle.row_phases.specs.Levels.{AreAllMadeLocal, AreAllMadeTargets, AreAllMadeUp};
 
@@ -36,6 +37,7 @@ impl<'a, const P: usize> Places<'a, P> {
 
     /// Fills them, phase by phase, on the calling thread.
     pub(crate) fn fill_alone(&mut self, basis: &Basis<P>)
+        requires order { IsOrder P }
         requires up { length self.old.up.items ≡ size basis.now.tree }
         requires local { length self.old.local.items ≡ size basis.now.tree }
         requires values { length self.old.values.items ≡ length basis.now.targets }
@@ -50,6 +52,7 @@ impl<'a, const P: usize> Places<'a, P> {
 
     /// Fills them, phase by phase, by workers.
     pub(crate) fn fill<R: Threads + Sync, G: Gate>(&mut self, crew: &Crew<R, G>, basis: &Basis<P>)
+        requires order { IsOrder P }
         requires up { length self.old.up.items ≡ size basis.now.tree }
         requires local { length self.old.local.items ≡ size basis.now.tree }
         requires values { length self.old.values.items ≡ length basis.now.targets }

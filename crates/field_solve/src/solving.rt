@@ -88,7 +88,7 @@ impl<'a, const P: usize> Prepared<'a, P> {
 }
 
 /// The basis of a list of points, and places for its field.
-fn prepared<'a, const P: usize>(
+fn prepare<'a, const P: usize>(
     alloc: Global,
     points: &Points,
     cap: u32,
@@ -167,7 +167,7 @@ pub fn solve<'a, const P: usize, R: Threads + Sync, G: Gate>(
     ensures has_tree { OnOk result (HasTree (grid_of points.now.version) points.now.list cap) }
     ensures fault { IfErr result (IsFaultOf (grid_of points.now.version) points.now.list cap) }
 {
-    let prepared = prepared::<P>(alloc, points, cap, arena)?;
+    let prepared = prepare::<P>(alloc, points, cap, arena)?;
     let crew = Crew { rt, workers, gate };
     Ok(prepared.filled(&crew))
 }
@@ -191,5 +191,5 @@ pub fn solve_alone<'a, const P: usize>(
     ensures has_tree { OnOk result (HasTree (grid_of points.now.version) points.now.list cap) }
     ensures fault { IfErr result (IsFaultOf (grid_of points.now.version) points.now.list cap) }
 {
-    Ok(prepared::<P>(alloc, points, cap, arena)?.filled_alone())
+    Ok(prepare::<P>(alloc, points, cap, arena)?.filled_alone())
 }
