@@ -7,7 +7,8 @@ ghost use Rattle.row_phases.specs.Levels.{AreAllMadeLocal, AreAllMadeTargets, Ar
 use bumpalo::Bump;
 use field_basis::{Basis, Place, TargetPlace};
 use row_phases::{
-    Crew, Gate, fill_down, fill_down_alone, fill_targets, fill_targets_alone, fill_up, fill_up_alone,
+    Crew, Gate, fill_down, fill_down_alone, fill_targets, fill_targets_alone, fill_up,
+    fill_up_alone,
 };
 use std::alloc::AllocError;
 use std::thread::Threads;

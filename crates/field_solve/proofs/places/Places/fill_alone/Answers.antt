@@ -7,7 +7,7 @@ use Rattle.row_phases.specs.Levels.{AreAllMadeLocal, AreAllMadeUp}
 use Rattle.field_solve.proofs.places.Places.fill_alone.Goals as goal
 
 pub fill_up_alone-requires : goal.fill_up_alone-requires
-fill_up_alone-requires g c = let few = order_bounds g.row.P c.requires.order in (lit< tt, (omega (arith, few), c.deref_mut.ensures.len ∙ c.requires.up))
+fill_up_alone-requires g c = let few = order_bounds g.row.P c.requires.order in (lit< tt, (omega (arith, few), omega (arith, c.deref_mut.ensures.len, c.requires.up, c.args.self.now.up.ok.0)))
 
 pub fill_down_alone-requires : goal.fill_down_alone-requires
 fill_down_alone-requires g c =
@@ -16,7 +16,7 @@ fill_down_alone-requires g c =
       lit< tt,
       (
         omega (arith, few),
-        (subst (λ (l : List PlaceModel). AreAllMadeUp g.row.P c.args.basis.now l) (sym up) c.fill_up_alone.ensures.made, c.deref_mut-2.ensures.len ∙ c.requires.local),
+        (subst (λ (l : List PlaceModel). AreAllMadeUp g.row.P c.args.basis.now l) (sym up) c.fill_up_alone.ensures.made, omega (arith, c.deref_mut-2.ensures.len, c.requires.local, c.args.self.now.local.ok.0)),
       ),
     )
 
@@ -30,7 +30,7 @@ fill_targets_alone-requires g c =
         omega (arith, few),
         (
           subst (λ (l : List PlaceModel). AreAllMadeUp g.row.P c.args.basis.now l) (sym up) c.fill_up_alone.ensures.made,
-          (subst (λ (l : List PlaceModel). AreAllMadeLocal g.row.P c.args.basis.now l) (sym local) c.fill_down_alone.ensures.made, c.deref_mut-3.ensures.len ∙ c.requires.values),
+          (subst (λ (l : List PlaceModel). AreAllMadeLocal g.row.P c.args.basis.now l) (sym local) c.fill_down_alone.ensures.made, omega (arith, c.deref_mut-3.ensures.len, c.requires.values, c.args.self.now.values.ok.0)),
         ),
       ),
     )
