@@ -3,8 +3,11 @@
 
 use fmm_program::{Opening, Status, Words, plan, run};
 use io_ports::{BrokenSource, DropSink, ReadSource, Sink, Source, SureSource, WriteSink};
+use row_phases::OpenGate;
+use std::alloc::Global;
 use std::fs::File;
 use std::process::ExitCode;
+use std::thread::Threads;
 use std::{env, io};
 
 const INPUT: &str = "standard input";
@@ -24,19 +27,22 @@ fn words(rt: &HostRuntime) -> Option<Words> {
 }
 
 /// Runs the command over this source of points.
-fn answer<A: Source, O: Sink>(
-    rt: &HostRuntime,
+fn answer<R: Threads + Sync, A: Source, O: Sink>(
+    threads: &R,
+    alloc: Global,
     words: &Words,
     points: &mut A,
     out: &mut O,
 ) -> Status {
     run(
-        rt.alloc(),
+        threads,
+        alloc,
         words,
         points,
-        &mut SureSource::new(Vec::new(rt.alloc())),
+        &mut SureSource::new(Vec::new(alloc)),
         out,
         &mut DropSink,
+        &OpenGate,
     )
 }
 
@@ -53,24 +59,34 @@ fn told(rt: &HostRuntime, status: Status, source: &str, fault: &str) -> Status {
 }
 
 /// Opens what the words name, and carries them out.
-fn carry_out<O: Sink>(rt: &HostRuntime, words: &Words, out: &mut O) -> Status {
+fn carry_out<R: Threads + Sync, O: Sink>(
+    rt: &HostRuntime,
+    threads: &R,
+    words: &Words,
+    out: &mut O,
+) -> Status {
+    let alloc = rt.alloc();
     match plan(words) {
         Opening::Nothing => {
-            let mut nothing = SureSource::new(Vec::new(rt.alloc()));
-            told(rt, answer(rt, words, &mut nothing, out), INPUT, "read")
+            let mut nothing = SureSource::new(Vec::new(alloc));
+            let status = answer(threads, alloc, words, &mut nothing, out);
+            told(rt, status, INPUT, "read")
         }
         Opening::SolveInput => {
             let mut points = ReadSource::new(rt.stdin());
-            told(rt, answer(rt, words, &mut points, out), INPUT, "read")
+            let status = answer(threads, alloc, words, &mut points, out);
+            told(rt, status, INPUT, "read")
         }
         Opening::SolveFile { file } => match File::open(rt, file) {
             Ok(points) => {
                 let mut points = ReadSource::new(points);
-                told(rt, answer(rt, words, &mut points, out), file, "read")
+                let status = answer(threads, alloc, words, &mut points, out);
+                told(rt, status, file, "read")
             }
             Err(_) => {
                 let mut points = BrokenSource::new();
-                told(rt, answer(rt, words, &mut points, out), file, "opened")
+                let status = answer(threads, alloc, words, &mut points, out);
+                told(rt, status, file, "opened")
             }
         },
     }
@@ -78,7 +94,7 @@ fn carry_out<O: Sink>(rt: &HostRuntime, words: &Words, out: &mut O) -> Status {
 
 fn main(rt: HostRuntime) -> ExitCode {
     let status = match words(&rt) {
-        Some(words) => carry_out(&rt, &words, &mut WriteSink::new(rt.stdout())),
+        Some(words) => carry_out(&rt, &rt, &words, &mut WriteSink::new(rt.stdout())),
         None => told(&rt, Status::Memory, INPUT, "read"),
     };
     ExitCode::from(status.code())
@@ -109,7 +125,7 @@ mod tests {
                 words.push(alloc, word)?;
             }
             let mut out = MemSink::with_room(alloc, 4096, 64, Vec::new(alloc))?;
-            assert_eq!(rt; carry_out(&rt, &words, &mut out), status);
+            assert_eq!(rt; carry_out(&rt, &rt, &words, &mut out), status);
             assert_eq!(rt; out.held(), written);
         }
         fs::remove_file(&rt, "points.txt")?;

@@ -2,27 +2,40 @@
 #![tactic(auto)]
 
 use fmm_program::{Status, Words, run};
-use io_ports::{DropSink, Memory, SureSource, WriteSink};
+use io_ports::{DropSink, Memory, Sink, SureSource, WriteSink};
+use row_phases::OpenGate;
+use std::alloc::Global;
 use std::process::ExitCode;
+use std::thread::Threads;
 
 const TEXT: &[u8] = b"fmm 1 field\ncharge 0 0 1\ntarget 3 4\n";
 
-fn answer(rt: &HostRuntime) -> Result<Status, Memory> {
-    let alloc = rt.alloc();
+fn answer<R: Threads + Sync, O: Sink>(
+    rt: &R,
+    alloc: Global,
+    out: &mut O,
+) -> Result<Status, Memory> {
     let mut words = Words::new(alloc);
     for word in ["solve", "8", "8", "-"] {
         words.push(alloc, word)?;
     }
     Ok(run(
+        rt,
         alloc,
         &words,
         &mut SureSource::new(Vec::from_slice(alloc, TEXT).map_err(|_| Memory)?),
         &mut SureSource::new(Vec::new(alloc)),
-        &mut WriteSink::new(rt.stdout()),
+        out,
         &mut DropSink,
+        &OpenGate,
     ))
 }
 
 fn main(rt: HostRuntime) -> ExitCode {
-    ExitCode::from(answer(&rt).unwrap_or(Status::Memory).code())
+    let mut out = WriteSink::new(rt.stdout());
+    ExitCode::from(
+        answer(&rt, rt.alloc(), &mut out)
+            .unwrap_or(Status::Memory)
+            .code(),
+    )
 }

@@ -43,7 +43,7 @@ certified order cap input out is_order s =
     let points = s.depth.points in
     let grid = grid_of points.version in
     let some = grid_positive grid (version_has_grid points.version) in
-    let inside : AreInGrid grid points.list = in_grid grid points.list s.depth.read.spelled.limits.within.range in
+    let inside : AreInGrid grid points.list = in_grid grid points.list s.depth.read.1.limits.within.range in
     let boxes = field_contains grid points.list cap order s.lists some (order_bounds order is_order).0 inside s.lists_are in
     record {
       points = points;

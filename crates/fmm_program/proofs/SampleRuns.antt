@@ -1,13 +1,11 @@
 -- How runs of `sample` end: from what the calls answered to the facts of a run.
-use Rattle.std.proofs.Common.{◌≡◌, ◌∙◌, ◌⊎◌, subst, ap, sym, refl, arith, ℕ, inl, inr, List, [], length}
-use Rattle.std.proofs.lemmas.List.FromFn.{length-map-range_with_len}
+use Rattle.std.proofs.Common.{◌≡◌, ◌∙◌, ◌⊎◌, subst, sym, refl, arith, ℕ, inl, inr, List, []}
 use Rattle.std.specs.Io.KnownBytes.{Appends, Keeps}
 use Rattle.std.specs.declared.option.Option.{Option}
 use Rattle.io_ports.specs.Bytes.{AppendsPrefix}
 use Rattle.io_ports.specs.Faults.{Rose}
 use Rattle.limits.specs.Limits.{first_grid, grid_of}
 use Rattle.points.specs.Limits.{WithinLimits}
-use Rattle.points.specs.declared.Point.{Point}
 use Rattle.points.specs.declared.Points.{Points}
 use Rattle.point_sample.specs.Sample.{sample}
 use Rattle.quadtree.proofs.Limits.{in_grid}

@@ -56,7 +56,7 @@ module _ (order cap : ℕ) (input : List ℕ) (out : Flow) (status : Status) whe
 -- what goes out with the report
 module _ (order cap : ℕ) (input : List ℕ) (points : Points) (read : IsRead input points) (most : order ≤ most_order (grid_of points.version)) (has : HasTree (grid_of points.version) points.list cap) (before after : Option (List ℕ)) where
   some : (lists : TreeLists) × AreTreeLists (grid_of points.version) points.list cap lists
-  some = each_list_has_tree (grid_of points.version) points.list cap (grid_positive (grid_of points.version) (version_has_grid points.version)) (in_grid (grid_of points.version) points.list read.spelled.limits.within.range)
+  some = each_list_has_tree (grid_of points.version) points.list cap (grid_positive (grid_of points.version) (version_has_grid points.version)) (in_grid (grid_of points.version) points.list read.1.limits.within.range)
 
   reported : SolveAnswers order cap input Done (plain (field_text points order cap some.0))
   reported = (record { depth = record { points = points; read = read; has_order = most; has_tree = has }; lists = some.0; lists_are = some.1; report = refl }, refl)

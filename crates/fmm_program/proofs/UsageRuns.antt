@@ -17,7 +17,7 @@ pub flushed_usage : (before mid after cert : Option (List ℕ)) → Keeps mid af
     → ((status ≡ Memory) ⊎ (status ≡ ReadFault) → (result ≡ status) × (after ≡ mid)) → (status ≡ Usage) ⊎ (status ≡ WriteFault) → IsEnding (OneLine Usage usage_line) status (flow before mid b m) untold
     → UsageRun result (flow before after b a) (flow cert cert c d)
 flushed_usage before mid after cert kept b m a c d status result stays silent only ends =
-    record { ends = flushed_ends (OneLine Usage usage_line) usage_plain before mid after cert kept b m a c d status result stays silent ends; only = by stays only }
+    (flushed_ends (OneLine Usage usage_line) usage_plain before mid after cert kept b m a c d status result stays silent ends, by stays only)
   where
     by : (result ≡ status) ⊎ (result ≡ WriteFault) → (status ≡ Usage) ⊎ (status ≡ WriteFault) → (result ≡ Usage) ⊎ (result ≡ WriteFault)
     by (inl e) (inl h) = inl (e ∙ h)

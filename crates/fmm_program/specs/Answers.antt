@@ -1,5 +1,5 @@
 -- What `solve` answers, what goes out with each answer, and the certified solve.
-use Rattle.std.specs.Prelude.{ℕ, ◌+◌, ◌*◌, ◌<◌, ◌≤◌, ◌≡◌, ◌⊎◌, List, [], ◌∷◌, ◌++◌, length, codes, decimal, sum_by, Contains}
+use Rattle.std.specs.Prelude.{ℕ, ◌+◌, ◌*◌, ◌<◌, ◌≤◌, ◌≡◌, ◌⊎◌, List, [], ◌++◌, length, codes, decimal, sum_by, Contains}
 use Rattle.std.specs.List.{AllZip}
 use Rattle.cell_lists.specs.Entries.{Accounts, IsTargetAndSource}
 use Rattle.letters.specs.declared.Letter.{Letter}
@@ -50,9 +50,8 @@ crowded_line c n = codes "refused depth crowded cell " ++ decimal c.level ++ cod
 -- ---- what each answer means for the bytes that came, and which bytes go out with it
 
 -- the input is within its limit and spells the points
-pub record IsRead (input : List ℕ) (points : Points) : Type 0 where
-  pub within : length input ≤ most_input
-  pub spelled : Spells input points
+abbrev pub IsRead : List ℕ → Points → Type 0
+IsRead input points = (length input ≤ most_input) × Spells input points
 
 -- Why points have no tree, and the line that says so: too many stand at one place, and the line names the first such place by column and row, and how many they are;
 -- or at none, and the tree has too many cells.

@@ -5,3 +5,4 @@ pub mod Forms
 pub mod Runs
 pub mod SampleAnswers
 pub mod Samples
+pub mod Workers

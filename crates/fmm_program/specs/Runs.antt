@@ -25,9 +25,8 @@ pub record SampleRun (seed n order cap : ℕ) (status : Status) (out cert : Flow
   pub complete : HasTree first_grid (sample seed n).list cap → (HasFault out → ⊥) → (status ≡ Done) ⊎ (status ≡ Memory)
 
 -- The facts of a run of words that are of no form.
-pub record UsageRun (status : Status) (out cert : Flow) : Type 0 where
-  pub ends : IsEnding (OneLine Usage usage_line) status out cert
-  pub only : (status ≡ Usage) ⊎ (status ≡ WriteFault)
+abbrev pub UsageRun : Status → Flow → Flow → Type 0
+UsageRun status out cert = IsEnding (OneLine Usage usage_line) status out cert × ((status ≡ Usage) ⊎ (status ≡ WriteFault))
 
 -- The certified solve: what came is a text, all of it, and what was written is a certified report of it.
 pub record CertifiedRun (order cap : ℕ) (points out : Flow) : Type 0 where

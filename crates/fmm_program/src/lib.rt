@@ -9,6 +9,7 @@ mod solve;
 mod status;
 mod top;
 mod words;
+mod workshop;
 
 pub use commands::{Opening, plan};
 pub use point_sample::sample_points;

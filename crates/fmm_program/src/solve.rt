@@ -15,13 +15,15 @@ ghost use Rattle.fmm_program.specs.Runs.{SolveRun};
 use crate::orders::at_order;
 use crate::refusals::{refuse, refuse_depth, refuse_text};
 use crate::status::Status;
+use crate::workshop::Workshop;
 use field_report::write_report;
 use field_solve::Field;
 use io_ports::{InFault, Sink, Source, read_all};
 use limits::{grid_of, most_order};
 use particle_text::{ParseFault, parse};
 use points::Points;
-use std::alloc::Global;
+use row_phases::Gate;
+use std::thread::Threads;
 
 /// The greatest number of bytes of an input.
 const MOST_INPUT: u64 = 16_777_216;
@@ -49,8 +51,8 @@ fn answer_field<const P: usize, O: Sink>(
 }
 
 /// Solves the points at the order `P`, and writes the report of their field or the line that refuses them.
-fn answer_points<const P: usize, O: Sink>(
-    alloc: Global,
+fn answer_points<const P: usize, R: Threads + Sync, G: Gate, O: Sink>(
+    shop: &Workshop<'_, R, G>,
     points: &Points,
     cap: u32,
     out: &mut O,
@@ -63,14 +65,20 @@ fn answer_points<const P: usize, O: Sink>(
     ensures write { TellsFaults result (flow (O.held out.old) (O.held out.new) (O.faults out.old) (O.faults out.new)) }
     ensures read { result ≡ Status.ReadFault → ⊥ }
 {
-    match field_solve::solve::<P>(alloc, points, cap) {
+    match field_solve::solve::<P>(shop.alloc, points, cap) {
         Ok(field) => answer_field(points, cap, &field, out),
         Err(fault) => refuse_depth(fault, out),
     }
 }
 
 /// Answers the points of a text: their version may not have the order.
-fn answer_list<O: Sink>(alloc: Global, order: u32, cap: u32, points: &Points, out: &mut O) -> Status
+fn answer_list<R: Threads + Sync, G: Gate, O: Sink>(
+    shop: &Workshop<'_, R, G>,
+    order: u32,
+    cap: u32,
+    points: &Points,
+    out: &mut O,
+) -> Status
     requires list { WithinLimits points.now }
     requires order { IsOrder order }
     requires capacity { IsCapacity cap }
@@ -82,11 +90,17 @@ fn answer_list<O: Sink>(alloc: Global, order: u32, cap: u32, points: &Points, ou
     if most_order(grid_of(points.version)) < order {
         return refuse(b"refused order\n", out);
     }
-    at_order!(order, answer_points, O, alloc, points, cap, out)
+    at_order!(order, answer_points, R, G, O, shop, points, cap, out)
 }
 
 /// Answers an input that was read whole.
-fn answer_text<O: Sink>(alloc: Global, order: u32, cap: u32, bytes: &[u8], out: &mut O) -> Status
+fn answer_text<R: Threads + Sync, G: Gate, O: Sink>(
+    shop: &Workshop<'_, R, G>,
+    order: u32,
+    cap: u32,
+    bytes: &[u8],
+    out: &mut O,
+) -> Status
     requires order { IsOrder order }
     requires capacity { IsCapacity cap }
     requires length { length bytes.now ≤ most_input }
@@ -94,20 +108,20 @@ fn answer_text<O: Sink>(alloc: Global, order: u32, cap: u32, bytes: &[u8], out: 
     ensures write { TellsFaults result (flow (O.held out.old) (O.held out.new) (O.faults out.old) (O.faults out.new)) }
     ensures read { result ≡ Status.ReadFault → ⊥ }
 {
-    let points = match parse(alloc, bytes) {
+    let points = match parse(shop.alloc, bytes) {
         Ok(points) => points,
         Err(ParseFault::Memory) => return Status::Memory,
         Err(ParseFault::Text { line, what }) => return refuse_text(line, what, out),
     };
-    answer_list(alloc, order, cap, &points, out)
+    answer_list(shop, order, cap, &points, out)
 }
 
 /// Reads the points to their end, and writes the report of their field or the line that refuses them.
 ///
 /// The sink gets all that goes out with the answer; after a write fault it took a prefix of that, and after a read
 /// fault or want of memory nothing.
-pub(crate) fn solve<A: Source, O: Sink>(
-    alloc: Global,
+pub(crate) fn solve<R: Threads + Sync, G: Gate, A: Source, O: Sink>(
+    shop: &Workshop<'_, R, G>,
     order: u32,
     cap: u32,
     points: &mut A,
@@ -126,8 +140,8 @@ pub(crate) fn solve<A: Source, O: Sink>(
     ensures taken { (bytes : List ℕ) × Consumes (A.left points.old) (A.left points.new) bytes × (length bytes ≤ most_input + read_size)
         × (result ≡ Status.ReadFault → length bytes ≤ most_input) }
 {
-    match read_all(alloc, points, MOST_INPUT) {
-        Ok(bytes) => answer_text(alloc, order, cap, &bytes, out),
+    match read_all(shop.alloc, points, MOST_INPUT) {
+        Ok(bytes) => answer_text(shop, order, cap, &bytes, out),
         Err(InFault::Long) => refuse(b"refused long\n", out),
         Err(InFault::ReadFault) => Status::ReadFault,
         Err(InFault::Memory) => Status::Memory,

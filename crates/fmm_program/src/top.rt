@@ -15,8 +15,11 @@ use crate::samples::sample;
 use crate::solve::solve;
 use crate::status::Status;
 use crate::words::Words;
+use crate::workshop::Workshop;
 use io_ports::{Sink, Source};
+use row_phases::Gate;
 use std::alloc::Global;
+use std::thread::Threads;
 
 // Flushes the sink after a command that ended so, where something went out with it.
 fn flushed<O: Sink>(status: Status, out: &mut O) -> Status
@@ -38,17 +41,20 @@ fn flushed<O: Sink>(status: Status, out: &mut O) -> Status
 
 /// Does all that the program does: carries out the command that the words ask for.
 ///
-/// `solve ORDER CAP FILE` reads `points` to its end and writes the report to `out`. `sample SEED N ORDER CAP` makes its
-/// points, reads nothing, and writes the summary of their field to `out`. Words of no form get the usage line, and
+/// `solve ORDER CAP FILE [WORKERS]` reads `points` to its end and writes the report to `out`. `sample SEED N ORDER CAP
+/// [WORKERS]` makes its points, reads nothing, and writes the summary of their field to `out`. Both solve by so many
+/// workers, of which `gate` is told, and by one where no number is given. Words of no form get the usage line, and
 /// nothing is read. `out` is flushed at the end. `cert_in` and `cert_out` are for commands to come, and stay as they
 /// are.
-pub fn run<A: Source, B: Source, O: Sink, C: Sink>(
+pub fn run<R: Threads + Sync, A: Source, B: Source, O: Sink, C: Sink, G: Gate>(
+    rt: &R,
     alloc: Global,
     words: &Words,
     points: &mut A,
     cert_in: &mut B,
     out: &mut O,
     cert_out: &mut C,
+    gate: &G,
 ) -> Status
     // The facts of a run, by the form of the words.
     ensures certified { (order cap : ℕ) (file : List ℕ) → IsSolve words.now order cap file → result ≡ Status.Done
@@ -83,9 +89,23 @@ pub fn run<A: Source, B: Source, O: Sink, C: Sink>(
 {
     match asked(words) {
         Some(Command::Solve(command)) => {
-            flushed(solve(alloc, command.order, command.cap, points, out), out)
+            let shop = Workshop {
+                rt,
+                alloc,
+                workers: command.workers,
+                gate,
+            };
+            flushed(solve(&shop, command.order, command.cap, points, out), out)
         }
-        Some(Command::Sample(command)) => flushed(sample(alloc, command, out), out),
+        Some(Command::Sample(command)) => {
+            let shop = Workshop {
+                rt,
+                alloc,
+                workers: command.workers,
+                gate,
+            };
+            flushed(sample(&shop, command, out), out)
+        }
         None => flushed(refuse_words(out), out),
     }
 }

@@ -1,9 +1,11 @@
 //! The words of the command line, and the solve that they ask for.
-ghost use Rattle.std.specs.Prelude.{◌≡◌, ◌≢◌, ℕ, ◌+◌, ◌<◌, ◌≤◌, List, [], ◌∷◌, ◌++◌, decimal, length, slice_get, IfSome, IfNone, OnOk, OnErr, Some, None};
+ghost use Rattle.std.specs.Prelude.{◌≡◌, ◌≢◌, ℕ, ◌+◌, ◌<◌, ◌≤◌, List, [], ◌∷◌, ◌++◌, codes, decimal, length, slice_get, take, IfSome, IfNone, OnOk, OnErr, Some, None};
 ghost use Rattle.exact_math.specs.Orders.{IsOrder, IsCapacity};
 ghost use Rattle.fmm_program.specs.Forms.{IsSolve, IsNoSolve};
+ghost use Rattle.fmm_program.specs.Workers.{AreWithWorkers, HasWorkers};
 
 use io_ports::Memory;
+use limits::MOST_WORKERS;
 use number_text::read_uint;
 use std::alloc::Global;
 use std::marker::Model;
@@ -63,12 +65,13 @@ impl Words {
     }
 }
 
-/// The command `solve ORDER CAP FILE`.
+/// The command `solve ORDER CAP FILE [WORKERS]`.
 #[derive(Clone, Copy, Debug, PartialEq, Eq)]
 pub(crate) struct SolveCommand<'a> {
     pub(crate) order: u32,
     pub(crate) cap: u32,
     pub(crate) file: &'a str,
+    pub(crate) workers: u32,
 }
 
 /// The number whose decimal a word is, where it is at least `least` and at most `most`.
@@ -103,16 +106,40 @@ pub(crate) fn capacity_of(word: &str) -> Option<u32>
     number_in(word, 8, 1024)
 }
 
+/// The number of workers that stands behind the first words, so many as `front`, and 1 where there are no further words; `None` where
+/// something else stands there.
+pub(crate) fn workers_behind(words: &Words, front: usize) -> Option<u32>
+    requires { front ≤ length words.now }
+    ensures some { IfSome result (HasWorkers words.now (take front words.now)) }
+    ensures none { IfNone result ((first : List (List ℕ)) → length first ≡ front → AreWithWorkers words.now first → ⊥) }
+{
+    if words.count() == front {
+        return Some(1);
+    }
+    let workers = number_in(words.word(front), 1, MOST_WORKERS)?;
+    if words.count() != front + 1 {
+        return None;
+    }
+    Some(workers)
+}
+
 /// The solve that the words ask for; `None` where they ask for none.
 pub(crate) fn asked_solve(words: &Words) -> Option<SolveCommand<'_>>
-    ensures some { IfSome result (λ c. IsSolve words.now c.order c.cap c.file.now) }
+    ensures some { IfSome result (λ c. IsSolve words.now c.order c.cap c.file.now
+        × HasWorkers words.now (codes "solve" ∷ decimal c.order ∷ decimal c.cap ∷ c.file.now ∷ []) c.workers) }
     ensures none { IfNone result (IsNoSolve words.now) }
 {
-    if words.count() != 4 || words.word(0) != "solve" {
+    if words.count() < 4 || words.word(0) != "solve" {
         return None;
     }
     let order = order_of(words.word(1))?;
     let cap = capacity_of(words.word(2))?;
     let file = words.word(3);
-    Some(SolveCommand { order, cap, file })
+    let workers = workers_behind(words, 4)?;
+    Some(SolveCommand {
+        order,
+        cap,
+        file,
+        workers,
+    })
 }

@@ -3,9 +3,11 @@ ghost use Rattle.std.specs.Prelude.{◌<◌};
 
 use fmm_program::{Status, Words, run};
 use io_ports::{MemSink, MemSource, SureSource};
+use row_phases::{Gate, OpenGate};
 use std::alloc::Global;
 use std::process::Abort;
 use std::test::Fail;
+use std::thread::Threads;
 
 /// A list of these words.
 pub fn words_of(alloc: Global, words: &[&str]) -> Result<Words, Fail> {
@@ -53,14 +55,16 @@ fn holds(rt: &impl Abort, sink: &MemSink, written: &[u8]) {
     assert_eq!(rt; sink.held(), written);
 }
 
-/// What a run of the words on a text writes. It ends with this status, and nothing is read or written beside that.
-pub fn output_of(
-    rt: &impl Abort,
+/// What a run of the words on a text writes, where the gate is told of each run of places. It ends with this status, and
+/// nothing is read or written beside that.
+pub fn gated_output<R: Abort + Threads + Sync, G: Gate>(
+    rt: &R,
     alloc: Global,
     words: &[&str],
     text: &[u8],
     ports: Ports<'_>,
     status: Status,
+    gate: &G,
 ) -> Result<MemSink, Fail>
     requires { 0 < ports.step }
 {
@@ -69,21 +73,37 @@ pub fn output_of(
     let mut out = sink_of(alloc, ports.step, ports.failing_writes)?;
     let mut cert_out = sink_of(alloc, ports.step, &[])?;
     let answer = run(
+        rt,
         alloc,
         &words,
         &mut points,
         &mut SureSource::new(Vec::new(alloc)),
         &mut out,
         &mut cert_out,
+        gate,
     );
     assert_eq!(rt; answer, status);
     holds(rt, &cert_out, b"");
     Ok(out)
 }
 
+/// What a run of the words on a text writes. It ends with this status, and nothing is read or written beside that.
+pub fn output_of<R: Abort + Threads + Sync>(
+    rt: &R,
+    alloc: Global,
+    words: &[&str],
+    text: &[u8],
+    ports: Ports<'_>,
+    status: Status,
+) -> Result<MemSink, Fail>
+    requires { 0 < ports.step }
+{
+    gated_output(rt, alloc, words, text, ports, status, &OpenGate)
+}
+
 /// Runs the words on a text, and compares how it ended and what it wrote. Nothing is read or written beside that.
-pub fn expect(
-    rt: &impl Abort,
+pub fn expect<R: Abort + Threads + Sync>(
+    rt: &R,
     alloc: Global,
     words: &[&str],
     text: &[u8],
@@ -99,8 +119,8 @@ pub fn expect(
 }
 
 /// Runs the words on a text where all is written, a byte at a time, and the flush behind it fails.
-pub fn flush_fails(
-    rt: &impl Abort,
+pub fn flush_fails<R: Abort + Threads + Sync>(
+    rt: &R,
     alloc: Global,
     words: &[&str],
     text: &[u8],

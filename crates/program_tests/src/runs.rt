@@ -4,9 +4,11 @@ ghost use Rattle.std.specs.Prelude.{◌<◌};
 use crate::ports::{Ports, SOLVE, SURE, expect, flush_fails, words_of};
 use fmm_program::{Opening, Status, plan, run};
 use io_ports::{BrokenSink, BrokenSource, DropSink, MemSink, SureSource};
+use row_phases::OpenGate;
 use std::alloc::Global;
 use std::process::Abort;
 use std::test::Fail;
+use std::thread::Threads;
 
 const SOLVE_WIDE: [&str; 4] = ["solve", "8", "1024", "-"];
 
@@ -61,8 +63,8 @@ const REPORTS: [(&[u8], &[u8]); 11] = [
 ];
 
 /// What a solve of this text ends with and writes.
-fn solves(
-    rt: &impl Abort,
+fn solves<R: Abort + Threads + Sync>(
+    rt: &R,
     alloc: Global,
     text: &[u8],
     status: Status,
@@ -75,6 +77,18 @@ fn solves(
 fn reports(rt: HostRuntime) -> Result<(), Fail> {
     for &(text, report) in &REPORTS {
         solves(&rt, rt.alloc(), text, Status::Done, report)?;
+    }
+    Ok(())
+}
+
+/// The number of workers changes no byte.
+#[test]
+fn workers(rt: HostRuntime) -> Result<(), Fail> {
+    for workers in ["1", "2", "64"] {
+        let words = ["solve", "8", "8", "-", workers];
+        for &(text, report) in &REPORTS {
+            expect(&rt, rt.alloc(), &words, text, SURE, Status::Done, report)?;
+        }
     }
     Ok(())
 }
@@ -128,8 +142,8 @@ fn long_numbers(rt: HostRuntime) -> Result<(), Fail> {
 }
 
 /// What a solve of this text with 1024 points a leaf ends with and writes.
-fn solves_wide(
-    rt: &impl Abort,
+fn solves_wide<R: Abort + Threads + Sync>(
+    rt: &R,
     alloc: Global,
     text: &[u8],
     status: Status,
@@ -159,8 +173,8 @@ fn long(rt: HostRuntime) -> Result<(), Fail> {
 }
 
 /// What a solve over ports that fail ends with and writes.
-fn fails(
-    rt: &impl Abort,
+fn fails<R: Abort + Threads + Sync>(
+    rt: &R,
     alloc: Global,
     ports: Ports<'_>,
     status: Status,
@@ -206,12 +220,14 @@ fn a_broken_source(rt: HostRuntime) -> Result<(), Fail> {
     let words = words_of(rt.alloc(), &SOLVE)?;
     let mut out = MemSink::with_room(rt.alloc(), 64, 64, Vec::new(rt.alloc()))?;
     let answer = run(
+        &rt,
         rt.alloc(),
         &words,
         &mut BrokenSource::new(),
         &mut SureSource::new(Vec::new(rt.alloc())),
         &mut out,
         &mut DropSink,
+        &OpenGate,
     );
     assert_eq!(rt; (answer, out.held()), (Status::ReadFault, b"".as_slice()));
     Ok(())
@@ -222,12 +238,14 @@ fn a_broken_sink(rt: HostRuntime) -> Result<(), Fail> {
     let words = words_of(rt.alloc(), &SOLVE)?;
     let mut points = SureSource::new(Vec::from_slice(rt.alloc(), ONE_PAIR)?);
     let answer = run(
+        &rt,
         rt.alloc(),
         &words,
         &mut points,
         &mut SureSource::new(Vec::new(rt.alloc())),
         &mut BrokenSink::new(),
         &mut DropSink,
+        &OpenGate,
     );
     assert_eq!(rt; answer, Status::WriteFault);
     Ok(())
@@ -237,16 +255,20 @@ const USAGE: &[u8] =
     b"usage: fmm solve ORDER CAP FILE [WORKERS] | check FILE | session ORDER CAP | sample SEED N ORDER CAP [WORKERS]\n";
 
 /// Words that are no command.
-const WRONG: [&[&str]; 12] = [
+const WRONG: [&[&str]; 16] = [
     &["solve", "5", "8", "-"],
     &["solve", "8", "7", "-"],
     &["solve", "8", "8", "-", "65"],
+    &["solve", "8", "8", "-", "0"],
+    &["solve", "8", "8", "-", "01"],
+    &["solve", "8", "8", "-", "2", "2"],
     &["check", "-"],
     &["solve", "08", "8", "-"],
     &["solve", "8", "8"],
     &["sample", "0", "0", "8", "32"],
     &["sample", "4294967296", "2", "8", "32"],
-    &["sample", "0", "2", "8", "32", "1"],
+    &["sample", "0", "2", "8", "32", "65"],
+    &["sample", "0", "2", "8", "32", "2", "2"],
     // Samples are of version 1.
     &["sample", "0", "2", "32", "32"],
     &["sample", "0", "65537", "8", "32"],
@@ -290,6 +312,8 @@ fn wrong_words_open_nothing(rt: HostRuntime) -> Result<(), Fail> {
 fn a_solve_opens_its_input(rt: HostRuntime) -> Result<(), Fail> {
     let words = words_of(rt.alloc(), &SOLVE)?;
     assert_eq!(rt; words.count(), 4);
+    assert!(rt; matches!(plan(&words), Opening::SolveInput));
+    let words = words_of(rt.alloc(), &["solve", "8", "8", "-", "64"])?;
     assert!(rt; matches!(plan(&words), Opening::SolveInput));
     Ok(())
 }

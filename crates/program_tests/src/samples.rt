@@ -4,9 +4,15 @@ use fmm_program::{Opening, Status, plan};
 use std::alloc::Global;
 use std::process::Abort;
 use std::test::Fail;
+use std::thread::Threads;
 
 /// The sample that the words ask for has this summary.
-fn has_summary(rt: &impl Abort, alloc: Global, words: &[&str], summary: &str) -> Result<(), Fail> {
+fn has_summary<R: Abort + Threads + Sync>(
+    rt: &R,
+    alloc: Global,
+    words: &[&str],
+    summary: &str,
+) -> Result<(), Fail> {
     let text = summary.as_bytes();
     expect(rt, alloc, words, b"", SURE, Status::Done, text)
 }
@@ -24,6 +30,16 @@ const TWO_POINTS_SUMMARY: &str = "sample 0 2 order 8 cap 32\n\
 #[test]
 fn two_points(rt: HostRuntime) -> Result<(), Fail> {
     has_summary(&rt, rt.alloc(), &TWO_POINTS, TWO_POINTS_SUMMARY)
+}
+
+/// The number of workers changes no byte.
+#[test]
+fn workers(rt: HostRuntime) -> Result<(), Fail> {
+    for workers in ["1", "2", "64"] {
+        let words = ["sample", "0", "2", "8", "32", workers];
+        has_summary(&rt, rt.alloc(), &words, TWO_POINTS_SUMMARY)?;
+    }
+    Ok(())
 }
 
 #[test]

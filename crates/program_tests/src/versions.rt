@@ -4,6 +4,7 @@ use fmm_program::Status;
 use std::alloc::Global;
 use std::process::Abort;
 use std::test::Fail;
+use std::thread::Threads;
 use test_points::text_of;
 
 /// What a solve writes: a report with these lines of targets and this last line but one, or a line of refusal.
@@ -163,8 +164,8 @@ const CASES: [Case<'static>; 12] = [
 ];
 
 /// The text of a version gets this answer.
-fn answers(
-    rt: &impl Abort,
+fn answers<R: Abort + Threads + Sync>(
+    rt: &R,
     alloc: Global,
     version: &str,
     case: &Case<'_>,

@@ -5,6 +5,7 @@ use fmm_program::Status;
 use std::alloc::{AllocError, Global};
 use std::process::Abort;
 use std::test::Fail;
+use std::thread::Threads;
 use test_points::text_of;
 
 /// The first line of the points.
@@ -168,7 +169,11 @@ const SOLVES: [Solve<'static>; 6] = [
 ];
 
 /// The points have this report.
-fn solve_reports(rt: &impl Abort, alloc: Global, solve: &Solve<'_>) -> Result<(), Fail> {
+fn solve_reports<R: Abort + Threads + Sync>(
+    rt: &R,
+    alloc: Global,
+    solve: &Solve<'_>,
+) -> Result<(), Fail> {
     let head = format!(in alloc; "fmm 2 {}\n", solve.mode)?;
     let text = text_of(alloc, &head, solve.points)?;
     let first = format!(in alloc; "fmm report 1 {} order {} cap 8\n", solve.mode, solve.order)?;
@@ -186,7 +191,12 @@ fn wide_reports(rt: HostRuntime) -> Result<(), Fail> {
 }
 
 /// A solve at order 4 with 8 points a leaf refuses the text with this line.
-fn is_refused(rt: &impl Abort, alloc: Global, text: &[u8], line: &str) -> Result<(), Fail> {
+fn is_refused<R: Abort + Threads + Sync>(
+    rt: &R,
+    alloc: Global,
+    text: &[u8],
+    line: &str,
+) -> Result<(), Fail> {
     let words = ["solve", "4", "8", "-"];
     let line = line.as_bytes();
     expect(rt, alloc, &words, text, SURE, Status::Refused, line)
@@ -201,8 +211,8 @@ fn one_unit_too_heavy(rt: HostRuntime) -> Result<(), Fail> {
 }
 
 /// The charges of the text are solved: so many translations, no pairs, and no line of a target.
-fn has_translations(
-    rt: &impl Abort,
+fn has_translations<R: Abort + Threads + Sync>(
+    rt: &R,
     alloc: Global,
     text: &[u8],
     translations: u32,

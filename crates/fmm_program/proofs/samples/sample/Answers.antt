@@ -1,4 +1,3 @@
-use Rattle.std.proofs.Common.{sym}
 use Rattle.fmm_program.proofs.SampleRuns.{run_at}
 use Rattle.fmm_program.proofs.samples.sample.Goals as goal
 

@@ -13,7 +13,7 @@ use Rattle.fmm_program.proofs.top.run.Goals as goal
 
 pub returns-in-Some-Solve-clause-solve : goal.returns-in-Some-Solve-clause-solve
 returns-in-Some-Solve-clause-solve g c order cap file form =
-    let asked : IsSolve c.args.words.now c.in-Some-Solve.command.order c.in-Some-Solve.command.cap c.in-Some-Solve.command.file.now = rw c.in-Some-Solve.field-0-is at c.in-Some-Solve.ensures.some in
+    let asked : IsSolve c.args.words.now c.in-Some-Solve.command.order c.in-Some-Solve.command.cap c.in-Some-Solve.command.file.now = (rw c.in-Some-Solve.field-0-is at c.in-Some-Solve.ensures.some).0 in
     let run = rw (one_order _ _ _ _ _ _ _ asked form, one_capacity _ _ _ _ _ _ _ asked form) at c.solve.ensures.run in
     let f = c.flushed.ensures in
     let tells = flushed_tells c.solve.result c.flushed.result f.stays _ _ (g.O.Sink.held c.flushed.new.out) _ _ _ f.later f.failed f.passed c.solve.ensures.write in
@@ -22,7 +22,7 @@ returns-in-Some-Solve-clause-solve g c order cap file form =
 
 pub returns-in-Some-Solve-clause-certified : goal.returns-in-Some-Solve-clause-certified
 returns-in-Some-Solve-clause-certified g c order cap file form done =
-    let asked : IsSolve c.args.words.now c.in-Some-Solve.command.order c.in-Some-Solve.command.cap c.in-Some-Solve.command.file.now = rw c.in-Some-Solve.field-0-is at c.in-Some-Solve.ensures.some in
+    let asked : IsSolve c.args.words.now c.in-Some-Solve.command.order c.in-Some-Solve.command.cap c.in-Some-Solve.command.file.now = (rw c.in-Some-Solve.field-0-is at c.in-Some-Solve.ensures.some).0 in
     let run = rw (one_order _ _ _ _ _ _ _ asked form, one_capacity _ _ _ _ _ _ _ asked form) at c.solve.ensures.run in
     let f = c.flushed.ensures in
     let carried_out = flushed_from c.solve.result c.flushed.result f.stays Done (λ h. cc) done in
@@ -30,8 +30,8 @@ returns-in-Some-Solve-clause-certified g c order cap file form done =
 
 pub returns-in-Some-Solve-clause-usage : goal.returns-in-Some-Solve-clause-usage
 returns-in-Some-Solve-clause-usage g c form =
-    let asked : IsSolve c.args.words.now c.in-Some-Solve.command.order c.in-Some-Solve.command.cap c.in-Some-Solve.command.file.now = rw c.in-Some-Solve.field-0-is at c.in-Some-Solve.ensures.some in
-    absurd (form.no_solve _ _ _ asked)
+    let asked : IsSolve c.args.words.now c.in-Some-Solve.command.order c.in-Some-Solve.command.cap c.in-Some-Solve.command.file.now = (rw c.in-Some-Solve.field-0-is at c.in-Some-Solve.ensures.some).0 in
+    absurd (form.0 _ _ _ asked)
 
 pub returns-in-Some-Solve-clause-usage_only : goal.returns-in-Some-Solve-clause-usage_only
 returns-in-Some-Solve-clause-usage_only g c e =
@@ -55,7 +55,7 @@ returns-in-Some-Solve-clause-write g c =
 
 pub returns-in-Some-Solve-clause-unread : goal.returns-in-Some-Solve-clause-unread
 returns-in-Some-Solve-clause-unread g c none =
-    let asked : IsSolve c.args.words.now c.in-Some-Solve.command.order c.in-Some-Solve.command.cap c.in-Some-Solve.command.file.now = rw c.in-Some-Solve.field-0-is at c.in-Some-Solve.ensures.some in
+    let asked : IsSolve c.args.words.now c.in-Some-Solve.command.order c.in-Some-Solve.command.cap c.in-Some-Solve.command.file.now = (rw c.in-Some-Solve.field-0-is at c.in-Some-Solve.ensures.some).0 in
     absurd (none _ _ _ asked)
 
 pub returns-in-Some-Solve-clause-taken : goal.returns-in-Some-Solve-clause-taken
@@ -65,7 +65,7 @@ returns-in-Some-Solve-clause-taken g c =
 
 pub returns-in-Some-Sample-clause-sample : goal.returns-in-Some-Sample-clause-sample
 returns-in-Some-Sample-clause-sample g c seed n order cap form =
-    let asked : IsSample c.args.words.now c.in-Some-Sample.command.seed c.in-Some-Sample.command.count c.in-Some-Sample.command.order c.in-Some-Sample.command.cap = rw c.in-Some-Sample.field-0-is at c.in-Some-Sample.ensures.some in
+    let asked : IsSample c.args.words.now c.in-Some-Sample.command.seed c.in-Some-Sample.command.count c.in-Some-Sample.command.order c.in-Some-Sample.command.cap = (rw c.in-Some-Sample.field-0-is at c.in-Some-Sample.ensures.some).0 in
     let run = rw (one_seed _ _ _ _ _ _ _ _ _ asked form, one_count _ _ _ _ _ _ _ _ _ asked form, one_sample_order _ _ _ _ _ _ _ _ _ asked form, one_sample_capacity _ _ _ _ _ _ _ _ _ asked form) at c.sample.ensures.run in
     let f = c.flushed-in-Some-Sample.ensures in
     let tells = flushed_tells c.sample.result c.flushed-in-Some-Sample.result f.stays _ _ (g.O.Sink.held c.flushed-in-Some-Sample.new.out) _ _ _ f.later f.failed f.passed c.sample.ensures.write in
@@ -73,13 +73,18 @@ returns-in-Some-Sample-clause-sample g c seed n order cap form =
 
 pub returns-in-Some-Sample-clause-solve : goal.returns-in-Some-Sample-clause-solve
 returns-in-Some-Sample-clause-solve g c order cap file form =
-    let asked : IsSample c.args.words.now c.in-Some-Sample.command.seed c.in-Some-Sample.command.count c.in-Some-Sample.command.order c.in-Some-Sample.command.cap = rw c.in-Some-Sample.field-0-is at c.in-Some-Sample.ensures.some in
+    let asked : IsSample c.args.words.now c.in-Some-Sample.command.seed c.in-Some-Sample.command.count c.in-Some-Sample.command.order c.in-Some-Sample.command.cap = (rw c.in-Some-Sample.field-0-is at c.in-Some-Sample.ensures.some).0 in
     absurd (sample_is_no_solve _ _ _ _ _ asked order cap file form)
 
 pub returns-in-Some-Sample-clause-certified : goal.returns-in-Some-Sample-clause-certified
 returns-in-Some-Sample-clause-certified g c order cap file form done =
-    let asked : IsSample c.args.words.now c.in-Some-Sample.command.seed c.in-Some-Sample.command.count c.in-Some-Sample.command.order c.in-Some-Sample.command.cap = rw c.in-Some-Sample.field-0-is at c.in-Some-Sample.ensures.some in
+    let asked : IsSample c.args.words.now c.in-Some-Sample.command.seed c.in-Some-Sample.command.count c.in-Some-Sample.command.order c.in-Some-Sample.command.cap = (rw c.in-Some-Sample.field-0-is at c.in-Some-Sample.ensures.some).0 in
     absurd (sample_is_no_solve _ _ _ _ _ asked order cap file form)
+
+pub returns-in-Some-Sample-clause-usage : goal.returns-in-Some-Sample-clause-usage
+returns-in-Some-Sample-clause-usage g c form =
+    let asked : IsSample c.args.words.now c.in-Some-Sample.command.seed c.in-Some-Sample.command.count c.in-Some-Sample.command.order c.in-Some-Sample.command.cap = (rw c.in-Some-Sample.field-0-is at c.in-Some-Sample.ensures.some).0 in
+    absurd (form.1 _ _ _ _ asked)
 
 pub returns-in-Some-Sample-clause-usage_only : goal.returns-in-Some-Sample-clause-usage_only
 returns-in-Some-Sample-clause-usage_only g c e =
@@ -108,10 +113,10 @@ returns-in-None-clause-write g c =
     flushed_tells c.refuse_words.result c.flushed-in-None.result f.stays _ _ _ _ _ _ f.later f.failed f.passed c.refuse_words.ensures.write
 
 pub returns-in-None-clause-solve : goal.returns-in-None-clause-solve
-returns-in-None-clause-solve g c order cap file form = absurd (c.in-None.ensures.none.no_solve order cap file form)
+returns-in-None-clause-solve g c order cap file form = absurd (c.in-None.ensures.none.0 order cap file form)
 
 pub returns-in-None-clause-certified : goal.returns-in-None-clause-certified
-returns-in-None-clause-certified g c order cap file form done = absurd (c.in-None.ensures.none.no_solve order cap file form)
+returns-in-None-clause-certified g c order cap file form done = absurd (c.in-None.ensures.none.0 order cap file form)
 
 pub returns-in-None-clause-sample : goal.returns-in-None-clause-sample
-returns-in-None-clause-sample g c seed n order cap form = absurd (c.in-None.ensures.none.no_sample seed n order cap form)
+returns-in-None-clause-sample g c seed n order cap form = absurd (c.in-None.ensures.none.1 seed n order cap form)
