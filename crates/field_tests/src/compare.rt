@@ -4,7 +4,7 @@ ghost use Rattle.exact_math.specs.Orders.{IsOrder};
 ghost use Rattle.limits.specs.Limits.{grid_of};
 ghost use Rattle.points.specs.Limits.{IsOrderOf, WithinLimits};
 
-use complex_box::Row;
+use complex_box::CBox;
 use points::Points;
 use solve_phase::{Field, solve};
 use std::alloc::Global;
@@ -30,6 +30,17 @@ pub const EACH_LETTER: [(u32, &str); 5] = [
     (1, "dipole 300008 -399992 5 -7\n"),
     (1, "target 300001 -400000\n"),
 ];
+
+/// A field whose numbers are known from elsewhere, and whose targets have the same box.
+pub struct Known {
+    /// The lines, each so many times.
+    pub lines: &'static [(u32, &'static str)],
+    pub cells: usize,
+    pub translations: u64,
+    pub pairs: u64,
+    pub targets: usize,
+    pub ends: Ends,
+}
 
 /// The field of the points at capacity 8.
 pub fn solved<const P: usize>(alloc: Global, points: &Points) -> Result<Field<P>, Fail>
@@ -65,18 +76,22 @@ pub fn wide_field_of<const P: usize>(alloc: Global, lines: &[(u32, &str)]) -> Re
     solved::<P>(alloc, &points)
 }
 
-/// There is a row, and its boxes are the known ones.
-pub fn has_row(rt: &impl Abort, row: Option<Row<4>>, known: &[Ends; 4]) {
-    match row {
-        Some(row) => {
-            let got = [
-                ends(row.get(0)),
-                ends(row.get(1)),
-                ends(row.get(2)),
-                ends(row.get(3)),
-            ];
-            assert_eq!(rt; got, *known);
-        }
-        None => assert!(rt; false),
+/// The box has these ends.
+pub fn ends_are(rt: &impl Abort, got: CBox, known: Ends) {
+    assert_eq!(rt; ends(got), known);
+}
+
+/// The box of each target has these ends.
+fn boxes_are<const P: usize>(rt: &impl Abort, field: &Field<P>, known: Ends) {
+    for k in 0..field.targets() {
+        ends_are(rt, field.value(k), known);
     }
+}
+
+/// The field has these numbers and boxes.
+pub fn is_known<const P: usize>(rt: &impl Abort, field: &Field<P>, known: &Known) {
+    let cells = field.tree().cells().len();
+    assert!(rt; (cells, field.targets()) == (known.cells, known.targets));
+    assert!(rt; (field.translations(), field.pairs()) == (known.translations, known.pairs));
+    boxes_are(rt, field, known.ends);
 }

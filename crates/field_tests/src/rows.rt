@@ -1,5 +1,6 @@
 //! Rows that are known from elsewhere.
-use crate::compare::{NINE_CHARGES, field_of, has_row};
+use crate::compare::{NINE_CHARGES, ends_are, field_of};
+use complex_box::Row;
 use solve_phase::Field;
 use std::process::Abort;
 use std::test::Fail;
@@ -26,6 +27,18 @@ const ROOT: [Ends; 4] = [
     ((0, 0), (0, 0)),
     ((0, 0), (0, 0)),
 ];
+
+/// There is a row, and its boxes are the known ones.
+fn has_row(rt: &impl Abort, row: Option<Row<4>>, known: &[Ends; 4]) {
+    match row {
+        Some(row) => {
+            for i in 0..4 {
+                ends_are(rt, row.get(i), known[i]);
+            }
+        }
+        None => assert!(rt; false),
+    }
+}
 
 fn has_moments(rt: &impl Abort, field: &Field<4>) {
     assert!(rt; field.tree().cells().len() == 19);
