@@ -1,5 +1,5 @@
 -- A parent has the targets of its children.
-use Rattle.std.proofs.Common.{ℕ, ◌<◌, ◌≤◌, List, sym, subst}
+use Rattle.std.proofs.Common.{ℕ, ◌<◌, List, sym, subst}
 use Rattle.std.specs.Prelude.{IsTrue}
 use Rattle.cell_name.specs.Square.{Square}
 use Rattle.cell_lists.proofs.CellNumbers.{level_positive, parent_before, level_in_grid}

@@ -6,10 +6,10 @@
 #![tactic(auto)]
 
 mod fill;
-mod pass;
 mod radius;
+mod run;
 mod v_entries;
 mod x_entries;
 
 pub use fill::{fill_place, make_place};
-pub use pass::downward_pass;
+pub use run::fill_run;

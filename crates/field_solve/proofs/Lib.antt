@@ -1,4 +1,5 @@
 -- The field that finished places make, what its rows contain, how large they are, and that a full board holds the same.
 pub mod Contents
 pub mod FieldOf
+pub mod MadeField
 pub mod Sizes

@@ -5,7 +5,7 @@ use Rattle.field_solve.specs.declared.field.Field.TheInside.{Inside}
 use Rattle.field_solve.specs.Parts.{FieldParts, FitTogether}
 
 abbrev pub field_seen : {P : ℕ} → Inside P → FieldParts
-field_seen f = record { basis = f.basis; up = f.up.items; local = f.local.items; values = values_of f.values.items; translations = f.translations; pairs = f.pairs }
+field_seen f = record { basis = f.basis; up = f.places.up.items; local = f.places.local.items; values = values_of f.places.values.items; translations = f.translations; pairs = f.pairs }
 
 abbrev pub fits : {P : ℕ} → Inside P → Type 0
 fits {P} f = FitTogether P (field_seen f)

@@ -8,25 +8,25 @@ ghost use Rattle.quadtree.specs.TreeModel.{size, node_of};
 ghost use Rattle.row_recursions.specs.Rows.{row_of};
 ghost use Rattle.row_recursions.specs.Sizes.{RowWithin};
 
+use crate::places::Places;
 use cell_lists::EntryLists;
 use complex_box::{CBox, Row};
-use field_basis::{Basis, Place, TargetPlace};
+use field_basis::Basis;
 use quadtree::Tree;
 use std::marker::Model;
 
 /// The field of a list of points: its tree and lists, the multipole row of each cell with a source, the local row and the radius of each cell
-/// with a target, and the box of each target in the order of the list. Ends of boxes and radii count units of 2^-40.
+/// with a target, and the box of each target in the order of the list. Ends of boxes and radii count units of 2^-40. Rows and boxes stand in
+/// the arena of the solve, which can't be given up while the field is in use.
 #[derive(Drop)]
-pub struct Field<const P: usize> {
+pub struct Field<'a, const P: usize> {
     pub(crate) basis: Basis<P>,
-    pub(crate) up: Vec<Place<P>>,
-    pub(crate) local: Vec<Place<P>>,
-    pub(crate) values: Vec<TargetPlace>,
+    pub(crate) places: Places<'a, P>,
     pub(crate) translations: u64,
     pub(crate) pairs: u64,
 }
 
-impl<const P: usize> Model for Field<P> {
+impl<'a, const P: usize> Model for Field<'a, P> {
     ghost use Rattle.field_solve.specs.Parts.{FieldParts};
 
     ghost Value = { FieldParts };
@@ -38,7 +38,7 @@ impl<const P: usize> Model for Field<P> {
     ghost invariant = { fits };
 }
 
-impl<const P: usize> Field<P> {
+impl<'a, const P: usize> Field<'a, P> {
     /// The leaf capacity that it was made with.
     pub fn cap(&self) -> u32
         ensures { result ≡ self.now.basis.cap }
@@ -62,7 +62,7 @@ impl<const P: usize> Field<P> {
 
     /// The multipole row of cell `n`, with no end larger in size than the limit of the grid; `None` where the cell has no source. Condition: `n` is
     /// a cell's number.
-    pub fn up(&self, n: usize) -> Option<Row<P>>
+    pub fn up(&self, n: usize) -> Option<Row<'_, P>>
         requires { n < size self.now.basis.tree }
         ensures has { MatchOption result ((node_of self.now.basis.tree n).has_source ≡ false) (λ row. (node_of self.now.basis.tree n).has_source ≡ true) }
         ensures row { IfSome result (λ row. row.cells.now ≡ (place_at self.now.up n).row) }
@@ -71,12 +71,12 @@ impl<const P: usize> Field<P> {
         if !self.basis.tree.has_source(n) {
             return None;
         }
-        Some(self.up[n].row())
+        Some(self.places.up[n].row())
     }
 
     /// The local row of cell `n`, with no end larger in size than the limit of the grid; `None` where the cell has no target. Condition: `n` is a
     /// cell's number.
-    pub fn local(&self, n: usize) -> Option<Row<P>>
+    pub fn local(&self, n: usize) -> Option<Row<'_, P>>
         requires { n < size self.now.basis.tree }
         ensures has { MatchOption result ((node_of self.now.basis.tree n).has_target ≡ false) (λ row. (node_of self.now.basis.tree n).has_target ≡ true) }
         ensures row { IfSome result (λ row. row.cells.now ≡ (place_at self.now.local n).row) }
@@ -85,7 +85,7 @@ impl<const P: usize> Field<P> {
         if !self.basis.tree.has_target(n) {
             return None;
         }
-        Some(self.local[n].row())
+        Some(self.places.local[n].row())
     }
 
     /// The radius of the local row of cell `n`, at most 2^48 times the greatest weight of a list in the grid; 0 where the cell has no target.
@@ -96,14 +96,14 @@ impl<const P: usize> Field<P> {
         ensures without { (node_of self.now.basis.tree n).has_target ≡ false → result ≡ pos 0 }
         ensures size { result ≤ℤ pos (2 ^ 48 * most_weight self.now.basis.tree.grid) }
     {
-        self.local[n].radius()
+        self.places.local[n].radius()
     }
 
     /// How many targets there are.
     pub fn targets(&self) -> usize
         ensures { result ≡ length self.now.values }
     {
-        self.values.len()
+        self.places.values.len()
     }
 
     /// The box of the k-th target, counted from 0. Condition: `k < targets()`.
@@ -112,7 +112,7 @@ impl<const P: usize> Field<P> {
         ensures value { result ≡ at self.now.values k }
         ensures size { BoxWithin (most_box self.now.basis.tree.grid) result }
     {
-        self.values[k].value()
+        self.places.values[k].value()
     }
 
     /// How many translations were made: one for each cell below the root with a source, each V entry and each cell below the root with a target.

@@ -17,6 +17,7 @@ use crate::refusals::refuse_depth;
 use crate::status::Status;
 use crate::words::{Words, capacity_of, number_in, order_of, workers_behind};
 use crate::workshop::Workshop;
+use bumpalo::Bump;
 use field_solve::Field;
 use io_ports::Sink;
 use limits::{FIRST_GRID, most_order};
@@ -110,7 +111,16 @@ fn summarize<const P: usize, R: Threads + Sync, G: Gate, O: Sink>(
     ensures write { TellsFaults result (flow (O.held out.old) (O.held out.new) (O.faults out.old) (O.faults out.new)) }
     ensures read { result ≡ Status.ReadFault → ⊥ }
 {
-    match field_solve::solve::<P>(shop.alloc, points, cap) {
+    let arena = Bump::new(shop.alloc);
+    match field_solve::solve::<P, R, G>(
+        shop.rt,
+        shop.alloc,
+        points,
+        cap,
+        shop.workers,
+        shop.gate,
+        &arena,
+    ) {
         Ok(field) => summarize_field(seed, points, cap, &field, out),
         Err(fault) => refuse_depth(fault, out),
     }

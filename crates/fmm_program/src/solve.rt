@@ -16,6 +16,7 @@ use crate::orders::at_order;
 use crate::refusals::{refuse, refuse_depth, refuse_text};
 use crate::status::Status;
 use crate::workshop::Workshop;
+use bumpalo::Bump;
 use field_report::write_report;
 use field_solve::Field;
 use io_ports::{InFault, Sink, Source, read_all};
@@ -65,7 +66,16 @@ fn answer_points<const P: usize, R: Threads + Sync, G: Gate, O: Sink>(
     ensures write { TellsFaults result (flow (O.held out.old) (O.held out.new) (O.faults out.old) (O.faults out.new)) }
     ensures read { result ≡ Status.ReadFault → ⊥ }
 {
-    match field_solve::solve::<P>(shop.alloc, points, cap) {
+    let arena = Bump::new(shop.alloc);
+    match field_solve::solve::<P, R, G>(
+        shop.rt,
+        shop.alloc,
+        points,
+        cap,
+        shop.workers,
+        shop.gate,
+        &arena,
+    ) {
         Ok(field) => answer_field(points, cap, &field, out),
         Err(fault) => refuse_depth(fault, out),
     }

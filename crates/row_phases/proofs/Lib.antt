@@ -1,1 +1,3 @@
 -- Lemmas of the phases.
+pub mod DownLevels
+pub mod UpLevels

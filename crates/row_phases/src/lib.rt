@@ -6,7 +6,14 @@
 #![tactic(auto)]
 
 mod crew;
+mod down;
 mod gate;
+mod levels;
+mod targets;
+mod up;
 
 pub use crew::Crew;
+pub use down::{fill_down, fill_down_alone};
 pub use gate::{Gate, OpenGate, Piece};
+pub use targets::{fill_targets, fill_targets_alone};
+pub use up::{fill_up, fill_up_alone};

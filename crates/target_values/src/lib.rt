@@ -2,10 +2,10 @@
 //! of the leaf's W entries and the pairs with the sources of its U entries, widened by what the entries can lose.
 #![tactic(auto)]
 
-mod pass;
+mod run;
 mod u_entries;
 mod value;
 mod w_entries;
 
-pub use pass::value_pass;
+pub use run::fill_run;
 pub use value::target_value;

@@ -4,8 +4,8 @@
 #![tactic(auto)]
 
 mod fill;
-mod pass;
+mod run;
 mod sources;
 
 pub use fill::{fill_place, make_place};
-pub use pass::upward_pass;
+pub use run::fill_run;

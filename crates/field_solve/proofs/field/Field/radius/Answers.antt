@@ -16,7 +16,7 @@ module _ (g : Over) (c : goal.After-radius g) where
   here : c.index.result.now ≡ place_at c.args.self.now.local c.args.n
   here =
       let n = c.args.n in
-      let items = c.self.inside.local.items in
+      let items = c.self.inside.places.local.items in
       let trees = ap (λ (f : FieldParts). size f.basis.tree) c.self.view_is in
       let lt : n < length items = omega (arith, trees, c.self.invariant.local_are.as_many, c.requires) in
       c.index.ensures ∙ sym (get_or_default items n no_place c.index.result.now lt) ∙ ap (λ (f : FieldParts). place_at f.local n) c.self.view_is

@@ -10,7 +10,7 @@ use Rattle.field_solve.proofs.field.Field.value.Goals as goal
 pub returns-clause-size : goal.returns-clause-size
 returns-clause-size g c =
     let k = c.args.k in
-    let items = c.self.inside.values.items in
+    let items = c.self.inside.places.values.items in
     let as_many = length-map items (λ (p : TargetModel). p.value) in
     let seen = ap (λ (f : FieldParts). length f.values) c.self.view_is in
     let lt : k < length items = omega (arith, seen, as_many, c.requires) in

@@ -1,0 +1,8 @@
+-- The places so far.
+use Rattle.std.proofs.Common.{ℕ, ◌+◌, ◌<◌}
+use Rattle.field_basis.specs.MadePlaces.{IsMadeUp}
+use Rattle.field_basis.specs.Place.{place_at}
+use Rattle.upward_rows.proofs.run.fill_run.Given as goal
+
+abbrev pub invariant-loop-k : goal.invariant-loop-k
+invariant-loop-k g l = (j : ℕ) → j < l.k → IsMadeUp g.row.P l.points l.tree (l.first + j) (place_at l.run j)
