@@ -22,6 +22,7 @@ pub mod OneField
 pub mod Points
 pub mod PolynomialZeros
 pub mod RowSizes
+pub mod RowWidths
 pub mod RowWrites
 pub mod Sides
 pub mod Turns
