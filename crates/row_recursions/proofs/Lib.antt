@@ -1,6 +1,7 @@
 pub mod BoxSums
 pub mod ConvertLaws
 pub mod ConvertedSizes
+pub mod ConvertedWidths
 pub mod CutSums
 pub mod DownLaws
 pub mod DownPolynomials
