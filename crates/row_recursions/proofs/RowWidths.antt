@@ -1,5 +1,5 @@
 -- How wide the parts of rows grow: a factor of at most 1 widens no box, and its rounding by a unit or less.
-use Rattle.std.proofs.Common.{subst, ℕ, zero, suc, ◌+◌, ◌-◌, ◌*◌, ◌/◌, ◌≤◌, ◌<◌, arith, pos}
+use Rattle.std.proofs.Common.{sym, subst, ℕ, zero, suc, ◌+◌, ◌-◌, ◌*◌, ◌/◌, ◌≤◌, ◌<◌, arith, pos}
 use Rattle.std.proofs.Math.Nat.{lt-mul-div-succ, mul-le-mul, mul-le-mul_left}
 use Rattle.std.specs.Prelude.{unsigned_abs}
 use Rattle.exact_math.specs.Ends.{BoxEnds, BoxEndsNarrow, add_box, scale_box, gscale_box, quot_box, gquot_box}
@@ -8,7 +8,7 @@ use Rattle.exact_math.specs.Within.{GaussianWithin, GaussianBeyond}
 use Rattle.exact_math.proofs.GaussianSizes.{norm_count, norm_count-is}
 use Rattle.exact_math.proofs.WholeSizes.{within-mul, within-neg, within-size}
 use Rattle.exact_math.proofs.Widths.{narrow-point, narrow-box, narrow-zero_box, narrow-add_box, narrow-neg_box, narrow-scale_box, narrow-gscale_box, narrow-quot_box, narrow-gquot_box}
-use Rattle.row_recursions.specs.Rows.{units_box, units_over, ratio_box, source_moment, up_round, shifted_up, far_source, down_round, shifted_down, local_round, local_value, multipole_round, multipole_value, powers, far_powers}
+use Rattle.row_recursions.specs.Rows.{RowsAdd, units_box, units_over, ratio_box, source_moment, up_round, shifted_up, far_source, down_round, shifted_down, local_round, local_value, multipole_round, multipole_value, powers, far_powers}
 use Rattle.row_recursions.specs.Widths.{RowNarrow, MomentWidths, UpWidths, FarWidths, DownWidths, LocalValueWidths, MultipoleValueWidths}
 use Rattle.row_recursions.proofs.RowSizes.{number_within, far_sum, far_positive}
 
@@ -113,3 +113,7 @@ local_value_narrow P w s o m h near row = over_side P w s (local_round P m s o P
 pub multipole_value_narrow : MultipoleValueWidths
 unfolding multipole_value
 multipole_value_narrow P w s zeta m h far row = over_side P w s (multipole_round P m s zeta P) h (multipole_round_narrow s zeta h far P w m row P (omega arith))
+
+-- ---- sums of rows
+pub added_narrow : (P : ℕ) (old part new : ℕ → BoxEnds) → RowsAdd P old part new → (k : ℕ) → k < P → {v w : ℕ} → BoxEndsNarrow v (old k) → BoxEndsNarrow w (part k) → BoxEndsNarrow (v + w) (new k)
+added_narrow P old part new adds k h {v} {w} n m = subst (BoxEndsNarrow (v + w)) (sym (adds k h)) (narrow-add_box n m)
