@@ -3,10 +3,8 @@ use Rattle.std.proofs.Common.{refl, ℕ, zero, suc, ◌+◌, ◌-◌, ◌*◌, �
 use Rattle.std.proofs.Math.Nat.{mul-le-mul_left, mul-le-mul_right}
 use Rattle.std.proofs.lemmas.Int.{ints}
 use Rattle.std.specs.Prelude.{unsigned_abs}
-use Rattle.exact_math.specs.Contains.{Contains}
-use Rattle.exact_math.specs.Ends.{Ends, BoxEnds, EndsWithin, EndsNarrow, BoxEndsContain, BoxEndsNarrow, times_box}
+use Rattle.exact_math.specs.Ends.{BoxEnds, EndsWithin, BoxEndsNarrow, times_box}
 use Rattle.exact_math.specs.Gaussian.{Gaussian}
-use Rattle.exact_math.specs.Units.{unit}
 use Rattle.exact_math.proofs.Widths.{narrow-wider, narrow-add, narrow-sub, narrow-times, narrow-box, narrow-zero_box, narrow-add_box, narrow-quot_box}
 use Rattle.kernel_table.specs.Kernel.{IsKernelDistance, kernel_entry}
 use Rattle.kernel_table.proofs.Entries.{kernel_entries}

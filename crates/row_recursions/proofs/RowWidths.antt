@@ -2,7 +2,7 @@
 use Rattle.std.proofs.Common.{sym, subst, ℕ, zero, suc, ◌+◌, ◌-◌, ◌*◌, ◌/◌, ◌≤◌, ◌<◌, arith, pos}
 use Rattle.std.proofs.Math.Nat.{lt-mul-div-succ, mul-le-mul, mul-le-mul_left}
 use Rattle.std.specs.Prelude.{unsigned_abs}
-use Rattle.exact_math.specs.Ends.{BoxEnds, BoxEndsNarrow, add_box, scale_box, gscale_box, quot_box, gquot_box}
+use Rattle.exact_math.specs.Ends.{BoxEnds, BoxEndsNarrow, add_box, quot_box, gquot_box}
 use Rattle.exact_math.specs.Gaussian.{Gaussian, conj, scale_gaussian}
 use Rattle.exact_math.specs.Within.{GaussianWithin, GaussianBeyond}
 use Rattle.exact_math.proofs.GaussianSizes.{norm_count, norm_count-is}
