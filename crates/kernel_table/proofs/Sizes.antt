@@ -24,7 +24,8 @@ use Rattle.complex_box.specs.Box.{GscaleFits}
 use Rattle.kernel_table.specs.Kernel.{IsKernelDistance, kernel_power, kernel_entry, alternate_box}
 use Rattle.kernel_table.proofs.Contained.{kernel_power_contains}
 use Rattle.kernel_table.proofs.PowersOfTwo.{two_power, power_positive, power_add, choose_le}
-use Rattle.kernel_table.proofs.Widths.{norm_count≥4, widths, widths_le, kernel_power_narrow, floor_div_gt, at_most}
+use Rattle.exact_math.proofs.Widths.{floor_div_gt, at_most}
+use Rattle.kernel_table.proofs.Widths.{norm_count≥4, widths, widths_le, kernel_power_narrow}
 
 times_neg : (c d : ℤ) → c *ℤ neg_ℤ d ≡ neg_ℤ (c *ℤ d)
 times_neg c d = ring2 int_ring c d (λ c d. search int_quotes depth 9) tt

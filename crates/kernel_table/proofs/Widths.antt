@@ -2,96 +2,18 @@
 use mathlib.Core.Path.{◌≡◌, sym, subst, subst₂}
 use mathlib.Core.Logic.{◌⊎◌, inl, inr, ⊎_elim}
 use Prim.Native.Nat.{ℕ, zero, suc, ◌+◌, ◌-◌, ◌*◌, ◌/◌, ◌^◌, ◌≤◌, ◌<◌}
-use native.Mathlib.Nat.{lt_of_not-le, mul-le-mul_left, mul-le-mul_right, mul-le-mul}
+use native.Mathlib.Nat.{mul-le-mul_left, mul-le-mul_right, mul-le-mul}
 use native.Mathlib.Omega.{arith}
-use lib.IntN.{ℤ, pos, negsuc, neg_ℤ, ◌+ℤ◌, ◌-ℤ◌, ◌*ℤ◌}
-use lib.Signed.{◌<ℤ◌, ◌≤ℤ◌}
-use Rattle.std.proofs.lemmas.Int.{ints, clamps}
-use Rattle.std.proofs.lemmas.Int.{unsigned_abs-mul}
+use lib.IntN.{ℤ, pos, negsuc, neg_ℤ, ◌*ℤ◌}
+use Rattle.std.proofs.lemmas.Int.{ints, unsigned_abs-mul}
 use Rattle.std.specs.Prelude.{unsigned_abs}
-use Rattle.exact_math.specs.Ends.{Ends, BoxEnds, add_ends, neg_ends, sub_ends, scale_ends, quot_ends, EndsNarrow, BoxEndsNarrow}
+use Rattle.exact_math.specs.Ends.{Ends, BoxEnds, quot_ends, EndsNarrow, BoxEndsNarrow}
 use Rattle.exact_math.specs.Gaussian.{Gaussian, norm_gaussian}
-use Rattle.exact_math.specs.Rounding.{floor_div, ceil_div}
 use Rattle.exact_math.proofs.GaussianSizes.{norm_count, norm_count-is}
-use Rattle.exact_math.proofs.Ring.{int_ring}
-use Rattle.exact_math.proofs.RingTactic.{int_quotes, ring2, ring3}
-use Rattle.exact_math.proofs.Integers as Z
+use Rattle.exact_math.proofs.Widths.{narrow-point, narrow-add, narrow-sub, narrow-neg, narrow-scale, narrow-quot}
 use Rattle.exact_math.specs.Binomials.{choose}
-use Rattle.exact_math.proofs.Enclosures.{floor_div_le, ceil_div_ge}
 use Rattle.kernel_table.specs.Kernel.{IsKernelDistance, kernel_power, kernel_entry, alternate_box}
 use Rattle.kernel_table.proofs.PowersOfTwo.{power_positive, power_add, choose_le}
-
--- ---- operations
-pub narrow-point : (n : ℤ) → EndsNarrow 0 (record { lo = n; hi = n })
-narrow-point n = record { ordered = omega (arith, ints); width = omega (arith, ints) }
-
-pub narrow-add : {i j : Ends} {a b : ℕ} → EndsNarrow a i → EndsNarrow b j → EndsNarrow (a + b) (add_ends i j)
-narrow-add {i} {j} {a} {b} h k = record { ordered = omega (arith, ints, h.ordered, k.ordered); width = omega (arith, ints, h.width, k.width) }
-
-pub narrow-sub : {i j : Ends} {a b : ℕ} → EndsNarrow a i → EndsNarrow b j → EndsNarrow (a + b) (sub_ends i j)
-narrow-sub {i} {j} {a} {b} h k = record { ordered = omega (arith, ints, h.ordered, k.ordered); width = omega (arith, ints, h.width, k.width) }
-
-pub narrow-neg : {i : Ends} {a : ℕ} → EndsNarrow a i → EndsNarrow a (neg_ends i)
-narrow-neg {i} {a} h = record { ordered = omega (arith, ints, h.ordered); width = omega (arith, ints, h.width) }
-
--- n times what lies between both ends
-apart_times : (n : ℕ) (lo hi : ℤ) → pos n *ℤ (hi -ℤ lo) ≡ hi *ℤ pos n -ℤ lo *ℤ pos n
-apart_times n lo hi = ring3 int_ring (pos n) hi lo (λ n h l. search int_quotes depth 9) tt
-
-pub narrow-scale : (k : ℤ) {i : Ends} {w : ℕ} → EndsNarrow w i → EndsNarrow (unsigned_abs k * w) (scale_ends i k)
-narrow-scale (pos n) {i} {w} h =
-    let p : pos 0 ≤ℤ pos n = omega (arith, ints) in
-    let e = apart_times n i.lo i.hi in
-    let o = Z.*-mono_left (pos n) (pos 0) (i.hi -ℤ i.lo) p (omega (arith, ints, h.ordered)) in
-    let m = Z.*-mono_left (pos n) (i.hi -ℤ i.lo) (pos w) p h.width in
-    record { ordered = omega (arith, ints, clamps); width = omega (arith, ints, clamps, e, o, m) }
-narrow-scale (negsuc n) {i} {w} h =
-    let p : pos 0 ≤ℤ pos (suc n) = omega (arith, ints) in
-    let e = turned (pos (suc n)) (negsuc n) i.lo i.hi (omega (arith, ints)) in
-    let o = Z.*-mono_left (pos (suc n)) (pos 0) (i.hi -ℤ i.lo) p (omega (arith, ints, h.ordered)) in
-    let m = Z.*-mono_left (pos (suc n)) (i.hi -ℤ i.lo) (pos w) p h.width in
-    record { ordered = omega (arith, ints, clamps); width = omega (arith, ints, clamps, e, o, m) }
-  where
-    turned : (p m lo hi : ℤ) → m ≡ neg_ℤ p → p *ℤ (hi -ℤ lo) ≡ lo *ℤ m -ℤ hi *ℤ m
-    turned p m lo hi e = subst (λ m. p *ℤ (hi -ℤ lo) ≡ lo *ℤ m -ℤ hi *ℤ m) (sym e) (ring3 int_ring p lo hi (λ p l h. search int_quotes depth 12) tt)
-
--- the other side of rounding
-pub floor_div_gt : (a : ℤ) (n : ℕ) → 0 < n → a ≤ℤ (pos n *ℤ floor_div a (pos n) +ℤ pos (n - 1))
-floor_div_gt (pos a) n h = omega (arith, ints)
-floor_div_gt (negsuc a) n h = omega (arith, ints)
-
-pub ceil_div_lt : (a : ℤ) (n : ℕ) → 0 < n → (pos n *ℤ ceil_div a (pos n)) ≤ℤ (a +ℤ pos (n - 1))
-ceil_div_lt a n h =
-    let k = floor_div_gt (neg_ℤ a) n h in
-    let e : pos n *ℤ ceil_div a (pos n) ≡ neg_ℤ (pos n *ℤ floor_div (neg_ℤ a) (pos n)) = ring2 int_ring (floor_div (neg_ℤ a) (pos n)) (pos n) (λ f n. search int_quotes depth 9) tt in
-    rw e (omega (arith, ints, k))
-
-floor_le_ceil : (lo hi : ℤ) (n : ℕ) → 0 < n → lo ≤ℤ hi → floor_div lo (pos n) ≤ℤ ceil_div hi (pos n)
-floor_le_ceil lo hi n h o =
-    let f = floor_div_le lo (pos n) (omega (arith, ints)) in
-    let c = ceil_div_ge hi (pos n) (omega (arith, ints)) in
-    Z.*-cancel_≤ (pos n) _ _ (omega (arith, ints)) (omega (arith, ints, f, c, o))
-
--- a number below n (v + 1) in the n-fold is at most v
-pub at_most : (n v : ℕ) (d : ℤ) → (pos n *ℤ d) <ℤ (pos n *ℤ pos (suc v)) → d ≤ℤ pos v
-at_most n v (pos d) k =
-    let m : d < suc v = lt_of_not-le (λ l. let t = mul-le-mul_left n l in absurd (omega (arith, ints))) in
-    omega (arith, ints)
-at_most n v (negsuc d) k = omega (arith, ints)
-
--- n times the width of a quotient is at most the width and 2 (n - 1)
-pub narrow-quot : (n : ℕ) {i : Ends} {w v : ℕ} → 0 < n → EndsNarrow w i → w + 2 * (n - 1) < n * suc v → EndsNarrow v (quot_ends i (pos n))
-narrow-quot n {i} {w} {v} n>0 h enough = record {
-  ordered = floor_le_ceil i.lo i.hi n n>0 h.ordered;
-  width = last (ceil_div i.hi (pos n)) (floor_div i.lo (pos n)) (ceil_div_lt i.hi n n>0) (floor_div_gt i.lo n n>0);
-}
-  where
-    -- from n (c - f) < n (v + 1)
-    last : (c f : ℤ) → (pos n *ℤ c) ≤ℤ (i.hi +ℤ pos (n - 1)) → i.lo ≤ℤ (pos n *ℤ f +ℤ pos (n - 1)) → (c -ℤ f) ≤ℤ pos v
-    last c f up down =
-        let e : pos n *ℤ (c -ℤ f) ≡ pos n *ℤ c -ℤ pos n *ℤ f = ring3 int_ring (pos n) c f (λ n c f. search int_quotes depth 9) tt in
-        let less : (pos n *ℤ (c -ℤ f)) <ℤ (pos n *ℤ pos (suc v)) = rw e (omega (arith, ints, h.width, up, down)) in
-        at_most n v (c -ℤ f) less
 
 -- ---- the bound: 2 at first, then 6/5 of it and 2 more, rounded down, so at most 10 (6/5)^(n + 1) - 10
 abbrev pub next_width : ℕ → ℕ

@@ -18,7 +18,10 @@ use Rattle.row_recursions.specs.Rows.{row_of, RowsAdd, converted}
 use Rattle.row_recursions.specs.Sizes.{RowWithin}
 use Rattle.row_recursions.proofs.ConvertLaws.{field_converted}
 use Rattle.row_recursions.proofs.ConvertedSizes.{converted_within}
+use Rattle.row_recursions.specs.Widths.{RowNarrow, RowHoldsWithin}
+use Rattle.row_recursions.proofs.ConvertedWidths.{converted_narrow}
 use Rattle.row_recursions.proofs.RowSizes.{added_within}
+use Rattle.row_recursions.proofs.RowWidths.{added_narrow}
 use Rattle.local_expansion.proofs.RowCalls.{field_added}
 
 module _ (P : ℕ) (e : Gaussian) (m : ℕ → BoxEnds) (order : IsOrder P) (distance : IsKernelDistance e) where
@@ -44,3 +47,6 @@ module _ (P : ℕ) (e : Gaussian) (m : ℕ → BoxEnds) (order : IsOrder P) (dis
 
   pub converted_added : (k n : ℕ) (old new : ℕ → BoxEnds) → RowsAdd P old (converted P (kernel_entry e) m) new → RowWithin P (2 * k) m → RowWithin P n old → RowWithin P (n + 3 * k) new
   converted_added k n old new adds v w = added_within P n (3 * k) old (converted P (kernel_entry e) m) new adds w (converted_within P k e m few_enough distance v)
+
+  pub converted_width : (v w A : ℕ) (old new : ℕ → BoxEnds) → RowsAdd P old (converted P (kernel_entry e) m) new → RowNarrow P w m → RowHoldsWithin P A m → RowNarrow P v old → RowNarrow P (v + (2 * w + 2 * P * A + 3)) new
+  converted_width v w A old new adds row holds n k h = added_narrow P old (converted P (kernel_entry e) m) new adds k h (n k h) (converted_narrow P w A e m few_enough distance row holds k h)

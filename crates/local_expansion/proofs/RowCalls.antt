@@ -22,7 +22,9 @@ use Rattle.row_recursions.specs.Sizes.{RowWithin}
 use Rattle.row_recursions.specs.Sources.{source_of}
 use Rattle.row_recursions.proofs.FieldLaws.{sum_of_fields, field_same}
 use Rattle.row_recursions.proofs.Points.{side_positive, strength_field}
+use Rattle.row_recursions.specs.Widths.{RowNarrow}
 use Rattle.row_recursions.proofs.RowSizes.{far_norm_positive, far_source_within}
+use Rattle.row_recursions.proofs.RowWidths.{far_source_narrow}
 use Rattle.cell_name.specs.Cell.{square}
 
 -- a row to which another was added
@@ -41,6 +43,9 @@ module _ (P : ℕ) (c : Cell) (p : Point) (order : IsOrder P) (far : GaussianBey
       let few = order_bounds P order in
       box_wider _ (2 ^ 40 * weight64 p) _ (heavier l (abs_gaussian (pole p.kind)) (abs_gaussian (dipole p.kind)) (omega arith))
       (far_source_within (side_of c) (pole p.kind) (dipole p.kind) (offset_from c (place p)) l (side_positive c) far)
+
+  pub far_narrow : RowNarrow P (2 * (P * P) + 2 * P) (far_coefficients_in (square c) p)
+  far_narrow = far_source_narrow P (side_of c) (pole p.kind) (dipole p.kind) (offset_from c (place p)) (side_positive c) far
 
   -- it holds the cut term of the point's source
   pub far_field : HoldsField P (side_of c) (doubled_centre_of c) (λ t. local_cut P (doubled_centre_of c) t (source_of p)) (far_coefficients_in (square c) p)

@@ -3,7 +3,8 @@
 //! The coefficient `l` of a local row belongs to `(v/s)^l` in `s` times the field, at the offset `v` from the centre of a cell of side `s`.
 #![tactic(auto)]
 
-ghost use Rattle.std.specs.Prelude.{◌≡◌, ℕ, ◌+◌, ◌*◌, ◌^◌, ◌<◌, length};
+ghost use Rattle.std.specs.Prelude.{◌≡◌, ℕ, ◌+◌, ◌*◌, ◌/◌, ◌^◌, ◌<◌, length};
+ghost use Rattle.exact_math.specs.Ends.{BoxEndsNarrow};
 ghost use Rattle.exact_math.specs.Gaussian.{gaussian};
 ghost use Rattle.exact_math.specs.Orders.{IsOrder};
 ghost use Rattle.exact_math.specs.Within.{GaussianBeyond};
@@ -19,6 +20,7 @@ ghost use Rattle.row_recursions.specs.Contents.{AddsFieldConverted, AddsFieldOf,
 ghost use Rattle.row_recursions.specs.Rows.{row_of, RowsAdd, converted, local_value};
 ghost use Rattle.row_recursions.specs.Sizes.{RowWithin};
 ghost use Rattle.row_recursions.specs.Sources.{source_of};
+ghost use Rattle.row_recursions.specs.Widths.{RowNarrow, RowHoldsWithin};
 
 mod conversion;
 mod narrow;
@@ -56,6 +58,7 @@ pub fn convert<const P: usize>(
     ensures adds { RowsAdd P (row_of into.old) (converted P (kernel_entry (number e)) (row_of row.entry.cells.now)) (row_of into.new) }
     ensures contains { AddsFieldConverted P (number e) (row_of row.entry.cells.now) (row_of into.old) (row_of into.new) }
     ensures size { (m n : ℕ) → RowWithin P (2 * m) (row_of row.entry.cells.now) → RowWithin P n (row_of into.old) → RowWithin P (n + 3 * m) (row_of into.new) }
+    ensures narrow { (v w A : ℕ) → RowNarrow P w (row_of row.entry.cells.now) → RowHoldsWithin P A (row_of row.entry.cells.now) → RowNarrow P v (row_of into.old) → RowNarrow P (v + (2 * w + 2 * P * A + 3)) (row_of into.new) }
     ensures work { AddsTranslations 1 work.old work.new }
 {
     let narrow = is_narrow(row);
@@ -78,6 +81,7 @@ pub fn add_far_source<const P: usize>(into: &mut [CBox], cell: Cell, p: &Point)
     ensures adds { RowsAdd P (row_of into.old) (far_coefficients_in (square cell) p.now) (row_of into.new) }
     ensures contains { AddsFieldOf P (side_of cell) (doubled_centre_of cell) (source_of p.now) (row_of into.old) (row_of into.new) }
     ensures size { (n : ℕ) → RowWithin P n (row_of into.old) → RowWithin P (n + 2 ^ 40 * weight64 p.now) (row_of into.new) }
+    ensures narrow { (v : ℕ) → RowNarrow P v (row_of into.old) → RowNarrow P (v + (2 * (P * P) + 2 * P)) (row_of into.new) }
 {
     add_far(into, cell, p);
 }
@@ -93,6 +97,7 @@ pub fn at_local<const P: usize>(row: Row<P>, cell: Cell, x: i64, y: i64) -> CBox
     ensures ends { box_ends result ≡ local_value P (row_of row.entry.cells.now) (side_of cell) (offset_from cell (gaussian x y)) }
     ensures contains { IsValueOfField P (side_of cell) (doubled_centre_of cell) (gaussian x y) (row_of row.entry.cells.now) result }
     ensures size { (n : ℕ) → RowWithin P n (row_of row.entry.cells.now) → BoxWithin (P * n) result }
+    ensures narrow { (w : ℕ) → RowNarrow P w (row_of row.entry.cells.now) → BoxEndsNarrow (P * (w + 2) / side_of cell + 2) (box_ends result) }
 {
     value_at(row, offset(cell, x, y), side_bits(cell))
 }

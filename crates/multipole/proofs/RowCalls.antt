@@ -1,7 +1,7 @@
 -- What the calls on rows do to what a row contains and to its size.
 use Rattle.std.proofs.Common.{◌≡◌, sym, subst, ℕ, ◌+◌, ◌*◌, ◌^◌, ◌<◌, List, [], ◌∷◌, ◌++◌, arith, pos}
 use Rattle.std.proofs.lemmas.Int.{ints}
-use Rattle.exact_math.specs.Ends.{BoxEnds, BoxEndsWithin, BoxEndsContain, add_box}
+use Rattle.exact_math.specs.Ends.{BoxEnds, BoxEndsWithin, BoxEndsNarrow, BoxEndsContain, add_box}
 use Rattle.exact_math.specs.Gaussian.{Gaussian}
 use Rattle.exact_math.specs.Orders.{IsOrder}
 use Rattle.exact_math.specs.Sums.{sum_terms}
@@ -12,7 +12,7 @@ use Rattle.cell_name.specs.Square.{Holds}
 use Rattle.cell_name.specs.declared.cell.Cell.{Cell}
 use Rattle.limits.specs.Limits.{widest_grid}
 use Rattle.points.specs.Limits.{InRange, weight64}
-use Rattle.points.specs.Points.{place, strength}
+use Rattle.points.specs.Points.{place, pole, dipole, strength}
 use Rattle.points.specs.declared.Point.{Point}
 use Rattle.truncation.specs.Entries.{Source, multipole_cut}
 use Rattle.exact_math.specs.Within.{GaussianBeyond}
@@ -23,8 +23,9 @@ use Rattle.row_recursions.specs.Rows.{RowsAdd, multipole_value}
 use Rattle.row_recursions.specs.Sizes.{RowWithin}
 use Rattle.row_recursions.specs.Sources.{source_of}
 use Rattle.row_recursions.proofs.MomentLaws.{sum_of_moments, multipole_values, moments_same}
-use Rattle.row_recursions.proofs.Points.{side_positive, weight_bounded, moments_within, strength_moments}
+use Rattle.row_recursions.proofs.Points.{side_positive, offset_within, weight_bounded, moments_within, strength_moments}
 use Rattle.row_recursions.proofs.RowSizes.{far_norm_positive}
+use Rattle.row_recursions.proofs.RowWidths.{source_moment_narrow}
 
 module _ (P : ℕ) (c : Cell) (p : Point) (order : IsOrder P) (inside : Holds (square c) p.x p.y) where
   -- the moments of the point
@@ -37,6 +38,10 @@ module _ (P : ℕ) (c : Cell) (p : Point) (order : IsOrder P) (inside : Holds (s
       let light = weight_bounded p range in
       box_wider (2 ^ 80 + 2 ^ 40 * weight64 p) (2 ^ 126) _ (omega arith)
       (add_box_within (2 ^ 80) (2 ^ 40 * weight64 p) (old k) (part k) (bounded k h) (subst (BoxEndsWithin (2 ^ 40 * weight64 p)) (sym (is k h)) (part_within k h)))
+
+-- how wide they are
+pub part_narrow : (c : Cell) (p : Point) → Holds (square c) p.x p.y → (k : ℕ) → BoxEndsNarrow (2 * (k * k)) (moments_in (square c) p k)
+part_narrow c p inside k = source_moment_narrow (side_of c) (pole p.kind) (dipole p.kind) (offset_from c (place p)) k (side_positive c) (offset_within c p.x p.y inside)
 
 -- the moments of a point are those of its source
 point_moments : (P : ℕ) (c : Cell) (p : Point) → HoldsMoments P (side_of c) (doubled_centre_of c) (source_of p ∷ []) (moments_in (square c) p)

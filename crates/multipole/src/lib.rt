@@ -5,7 +5,8 @@
 //! is exact as long as no rounding falls into it, and what is taken away again leaves the row as it was.
 #![tactic(auto)]
 
-ghost use Rattle.std.specs.Prelude.{◌≡◌, ℕ, ◌+◌, ◌*◌, ◌^◌, length};
+ghost use Rattle.std.specs.Prelude.{◌≡◌, ℕ, ◌+◌, ◌*◌, ◌/◌, ◌^◌, ◌<◌, length};
+ghost use Rattle.exact_math.specs.Ends.{BoxEndsNarrow};
 ghost use Rattle.exact_math.specs.Gaussian.{gaussian};
 ghost use Rattle.exact_math.specs.Orders.{IsOrder};
 ghost use Rattle.exact_math.specs.Within.{GaussianBeyond};
@@ -20,6 +21,7 @@ ghost use Rattle.row_recursions.specs.Contents.{AddsMomentsOf, IsValueOfMoments}
 ghost use Rattle.row_recursions.specs.Rows.{row_of, RowsAdd, HasPart, multipole_value};
 ghost use Rattle.row_recursions.specs.Sizes.{RowWithin};
 ghost use Rattle.row_recursions.specs.Sources.{source_of};
+ghost use Rattle.row_recursions.specs.Widths.{RowNarrow};
 
 mod moments;
 mod values;
@@ -43,6 +45,7 @@ pub fn add_source<const P: usize>(row: &mut [CBox], cell: Cell, p: &Point)
     ensures adds { RowsAdd P (row_of row.old) (moments_in (square cell) p.now) (row_of row.new) }
     ensures contains { AddsMomentsOf P (side_of cell) (doubled_centre_of cell) (source_of p.now) (row_of row.old) (row_of row.new) }
     ensures size { (n : ℕ) → RowWithin P n (row_of row.old) → RowWithin P (n + 2 ^ 40 * weight64 p.now) (row_of row.new) }
+    ensures narrow { (k v : ℕ) → k < P → BoxEndsNarrow v (row_of row.old k) → BoxEndsNarrow (v + 2 * (k * k)) (row_of row.new k) }
 {
     let mut part = [CBox::zero(); P];
     fill_moments(&mut part, cell, p);
@@ -79,6 +82,7 @@ pub fn at_multipole<const P: usize>(row: Row<P>, cell: Cell, x: i64, y: i64) -> 
     ensures ends { box_ends result ≡ multipole_value P (row_of row.entry.cells.now) (side_of cell) (offset_from cell (gaussian x y)) }
     ensures contains { IsValueOfMoments P (side_of cell) (doubled_centre_of cell) (gaussian x y) (row_of row.entry.cells.now) result }
     ensures size { (n : ℕ) → RowWithin P n (row_of row.entry.cells.now) → BoxWithin (P * n) result }
+    ensures narrow { (w : ℕ) → RowNarrow P w (row_of row.entry.cells.now) → BoxEndsNarrow (P * (w + 2) / side_of cell + 2) (box_ends result) }
 {
     value_at(row, offset(cell, x, y), side_bits(cell))
 }

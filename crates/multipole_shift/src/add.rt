@@ -1,11 +1,13 @@
 //! A row into its parent's.
-ghost use Rattle.std.specs.Prelude.{◌≡◌, ℕ, ◌+◌, ◌^◌, ◌<◌, length};
+ghost use Rattle.std.specs.Prelude.{◌≡◌, ℕ, suc, ◌+◌, ◌*◌, ◌^◌, ◌<◌, length};
+ghost use Rattle.exact_math.specs.Ends.{BoxEndsNarrow};
 ghost use Rattle.exact_math.specs.Orders.{IsOrder};
 ghost use Rattle.complex_box.specs.Counts.{AddsTranslations};
 ghost use Rattle.row_recursions.specs.Cells.{quadrant_of};
 ghost use Rattle.row_recursions.specs.Contents.{AddsMomentsUp};
 ghost use Rattle.row_recursions.specs.Rows.{row_of, RowsAdd, shifted_up};
 ghost use Rattle.row_recursions.specs.Sizes.{RowWithin};
+ghost use Rattle.row_recursions.specs.Widths.{RowNarrow};
 
 use crate::rounds::shift_in_place;
 use cell_name::Quadrant;
@@ -28,6 +30,7 @@ pub fn shift_up<const P: usize>(child: Row<P>, q: Quadrant, into: &mut [CBox], w
     ensures adds { RowsAdd P (row_of into.old) (shifted_up (row_of child.entry.cells.now) (quadrant_of q)) (row_of into.new) }
     ensures contains { AddsMomentsUp P (quadrant_of q) (row_of child.entry.cells.now) (row_of into.old) (row_of into.new) }
     ensures size { (m n : ℕ) → RowWithin P m (row_of into.old) → RowWithin P n (row_of child.entry.cells.now) → RowWithin P (m + n) (row_of into.new) }
+    ensures narrow { (k v w : ℕ) → k < P → RowNarrow (suc k) w (row_of child.entry.cells.now) → BoxEndsNarrow v (row_of into.old k) → BoxEndsNarrow (v + (w + 2 * k)) (row_of into.new k) }
     ensures work { AddsTranslations 1 work.old work.new }
 {
     let mut part = [CBox::zero(); P];

@@ -12,7 +12,7 @@ use Rattle.exact_math.specs.Gaussian.{Gaussian}
 use Rattle.exact_math.specs.Ratio.{Ratio, ComplexRatio, ◌*ᶜ◌, reciprocal}
 use Rattle.exact_math.specs.Sums.{pow_complex, natural_complex}
 use Rattle.exact_math.proofs.Ring.{int_ring}
-use Rattle.exact_math.proofs.RingTactic.{int_quotes, ring2}
+use Rattle.exact_math.proofs.RingTactic.{int_quotes, ring2, ring3}
 use Rattle.exact_math.proofs.Integers as Z
 use Rattle.fixed_interval.proofs.Sizes.{add_within, sub_within, times_within}
 use Rattle.complex_box.proofs.Sizes.{box_wider, add_box_within, zero_within}
@@ -49,11 +49,11 @@ shrunk_sum n x h = sum_root (n * unsigned_abs x.re) (n * unsigned_abs x.im) (uns
 abbrev pub parts_size : BoxEnds → ℕ
 parts_size b = unsigned_abs b.re.lo + 2 + (unsigned_abs b.im.lo + 2)
 
-narrow_within : (i : Ends) → EndsNarrow 2 i → EndsWithin (unsigned_abs i.lo + 2) i
-narrow_within i h =
-    let w = within-size i.lo in
-    let a = w.above in
-    let b = w.below in
+pub narrow_within : (w : ℕ) (i : Ends) → EndsNarrow w i → EndsWithin (unsigned_abs i.lo + w) i
+narrow_within w i h =
+    let l = within-size i.lo in
+    let a = l.above in
+    let b = l.below in
     let o = h.ordered in
     let n = h.width in
     record {
@@ -61,25 +61,25 @@ narrow_within i h =
       hi = record { above = omega (arith, ints); below = omega (arith, ints) };
     }
 
--- ends at most 2 apart that contain t/d in size
-end_size : (lo d t : ℤ) → pos 0 ≤ℤ d → (lo *ℤ d) ≤ℤ t → neg_ℤ t ≤ℤ (lo *ℤ d +ℤ pos 2 *ℤ d) → (pos (unsigned_abs lo) *ℤ d) ≤ℤ (t +ℤ pos 2 *ℤ d)
-end_size (pos n) d t p a b = omega (arith, ints, p, a, b)
-end_size (negsuc n) d t p a b = let e = turned (pos (suc n)) d in omega (arith, ints, p, a, b, e)
+-- ends at most w apart that contain t/d in size
+end_size : (w : ℕ) (lo d t : ℤ) → pos 0 ≤ℤ d → (lo *ℤ d) ≤ℤ t → neg_ℤ t ≤ℤ (lo *ℤ d +ℤ pos w *ℤ d) → (pos (unsigned_abs lo) *ℤ d) ≤ℤ (t +ℤ pos w *ℤ d)
+end_size w (pos n) d t p a b = let q = Z.*-nonneg (pos w) d (omega (arith, ints)) p in omega (arith, ints, p, a, b, q)
+end_size w (negsuc n) d t p a b = let e = turned (pos (suc n)) d in omega (arith, ints, p, a, b, e)
   where
     turned : (x d : ℤ) → neg_ℤ x *ℤ d ≡ neg_ℤ (x *ℤ d)
     turned x d = ring2 int_ring x d (λ x d. search int_quotes depth 9) tt
 
-lower_size : {u lo hi : ℤ} {x : Ratio} (t : ℤ) → Contains u lo hi x → EndsNarrow 2 (record { lo = lo; hi = hi }) → neg_ℤ t ≤ℤ (u *ℤ x.numerator) → (u *ℤ x.numerator) ≤ℤ t
-    → (pos (unsigned_abs lo) *ℤ x.denominator) ≤ℤ (t +ℤ pos 2 *ℤ x.denominator)
-lower_size {u} {lo} {hi} {x} t h narrow low high =
+pub lower_size : (w : ℕ) {u lo hi : ℤ} {x : Ratio} (t : ℤ) → Contains u lo hi x → EndsNarrow w (record { lo = lo; hi = hi }) → neg_ℤ t ≤ℤ (u *ℤ x.numerator) → (u *ℤ x.numerator) ≤ℤ t
+    → (pos (unsigned_abs lo) *ℤ x.denominator) ≤ℤ (t +ℤ pos w *ℤ x.denominator)
+lower_size w {u} {lo} {hi} {x} t h narrow low high =
     let d : pos 0 ≤ℤ x.denominator = omega (arith, ints, h.fraction) in
-    let m = Z.*-mono_left x.denominator hi (lo +ℤ pos 2) d (omega (arith, ints, narrow.width)) in
+    let m = Z.*-mono_left x.denominator hi (lo +ℤ pos w) d (omega (arith, ints, narrow.width)) in
     let e = Z.*-comm x.denominator hi in
-    let f = spread x.denominator lo in
-    end_size lo x.denominator t d (omega (arith, ints, h.above, high)) (omega (arith, ints, h.below, low, m, e, f))
+    let f = spread x.denominator lo (pos w) in
+    end_size w lo x.denominator t d (omega (arith, ints, h.above, high)) (omega (arith, ints, h.below, low, m, e, f))
   where
-    spread : (d a : ℤ) → d *ℤ (a +ℤ pos 2) ≡ a *ℤ d +ℤ pos 2 *ℤ d
-    spread d a = ring2 int_ring d a (λ d a. search int_quotes depth 12) tt
+    spread : (d a w : ℤ) → d *ℤ (a +ℤ w) ≡ a *ℤ d +ℤ w *ℤ d
+    spread d a w = ring3 int_ring d a w (λ d a w. search int_quotes depth 12) tt
 
 neg_size : (a : ℤ) → unsigned_abs (neg_ℤ a) ≡ unsigned_abs a
 neg_size (pos zero) = refl
@@ -109,10 +109,10 @@ counted_sizes n x = record { re = ap unsigned_abs (less (pos n *ℤ x.re) x.im);
     whole : (d : ℤ) → pos 1 *ℤ d ≡ d
     whole d = omega (arith, ints)
 
-times_units : (z : ℤ) (m : ℕ) → unsigned_abs z ≡ m → (neg_ℤ (pos (2 ^ 40 * m)) ≤ℤ (pos (2 ^ 40) *ℤ z)) × ((pos (2 ^ 40) *ℤ z) ≤ℤ pos (2 ^ 40 * m))
+pub times_units : (z : ℤ) (m : ℕ) → unsigned_abs z ≡ m → (neg_ℤ (pos (2 ^ 40 * m)) ≤ℤ (pos (2 ^ 40) *ℤ z)) × ((pos (2 ^ 40) *ℤ z) ≤ℤ pos (2 ^ 40 * m))
 times_units z m e = let w = within-size z in let a = w.above in let b = w.below in (omega (arith, ints, a, b, e), omega (arith, ints, a, b, e))
 
-cancelled : (a b d : ℕ) → 1 ≤ d → a * d ≤ b * d → a ≤ b
+pub cancelled : (a b d : ℕ) → 1 ≤ d → a * d ≤ b * d → a ≤ b
 cancelled a b d p h =
     let l : a < suc b = lt_of_not-le (λ k. let m = mul-le-mul_right d k in absurd (omega (arith, p, h, m))) in
     omega (arith, l)
@@ -149,8 +149,8 @@ module _ (e : Gaussian) (distance : IsKernelDistance e) where
         let d = a.denominator ∙ b.denominator ∙ positive_is power.denominator shrunk_power.positive in
         let re = times_units (alternate_complex l x).re _ (a.re ∙ b.re ∙ unsigned_abs-mul (pos (choose (k + l) k)) power.re) in
         let im = times_units (alternate_complex l x).im _ (a.im ∙ b.im ∙ unsigned_abs-mul (pos (choose (k + l) k)) power.im) in (
-          part_bounded _ _ _ _ d (lower_size _ h.re w.re re.0 re.1),
-          part_bounded _ _ _ _ d (lower_size _ h.im w.im im.0 im.1),
+          part_bounded _ _ _ _ d (lower_size 2 _ h.re w.re re.0 re.1),
+          part_bounded _ _ _ _ d (lower_size 2 _ h.im w.im im.0 im.1),
         )
 
     entry_bounded : 12 * steps * parts_size (kernel_entry e k l) ≤ 17 * 2 ^ 40 * choose (k + l) k + 96 * steps
@@ -174,7 +174,7 @@ module _ (e : Gaussian) (distance : IsKernelDistance e) where
 
   -- ---- a column
   module _ (l : ℕ) where
-    pub column_size : ℕ → ℕ
+    unfoldable pub column_size : ℕ → ℕ
     column_size zero = 0
     column_size (suc K) = column_size K + parts_size (kernel_entry e K l)
 
@@ -222,7 +222,7 @@ module _ (e : Gaussian) (distance : IsKernelDistance e) where
         box_wider (column_size K * n + parts_size (kernel_entry e K l) * n) ((column_size K + parts_size (kernel_entry e K l)) * n) _ (omega arith)
         (add_box_within (column_size K * n) (parts_size (kernel_entry e K l) * n) (sum_boxes K (λ k. times_box (kernel_entry e k l) (m k))) (times_box (kernel_entry e K l) (m K))
         (sum_within n m K (omega (arith, h)) (λ k i. bounded k (omega (arith, i))))
-        (product_within n (kernel_entry e K l) (m K) (unsigned_abs (kernel_entry e K l).re.lo + 2) (unsigned_abs (kernel_entry e K l).im.lo + 2) (narrow_within (kernel_entry e K l).re w.re) (narrow_within (kernel_entry e K l).im w.im) (bounded K (omega arith))))
+        (product_within n (kernel_entry e K l) (m K) (unsigned_abs (kernel_entry e K l).re.lo + 2) (unsigned_abs (kernel_entry e K l).im.lo + 2) (narrow_within 2 (kernel_entry e K l).re w.re) (narrow_within 2 (kernel_entry e K l).im w.im) (bounded K (omega arith))))
 
     -- before it is rounded
     pub products_within : (n : ℕ) (m : ℕ → BoxEnds) (K : ℕ) → K ≤ 32 → l < 32 → RowWithin K (2 * n) m → BoxEndsWithin (3 * n * 2 ^ 40) (sum_boxes K (λ k. times_box (kernel_entry e k l) (m k)))

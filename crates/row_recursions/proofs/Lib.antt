@@ -1,6 +1,7 @@
 pub mod BoxSums
 pub mod ConvertLaws
 pub mod ConvertedSizes
+pub mod ConvertedWidths
 pub mod CutSums
 pub mod DownLaws
 pub mod DownPolynomials
@@ -22,6 +23,7 @@ pub mod OneField
 pub mod Points
 pub mod PolynomialZeros
 pub mod RowSizes
+pub mod RowWidths
 pub mod RowWrites
 pub mod Sides
 pub mod Turns

@@ -81,7 +81,7 @@ module _ (s : ℕ) (o : Gaussian) (s≥1 : 1 ≤ s) (near : GaussianWithin s o) 
   dipole_moment_within b zero = units_over_within b s s≥1
   dipole_moment_within b (suc k) = box_gquot_within (2 ^ 40 * abs_gaussian b) s s (2 * s) (powers (units_over b s) o (2 * s) k) o (omega arith) (omega arith) near.re near.im (dipole_moment_within b k)
 
-number_within : (k : ℕ) → Within k (pos k)
+pub number_within : (k : ℕ) → Within k (pos k)
 number_within k = record { above = omega (arith, ints); below = omega (arith, ints) }
 
 gathered : (u a k b : ℕ) → u * a + u * b * k ≡ u * (a + k * b)
@@ -138,12 +138,12 @@ far_first s p r h =
     let c = mul-le-mul_left s h in
     omega arith
 
-far_sum : (s : ℕ) (g : Gaussian) → GaussianBeyond (3 * s) g → 2 * s * unsigned_abs g.re + 2 * s * unsigned_abs g.im ≤ norm_count g
+pub far_sum : (s : ℕ) (g : Gaussian) → GaussianBeyond (3 * s) g → 2 * s * unsigned_abs g.re + 2 * s * unsigned_abs g.im ≤ norm_count g
 far_sum s g h = ⊎_elim
     (λ l. far_first s (unsigned_abs g.re) (unsigned_abs g.im) l)
     (λ l. let m = far_first s (unsigned_abs g.im) (unsigned_abs g.re) l in omega arith) h
 
-far_positive : (s : ℕ) (g : Gaussian) → 1 ≤ s → GaussianBeyond (3 * s) g → 1 ≤ norm_count g
+pub far_positive : (s : ℕ) (g : Gaussian) → 1 ≤ s → GaussianBeyond (3 * s) g → 1 ≤ norm_count g
 far_positive s g h far = ⊎_elim
     (λ l. let a = one s (unsigned_abs g.re) h l in omega arith)
     (λ l. let a = one s (unsigned_abs g.im) h l in omega arith) far

@@ -8,4 +8,5 @@ pub mod Laws
 pub mod Moments
 pub mod Rows
 pub mod Sizes
+pub mod Widths
 pub mod Sources

@@ -2,6 +2,7 @@
 ghost use Rattle.row_recursions.specs.Geometry.{HeldPlaces, PairsOfCells, FarPlaces, QuartersOfCells};
 ghost use Rattle.row_recursions.specs.Laws.{NoMoments, SourceMoments, SumOfMoments, MomentsUp, MultipoleValues, NoField, SumOfFields, OneField, FieldConverted, FieldOfSource, FieldDown, LocalValues};
 ghost use Rattle.row_recursions.specs.Sizes.{MomentSizes, UpSizes, ConvertedSizes, FarSizes, DownSizes, LocalValueSizes, MultipoleValueSizes};
+ghost use Rattle.row_recursions.specs.Widths.{MomentWidths, UpWidths, ConvertedWidths, FarWidths, DownWidths, LocalValueWidths, MultipoleValueWidths};
 
 /// What multipole rows contain: of no source, of one source, of the sources of two rows, about the parent's centre, and their values.
 ///
@@ -38,6 +39,18 @@ pub fn row_sizes()
     ensures down { DownSizes }
     ensures local_value { LocalValueSizes }
     ensures multipole_value { MultipoleValueSizes }
+{}
+
+/// How wide the parts of rows are. No factor of a recursion is above 1 in the size `|re| + |im|`, so only rounding widens: by less than two
+/// units a step. A kernel's entry is at most 2 wide, and those of one coefficient are together at most 3/2 in size.
+pub fn row_widths()
+    ensures moments { MomentWidths }
+    ensures up { UpWidths }
+    ensures converted { ConvertedWidths }
+    ensures source { FarWidths }
+    ensures down { DownWidths }
+    ensures local_value { LocalValueWidths }
+    ensures multipole_value { MultipoleValueWidths }
 {}
 
 /// Cells in the words of rows: a place in a cell is within its side; the centres of two cells of one level that don't touch and whose

@@ -13,7 +13,7 @@ mod places;
 mod quadrants;
 mod sums;
 
-pub use law::{cells_and_rows, local_rows, multipole_rows, row_sizes};
+pub use law::{cells_and_rows, local_rows, multipole_rows, row_sizes, row_widths};
 pub use places::{FarRatio, far_ratio, offset, side_bits, units};
 pub use quadrants::{doubled, turned};
 pub use sums::{add_row, take_row};

@@ -6,7 +6,8 @@ use Rattle.row_recursions.specs.Rows.{row_of, RowsAdd}
 use Rattle.row_recursions.specs.Sources.{source_of}
 use Rattle.row_recursions.proofs.Points.{side_positive}
 use Rattle.row_recursions.proofs.RowSizes.{added_within}
-use Rattle.local_expansion.proofs.RowCalls.{far_within, far_field, field_added}
+use Rattle.row_recursions.proofs.RowWidths.{added_narrow}
+use Rattle.local_expansion.proofs.RowCalls.{far_within, far_narrow, far_field, field_added}
 use Rattle.cell_name.specs.Cell.{square}
 use Rattle.local_expansion.proofs.add_far_source.Goals as goal
 
@@ -21,3 +22,7 @@ returns-clause-contains g c = λ field h. field_added g.row.P (side_of c.args.ce
 pub returns-clause-size : goal.returns-clause-size
 returns-clause-size g c = λ n h. added_within g.row.P n (2 ^ 40 * weight64 c.args.p.now) (row_of c.args.into.now) (far_coefficients_in (square c.args.cell) c.args.p.now) (row_of c.add_far.new.into) (returns-clause-adds g c) h
     (far_within g.row.P c.args.cell c.args.p.now c.requires.order c.requires.far)
+
+pub returns-clause-narrow : goal.returns-clause-narrow
+returns-clause-narrow g c = λ v n k h. added_narrow g.row.P (row_of c.args.into.now) (far_coefficients_in (square c.args.cell) c.args.p.now) (row_of c.add_far.new.into) (returns-clause-adds g c) k h (n k h)
+    (far_narrow g.row.P c.args.cell c.args.p.now c.requires.order c.requires.far k h)

@@ -1,5 +1,5 @@
-use Rattle.std.proofs.Common.{◌∙◌, ap₂, ◌*◌, ◌^◌, subst, subst₂, sym, pos, to_z-of_z, lit<}
-use Rattle.exact_math.specs.Ends.{BoxEndsContain, BoxEndsWithin}
+use Rattle.std.proofs.Common.{◌∙◌, ap₂, ◌+◌, ◌*◌, ◌/◌, ◌^◌, subst, subst₂, sym, pos, to_z-of_z, lit<}
+use Rattle.exact_math.specs.Ends.{BoxEndsContain, BoxEndsWithin, BoxEndsNarrow}
 use Rattle.exact_math.specs.Gaussian.{gaussian}
 use Rattle.exact_math.specs.Within.{GaussianWithin}
 use Rattle.row_recursions.specs.Cells.{side_of, doubled_centre_of, offset_from}
@@ -7,6 +7,7 @@ use Rattle.row_recursions.specs.Rows.{row_of, local_value}
 use Rattle.row_recursions.proofs.FieldLaws.{local_values}
 use Rattle.row_recursions.proofs.Points.{held_in_grid, side_positive, offset_within}
 use Rattle.row_recursions.proofs.RowSizes.{local_value_within}
+use Rattle.row_recursions.proofs.RowWidths.{local_value_narrow}
 use Rattle.local_expansion.proofs.at_local.Goals as goal
 
 pub offset-requires : goal.offset-requires
@@ -36,3 +37,7 @@ returns-clause-contains g c = λ field h. subst (λ b. BoxEndsContain (pos (2 ^ 
 pub returns-clause-size : goal.returns-clause-size
 returns-clause-size g c = λ n h. subst (BoxEndsWithin (g.row.P * n)) (sym (returns-clause-ends g c))
     (local_value_within g.row.P n (side_of c.args.cell) (offset_from c.args.cell (gaussian c.args.x c.args.y)) (row_of c.args.row.cells.now) (side_positive c.args.cell) (offset_within c.args.cell c.args.x c.args.y c.requires.inside) h)
+
+pub returns-clause-narrow : goal.returns-clause-narrow
+returns-clause-narrow g c = λ w h. subst (BoxEndsNarrow (g.row.P * (w + 2) / side_of c.args.cell + 2)) (sym (returns-clause-ends g c))
+    (local_value_narrow g.row.P w (side_of c.args.cell) (offset_from c.args.cell (gaussian c.args.x c.args.y)) (row_of c.args.row.cells.now) (side_positive c.args.cell) (offset_within c.args.cell c.args.x c.args.y c.requires.inside) h)

@@ -6,7 +6,7 @@ use Rattle.complex_box.specs.Box.{number}
 use Rattle.complex_box.specs.Rows.{zero_cbox}
 use Rattle.row_recursions.specs.Rows.{row_of}
 use Rattle.row_recursions.proofs.RowWrites.{written-next, row_read}
-use Rattle.local_expansion.proofs.ConvertCalls.{column_within, sum_fits, converted_field, converted_added}
+use Rattle.local_expansion.proofs.ConvertCalls.{column_within, sum_fits, converted_field, converted_added, converted_width}
 use Rattle.local_expansion.proofs.ProductSums.{by_kernel}
 use Rattle.local_expansion.proofs.convert.Goals as goal
 
@@ -38,3 +38,6 @@ returns-clause-contains g c = converted_field g.row.P (number c.args.e) (row_of 
 
 pub returns-clause-size : goal.returns-clause-size
 returns-clause-size g c = λ m n v w. converted_added g.row.P (number c.args.e) (row_of c.args.row.cells.now) c.requires.order c.requires.distance m n (row_of c.args.into.now) (row_of c.loop-l.into) (returns-clause-adds g c) v w
+
+pub returns-clause-narrow : goal.returns-clause-narrow
+returns-clause-narrow g c = λ v w A row holds n. converted_width g.row.P (number c.args.e) (row_of c.args.row.cells.now) c.requires.order c.requires.distance v w A (row_of c.args.into.now) (row_of c.loop-l.into) (returns-clause-adds g c) row holds n

@@ -1,5 +1,5 @@
-use Rattle.std.proofs.Common.{◌∙◌, ap₂, ◌*◌, ◌^◌, subst, subst₂, sym, pos, to_z-of_z, lit<}
-use Rattle.exact_math.specs.Ends.{BoxEndsContain, BoxEndsWithin}
+use Rattle.std.proofs.Common.{◌∙◌, ap₂, ◌+◌, ◌*◌, ◌/◌, ◌^◌, subst, subst₂, sym, pos, to_z-of_z, lit<}
+use Rattle.exact_math.specs.Ends.{BoxEndsContain, BoxEndsWithin, BoxEndsNarrow}
 use Rattle.exact_math.specs.Gaussian.{gaussian}
 use Rattle.exact_math.specs.Sums.{sum_terms}
 use Rattle.truncation.specs.Entries.{multipole_cut}
@@ -8,6 +8,7 @@ use Rattle.row_recursions.specs.Cells.{side_of, doubled_centre_of, offset_from}
 use Rattle.row_recursions.specs.Rows.{row_of, multipole_value}
 use Rattle.row_recursions.proofs.Points.{side_positive}
 use Rattle.row_recursions.proofs.RowSizes.{multipole_value_within}
+use Rattle.row_recursions.proofs.RowWidths.{multipole_value_narrow}
 use Rattle.multipole.proofs.RowCalls.{value_contains}
 use Rattle.multipole.proofs.at_multipole.Goals as goal
 
@@ -32,3 +33,7 @@ returns-clause-contains g c = λ xs h. subst (λ b. BoxEndsContain (pos (2 ^ 40)
 pub returns-clause-size : goal.returns-clause-size
 returns-clause-size g c = λ n h. subst (BoxEndsWithin (g.row.P * n)) (sym (returns-clause-ends g c))
     (multipole_value_within g.row.P n (side_of c.args.cell) (offset_from c.args.cell (gaussian c.args.x c.args.y)) (row_of c.args.row.cells.now) (side_positive c.args.cell) c.requires.far h)
+
+pub returns-clause-narrow : goal.returns-clause-narrow
+returns-clause-narrow g c = λ w h. subst (BoxEndsNarrow (g.row.P * (w + 2) / side_of c.args.cell + 2)) (sym (returns-clause-ends g c))
+    (multipole_value_narrow g.row.P w (side_of c.args.cell) (offset_from c.args.cell (gaussian c.args.x c.args.y)) (row_of c.args.row.cells.now) (side_positive c.args.cell) c.requires.far h)

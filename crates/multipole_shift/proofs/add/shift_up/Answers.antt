@@ -3,6 +3,8 @@ use Rattle.exact_math.specs.Ends.{add_box}
 use Rattle.row_recursions.specs.Cells.{quadrant_of}
 use Rattle.row_recursions.specs.Rows.{row_of, shifted_up}
 use Rattle.row_recursions.proofs.RowSizes.{added_within}
+use Rattle.row_recursions.proofs.RowWidths.{added_narrow, shifted_up_narrow}
+use Rattle.row_recursions.proofs.Turns.{unit_quadrant}
 use Rattle.multipole_shift.proofs.RowShifts.{part_within, sum_fits, added_moments}
 use Rattle.multipole_shift.proofs.add.shift_up.Goals as goal
 
@@ -20,3 +22,7 @@ returns-clause-contains g c = added_moments g.row.P (row_of c.args.child.cells.n
 pub returns-clause-size : goal.returns-clause-size
 returns-clause-size g c = λ m n v w. added_within g.row.P m n (row_of c.args.into.now) (shifted_up (row_of c.args.child.cells.now) (quadrant_of c.args.q)) (row_of c.add_row.new.into) (returns-clause-adds g c) v
     (part_within g.row.P (row_of c.args.child.cells.now) c.args.q n w)
+
+pub returns-clause-narrow : goal.returns-clause-narrow
+returns-clause-narrow g c = λ k v w h row n. added_narrow g.row.P (row_of c.args.into.now) (shifted_up (row_of c.args.child.cells.now) (quadrant_of c.args.q)) (row_of c.add_row.new.into) (returns-clause-adds g c) k h n
+    (shifted_up_narrow w k (quadrant_of c.args.q) (row_of c.args.child.cells.now) (unit_quadrant c.args.q) row)
