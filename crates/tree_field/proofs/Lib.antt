@@ -21,6 +21,7 @@ pub mod MultipoleRows
 pub mod MultipoleSizes
 pub mod Numbers
 pub mod OneTree
+pub mod PathSources
 pub mod Program
 pub mod Radii
 pub mod Sorting

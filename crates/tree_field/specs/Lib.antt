@@ -7,6 +7,7 @@ pub mod CutFields
 pub mod Field
 pub mod Laws
 pub mod Lists
+pub mod Paths
 pub mod Program
 pub mod RowContents
 pub mod Sizes

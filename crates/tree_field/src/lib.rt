@@ -15,4 +15,4 @@ pub use law::{
     boxes_contain_the_sum, rows_of_neighbours, translations_are_few, tree_is_determined,
     trees_of_the_program,
 };
-pub use sizes::{entries_share_no_source, field_is_bounded};
+pub use sizes::{entries_meet_each_source_once, entries_share_no_source, field_is_bounded};
