@@ -2,8 +2,7 @@
 use Rattle.std.proofs.Common.{ℕ, ◌≡◌, ◌≢◌, ◌<◌, ◌≤◌, zero, suc, inl, inr, List, [], ◌∷◌, get_or, true, ltb, sym, ap, ◌∙◌, subst, arith}
 use Rattle.std.specs.Prelude.{All, AllPairs, Contains}
 use Rattle.std.specs.List.{flat_map}
-use Rattle.std.proofs.lemmas.Bool.{cases_lt}
-use Rattle.std.proofs.lemmas.Bool.Decides.{nat_tests}
+use Rattle.std.proofs.lemmas.Bool.{cases_lt, ltb-true, lt-ltb}
 use Rattle.std.proofs.lemmas.List.Elements.{All-contains, Contains-get_or}
 use Rattle.std.proofs.lemmas.List.Kept.{AllPairs-filter}
 use Rattle.points.specs.declared.Point.{Point}
@@ -19,10 +18,10 @@ use Rattle.quadtree.proofs.Parents.{IsTreeCell-parent}
 -- ---- the cells below a cell
 
 has_point : (points : List Point) (c : Square) → ltb 0 (count_in points c) ≡ true → 1 ≤ count_in points c
-has_point points c e = grind (arith, nat_tests)
+has_point points c e = ltb-true 0 (count_in points c) e
 
 test-has_point : (points : List Point) (c : Square) → 1 ≤ count_in points c → ltb 0 (count_in points c) ≡ true
-test-has_point points c h = grind (arith, nat_tests)
+test-has_point points c h = lt-ltb 0 (count_in points c) h
 
 -- a cell that splitting another makes
 pub record IsBelow (points : List Point) (cap : ℕ) (c a : Square) : Type 0 where
