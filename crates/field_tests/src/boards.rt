@@ -4,6 +4,7 @@ ghost use Rattle.points.specs.Limits.{WithinLimits};
 use crate::compare::{
     EACH_LETTER, FAR_TARGET, NINE_CHARGES, ends_are, points_of_version_2, solved,
 };
+use bumpalo::Bump;
 use complex_box::Work;
 use points::Points;
 use row_board::{Board, Name};
@@ -102,12 +103,26 @@ fn boxes_agree(rt: &impl Abort, board: &Board<4>, field: &Field<4>) {
     }
 }
 
+/// A full board of the points has the boxes of the field.
+fn a_board_agrees(
+    rt: &impl Abort,
+    alloc: Global,
+    points: &Points,
+    field: &Field<4>,
+) -> Result<(), Fail>
+    requires list { WithinLimits points.now }
+{
+    let mut board = board_of(alloc, points)?;
+    fill_all(rt, &mut board, field.tree().cells().len(), field.targets());
+    boxes_agree(rt, &board, field);
+    Ok(())
+}
+
 #[test]
 fn a_full_board_of_version_2(rt: HostRuntime) -> Result<(), Fail> {
-    let points = points_of_version_2(rt.alloc(), &EACH_LETTER)?;
-    let field = solved::<4>(rt.alloc(), &points)?;
-    let mut board = board_of(rt.alloc(), &points)?;
-    fill_all(&rt, &mut board, field.tree().cells().len(), field.targets());
-    boxes_agree(&rt, &board, &field);
-    Ok(())
+    let alloc = rt.alloc();
+    let points = points_of_version_2(alloc, &EACH_LETTER)?;
+    let arena = Bump::new(alloc);
+    let field = solved::<4>(alloc, &points, &arena)?;
+    a_board_agrees(&rt, alloc, &points, &field)
 }

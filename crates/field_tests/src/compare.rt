@@ -4,9 +4,10 @@ ghost use Rattle.exact_math.specs.Orders.{IsOrder};
 ghost use Rattle.limits.specs.Limits.{grid_of};
 ghost use Rattle.points.specs.Limits.{IsOrderOf, WithinLimits};
 
+use bumpalo::Bump;
 use complex_box::CBox;
 use points::Points;
-use solve_phase::{Field, solve};
+use solve_phase::{Field, solve_alone};
 use std::alloc::Global;
 use std::process::Abort;
 use std::test::Fail;
@@ -32,6 +33,7 @@ pub const EACH_LETTER: [(u32, &str); 5] = [
 ];
 
 /// A field whose numbers are known from elsewhere, and whose targets have the same box.
+#[derive(Drop)]
 pub struct Known {
     /// The lines, each so many times.
     pub lines: &'static [(u32, &'static str)],
@@ -43,17 +45,25 @@ pub struct Known {
 }
 
 /// The field of the points at capacity 8.
-pub fn solved<const P: usize>(alloc: Global, points: &Points) -> Result<Field<P>, Fail>
+pub fn solved<'a, const P: usize>(
+    alloc: Global,
+    points: &Points,
+    arena: &'a Bump,
+) -> Result<Field<'a, P>, Fail>
     requires list { WithinLimits points.now }
     requires order { IsOrderOf (grid_of points.now.version) P }
 {
-    Ok(solve::<P>(alloc, points, 8)?)
+    Ok(solve_alone::<P>(alloc, points, 8, arena)?)
 }
 
 /// The field of these lines at order 4.
-pub fn field_of(alloc: Global, lines: &[(u32, &str)]) -> Result<Field<4>, Fail> {
+pub fn field_of<'a>(
+    alloc: Global,
+    lines: &[(u32, &str)],
+    arena: &'a Bump,
+) -> Result<Field<'a, 4>, Fail> {
     let points = points_of(alloc, lines)?;
-    solved::<4>(alloc, &points)
+    solved::<4>(alloc, &points, arena)
 }
 
 /// The points of these lines in a text of version 2.
@@ -69,11 +79,15 @@ pub fn points_of_version_2(alloc: Global, lines: &[(u32, &str)]) -> Result<Point
 }
 
 /// The field of these lines in a text of version 2.
-pub fn wide_field_of<const P: usize>(alloc: Global, lines: &[(u32, &str)]) -> Result<Field<P>, Fail>
+pub fn wide_field_of<'a, const P: usize>(
+    alloc: Global,
+    lines: &[(u32, &str)],
+    arena: &'a Bump,
+) -> Result<Field<'a, P>, Fail>
     requires { IsOrder P }
 {
     let points = points_of_version_2(alloc, lines)?;
-    solved::<P>(alloc, &points)
+    solved::<P>(alloc, &points, arena)
 }
 
 /// The box has these ends.

@@ -1,5 +1,6 @@
 //! Fields whose numbers are known from elsewhere: one entry far away of each kind.
 use crate::compare::{Known, NINE_CHARGES, field_of, is_known};
+use bumpalo::Bump;
 use letters::Letter;
 use solve_phase::Field;
 use std::alloc::Global;
@@ -104,15 +105,22 @@ fn entry_is(rt: &impl Abort, field: &Field<4>, entry: &Entry) {
     has_rows(rt, field, entry.radius);
 }
 
-fn entries_are(rt: &impl Abort, alloc: Global, entries: &[Entry]) -> Result<(), Fail> {
+/// The field of the entry's lines has it alone.
+fn is_alone(rt: &impl Abort, alloc: Global, entry: &Entry) -> Result<(), Fail> {
+    let arena = Bump::new(alloc);
+    let field = field_of(alloc, entry.known.lines, &arena)?;
+    entry_is(rt, &field, entry);
+    Ok(())
+}
+
+fn are_alone(rt: &impl Abort, alloc: Global, entries: &[Entry]) -> Result<(), Fail> {
     for entry in entries {
-        let field = field_of(alloc, entry.known.lines)?;
-        entry_is(rt, &field, entry);
+        is_alone(rt, alloc, entry)?;
     }
     Ok(())
 }
 
 #[test]
 fn one_entry_far_away(rt: HostRuntime) -> Result<(), Fail> {
-    entries_are(&rt, rt.alloc(), &ENTRIES)
+    are_alone(&rt, rt.alloc(), &ENTRIES)
 }

@@ -10,6 +10,8 @@ mod compare;
 #[cfg(test)]
 mod fields;
 #[cfg(test)]
+mod gates;
+#[cfg(test)]
 mod rows;
 #[cfg(test)]
 mod wide;

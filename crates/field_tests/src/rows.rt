@@ -1,5 +1,6 @@
 //! Rows that are known from elsewhere.
 use crate::compare::{NINE_CHARGES, ends_are, field_of};
+use bumpalo::Bump;
 use complex_box::Row;
 use solve_phase::Field;
 use std::process::Abort;
@@ -51,7 +52,8 @@ fn has_moments(rt: &impl Abort, field: &Field<4>) {
 /// Nine charges at the origin, by hand.
 #[test]
 fn multipole_rows(rt: HostRuntime) -> Result<(), Fail> {
-    let field = field_of(rt.alloc(), &[NINE_CHARGES, (9, "target 2 0\n")])?;
+    let arena = Bump::new(rt.alloc());
+    let field = field_of(rt.alloc(), &[NINE_CHARGES, (9, "target 2 0\n")], &arena)?;
     has_moments(&rt, &field);
     Ok(())
 }
@@ -84,7 +86,12 @@ fn has_far_charge(rt: &impl Abort, field: &Field<4>) {
 
 #[test]
 fn local_rows(rt: HostRuntime) -> Result<(), Fail> {
-    let field = field_of(rt.alloc(), &[(1, "charge 8 0 1\n"), (9, "target 0 0\n")])?;
+    let arena = Bump::new(rt.alloc());
+    let field = field_of(
+        rt.alloc(),
+        &[(1, "charge 8 0 1\n"), (9, "target 0 0\n")],
+        &arena,
+    )?;
     has_far_charge(&rt, &field);
     Ok(())
 }

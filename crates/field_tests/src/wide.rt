@@ -2,19 +2,28 @@
 ghost use Rattle.exact_math.specs.Orders.{IsOrder};
 
 use crate::compare::{EACH_LETTER, Known, NINE_CHARGES, ends_are, is_known, wide_field_of};
+use bumpalo::Bump;
 use solve_phase::Field;
 use std::alloc::Global;
 use std::process::Abort;
 use std::test::Fail;
 use test_boxes::Ends;
 
-/// Each field is as it is known.
+/// The field of the lines is as it is known.
+fn is_solved<const P: usize>(rt: &impl Abort, alloc: Global, known: &Known) -> Result<(), Fail>
+    requires { IsOrder P }
+{
+    let arena = Bump::new(alloc);
+    let field = wide_field_of::<P>(alloc, known.lines, &arena)?;
+    is_known(rt, &field, known);
+    Ok(())
+}
+
 fn are_known<const P: usize>(rt: &impl Abort, alloc: Global, each: &[Known]) -> Result<(), Fail>
     requires { IsOrder P }
 {
     for known in each {
-        let field = wide_field_of::<P>(alloc, known.lines)?;
-        is_known(rt, &field, known);
+        is_solved::<P>(rt, alloc, known)?;
     }
     Ok(())
 }
@@ -174,7 +183,8 @@ fn letters_are<const P: usize>(
 ) -> Result<(), Fail>
     requires { IsOrder P }
 {
-    let field = wide_field_of::<P>(alloc, &EACH_LETTER)?;
+    let arena = Bump::new(alloc);
+    let field = wide_field_of::<P>(alloc, &EACH_LETTER, &arena)?;
     assert!(rt; (field.translations(), field.pairs()) == (45, 10));
     boxes_are(rt, &field, known);
     Ok(())
