@@ -87,7 +87,36 @@ pub fn gated_output<G: Gate>(
     Ok(out)
 }
 
-/// What a run of the words on a text writes. It ends with this status, and nothing is read or written beside that.
+/// The numbers of workers that each solve is tried with.
+const WORKERS: [&str; 5] = ["1", "2", "3", "8", "64"];
+
+/// The longest text, in bytes, whose solve is tried so.
+const MOST_TRIED: usize = 65_536;
+
+/// A solve of a text that isn't long, whose words name no number of workers, writes the same by each of these numbers.
+fn same_by_workers(
+    rt: &(impl Abort + Threads + Sync),
+    alloc: Global,
+    words: &[&str],
+    text: &[u8],
+    ports: Ports<'_>,
+    written: &[u8],
+) -> Result<(), Fail>
+    requires { 0 < ports.step }
+{
+    if words.len() != 4 || MOST_TRIED < text.len() {
+        return Ok(());
+    }
+    for workers in WORKERS {
+        let words = [words[0], words[1], words[2], words[3], workers];
+        let out = gated_output(rt, alloc, &words, text, ports, Status::Done, &OpenGate)?;
+        holds(rt, &out, written);
+    }
+    Ok(())
+}
+
+/// What a run of the words on a text writes. It ends with this status, and nothing is read or written beside that. A solve that
+/// succeeds is tried by several numbers of workers too, where its text isn't long.
 pub fn output_of(
     rt: &(impl Abort + Threads + Sync),
     alloc: Global,
@@ -98,7 +127,11 @@ pub fn output_of(
 ) -> Result<MemSink, Fail>
     requires { 0 < ports.step }
 {
-    gated_output(rt, alloc, words, text, ports, status, &OpenGate)
+    let out = gated_output(rt, alloc, words, text, ports, status, &OpenGate)?;
+    if status == Status::Done {
+        same_by_workers(rt, alloc, words, text, ports, out.held())?;
+    }
+    Ok(out)
 }
 
 /// Runs the words on a text, and compares how it ended and what it wrote. Nothing is read or written beside that.

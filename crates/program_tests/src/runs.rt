@@ -81,18 +81,6 @@ fn reports(rt: HostRuntime) -> Result<(), Fail> {
     Ok(())
 }
 
-/// The number of workers changes no byte.
-#[test]
-fn workers(rt: HostRuntime) -> Result<(), Fail> {
-    for workers in ["1", "2", "64"] {
-        let words = ["solve", "8", "8", "-", workers];
-        for &(text, report) in &REPORTS {
-            expect(&rt, rt.alloc(), &words, text, SURE, Status::Done, report)?;
-        }
-    }
-    Ok(())
-}
-
 #[test]
 fn one_byte_at_a_time(rt: HostRuntime) -> Result<(), Fail> {
     let bytewise = Ports { step: 1, ..SURE };

@@ -35,7 +35,7 @@ fn two_points(rt: HostRuntime) -> Result<(), Fail> {
 /// The number of workers changes no byte.
 #[test]
 fn workers(rt: HostRuntime) -> Result<(), Fail> {
-    for workers in ["1", "2", "64"] {
+    for workers in ["1", "2", "3", "8", "64"] {
         let words = ["sample", "0", "2", "8", "32", workers];
         has_summary(&rt, rt.alloc(), &words, TWO_POINTS_SUMMARY)?;
     }
@@ -111,7 +111,6 @@ fn samples(rt: HostRuntime) -> Result<(), Fail> {
 
 #[test]
 fn twenty_thousand_points(rt: HostRuntime) -> Result<(), Fail> {
-    let words = ["sample", "7", "20000", "16", "32"];
     let summary = "sample 7 20000 order 16 cap 32\n\
         points 20000 sources 15018 targets 4982\n\
         tree cells 1321 leaves 991\n\
@@ -119,5 +118,9 @@ fn twenty_thousand_points(rt: HostRuntime) -> Result<(), Fail> {
         work translations 29552 pairs 648750\n\
         widest re 12651982034900 im 12651982034954\n\
         end\n";
-    has_summary(&rt, rt.alloc(), &words, summary)
+    for workers in ["1", "8"] {
+        let words = ["sample", "7", "20000", "16", "32", workers];
+        has_summary(&rt, rt.alloc(), &words, summary)?;
+    }
+    Ok(())
 }
