@@ -20,10 +20,14 @@ const QUARTERS: [(u32, &str); 4] = [
     (6, "target 8 -8\n"),
 ];
 
+const WEIGHTS: [i128; 5] = [63, 5, 2, 0, 56];
+
+const TARGETS: [u32; 6] = [3, 4, 5, 6, 7, 8];
+
 #[test]
 fn weights_of_four_quarters(rt: HostRuntime) -> Result<(), Fail> {
     let basis = basis_of(rt.alloc(), &QUARTERS)?;
-    assert!(rt; basis.weights.as_slice() == [63, 5, 2, 0, 56].as_slice());
-    assert!(rt; basis.targets.as_slice() == [3, 4, 5, 6, 7, 8].as_slice());
+    assert!(rt; basis.weights.as_slice() == WEIGHTS.as_slice());
+    assert!(rt; basis.targets.as_slice() == TARGETS.as_slice());
     Ok(())
 }

