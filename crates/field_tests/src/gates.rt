@@ -1,4 +1,7 @@
 //! A solve by two workers, two of whose runs are under way at once.
+ghost use Rattle.std.specs.Prelude.{◌≤◌};
+ghost use Rattle.limits.specs.Limits.{most_workers};
+
 use crate::compare::{Known, is_known};
 use bumpalo::Bump;
 use limits::FIRST_GRID;
@@ -119,15 +122,20 @@ const TWO_CELLS: Known = Known {
     ends: ((8_796_093_022_208, 8_796_093_022_208), (0, 0)),
 };
 
-/// The field of the two cells at order 8 and capacity 8, by two workers.
-fn field_by_two<'a, R: Threads + Sync, G: Gate>(
+/// The field of these lines at order 8 and capacity 8, by workers. Condition: 1 to 64 of them.
+pub fn field_by<'a, R: Threads + Sync, G: Gate>(
     rt: &R,
     alloc: Global,
+    lines: &[(u32, &str)],
+    workers: u32,
     gate: &G,
     arena: &'a Bump,
-) -> Result<Field<'a, 8>, Fail> {
-    let points = points_of(alloc, TWO_CELLS.lines)?;
-    Ok(solve::<8, R, G>(rt, alloc, &points, 8, 2, gate, arena)?)
+) -> Result<Field<'a, 8>, Fail>
+    requires least { 1 ≤ workers }
+    requires most { workers ≤ most_workers }
+{
+    let points = points_of(alloc, lines)?;
+    Ok(solve::<8, R, G>(rt, alloc, &points, 8, workers, gate, arena)?)
 }
 
 /// Each of the two runs, and that of the targets, began once and ended once, and no run gave up waiting.
@@ -142,7 +150,7 @@ fn all_came(rt: &impl Abort, gate: &Meeting) {
 fn two_workers_meet(rt: HostRuntime) -> Result<(), Fail> {
     let gate = Meeting::new();
     let arena = Bump::new(rt.alloc());
-    let field = field_by_two(&rt, rt.alloc(), &gate, &arena)?;
+    let field = field_by(&rt, rt.alloc(), TWO_CELLS.lines, 2, &gate, &arena)?;
     all_came(&rt, &gate);
     is_known(&rt, &field, &TWO_CELLS);
     Ok(())

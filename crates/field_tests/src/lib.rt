@@ -14,4 +14,6 @@ mod gates;
 #[cfg(test)]
 mod rows;
 #[cfg(test)]
+mod runs;
+#[cfg(test)]
 mod wide;

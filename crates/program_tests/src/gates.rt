@@ -1,4 +1,4 @@
-//! Two workers of one level are under way at once.
+//! Two workers of one level are under way at once, and a sample is cut for as many as its words say.
 use crate::ports::{SOLVE, SURE, gated_output, output_of};
 use fmm_program::Status;
 use limits::FIRST_GRID;
@@ -109,5 +109,34 @@ fn two_workers_meet(rt: HostRuntime) -> Result<(), Fail> {
     assert_eq!(rt; gate.given_up.load(Ordering::SeqCst), 0);
     let by_one = output_of(&rt, alloc, &SOLVE, TWO_CELLS, SURE, Status::Done)?;
     assert_eq!(rt; by_two.held(), by_one.held());
+    Ok(())
+}
+
+/// How many runs began that are the second of their phase.
+#[derive(Drop)]
+struct Seconds {
+    begun: AtomicU64,
+}
+
+impl Gate for Seconds {
+    fn enter(&self, piece: Piece) {
+        if piece.part == 1 {
+            self.begun.fetch_add(1, Ordering::SeqCst);
+        }
+    }
+
+    fn leave(&self, _piece: Piece) {}
+}
+
+#[test]
+fn samples_are_cut(rt: HostRuntime) -> Result<(), Fail> {
+    for (workers, is_cut) in [("1", false), ("2", true)] {
+        let gate = Seconds {
+            begun: AtomicU64::new(0),
+        };
+        let words = ["sample", "1", "500", "4", "8", workers];
+        let _ = gated_output(&rt, rt.alloc(), &words, b"", SURE, Status::Done, &gate)?;
+        assert_eq!(rt; gate.begun.load(Ordering::SeqCst) > 0, is_cut);
+    }
     Ok(())
 }

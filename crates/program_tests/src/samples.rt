@@ -32,16 +32,6 @@ fn two_points(rt: HostRuntime) -> Result<(), Fail> {
     has_summary(&rt, rt.alloc(), &TWO_POINTS, TWO_POINTS_SUMMARY)
 }
 
-/// The number of workers changes no byte.
-#[test]
-fn workers(rt: HostRuntime) -> Result<(), Fail> {
-    for workers in ["1", "2", "3", "8", "64"] {
-        let words = ["sample", "0", "2", "8", "32", workers];
-        has_summary(&rt, rt.alloc(), &words, TWO_POINTS_SUMMARY)?;
-    }
-    Ok(())
-}
-
 #[test]
 fn a_sample_opens_nothing(rt: HostRuntime) -> Result<(), Fail> {
     let words = words_of(rt.alloc(), &TWO_POINTS)?;
@@ -104,6 +94,17 @@ const SAMPLES: [([&str; 4], &str); 4] = [
 fn samples(rt: HostRuntime) -> Result<(), Fail> {
     for &([seed, count, order, cap], summary) in &SAMPLES {
         let words = ["sample", seed, count, order, cap];
+        has_summary(&rt, rt.alloc(), &words, summary)?;
+    }
+    Ok(())
+}
+
+/// The number of workers changes no byte.
+#[test]
+fn samples_by_workers(rt: HostRuntime) -> Result<(), Fail> {
+    let ([seed, count, order, cap], summary) = SAMPLES[0];
+    for workers in ["1", "2", "3", "8", "64"] {
+        let words = ["sample", seed, count, order, cap, workers];
         has_summary(&rt, rt.alloc(), &words, summary)?;
     }
     Ok(())
