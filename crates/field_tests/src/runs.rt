@@ -36,7 +36,9 @@ fn counts(alloc: Global, many: usize) -> Result<Vec<AtomicU64>, Fail> {
 }
 
 /// The number of a phase: levels 0 to 17, for multipole rows and for local rows with the targets.
-fn phase_of(piece: Piece) -> usize {
+fn phase_of(piece: Piece) -> usize
+    ensures { result ≤ 511 }
+{
     2 * usize::from(piece.level) + usize::from(piece.down)
 }
 
@@ -69,7 +71,9 @@ impl Told {
     }
 
     /// How often this run began and ended.
-    fn of(&self, level: u8, down: bool, part: usize) -> (u64, u64) {
+    fn of(&self, level: u8, down: bool, part: usize) -> (u64, u64)
+        requires { part ≤ 8 }
+    {
         let phase = phase_of(Piece {
             level,
             down,

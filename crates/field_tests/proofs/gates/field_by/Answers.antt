@@ -6,5 +6,4 @@ use Rattle.field_tests.proofs.gates.field_by.Goals as goal
 
 pub solve-requires : goal.solve-requires
 solve-requires g c =
-    let workers = (omega (arith, c.requires.least), omega (arith, c.requires.most)) in
-    (search rules, (search rules, (omega arith, (c.in_ok-points.ensures, (order_of_each _ 8 (inr (inl refl)) (omega arith), (record { least = omega arith; most = omega arith }, workers))))))
+    (search rules, (search rules, (omega arith, (c.in_ok-points.ensures, (order_of_each _ 8 (inr (inl refl)) (omega arith), (record { least = omega arith; most = omega arith }, (omega (arith, c.requires.least), omega (arith, c.requires.most))))))))
