@@ -100,8 +100,9 @@ impl Gate for Told {
         if self.under_way.load(Ordering::SeqCst) > 0 && self.phase.load(Ordering::SeqCst) != phase {
             self.early.fetch_add(1, Ordering::SeqCst);
         }
-        self.under_way.fetch_add(1, Ordering::SeqCst);
+        // first the phase: a run that finds one under way has to find its phase too
         self.phase.store(phase, Ordering::SeqCst);
+        self.under_way.fetch_add(1, Ordering::SeqCst);
         self.raise(&self.begun, piece);
     }
 
