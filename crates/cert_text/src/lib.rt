@@ -1,4 +1,20 @@
-//! The certificate as data.
+//! Certificates as texts and as data: the lines and their forms, which line is the first at fault, and reading.
 #![tactic(auto)]
 
+mod cert;
+mod fault;
+mod form;
+mod head;
+mod law;
+mod range;
+mod read;
+mod rows;
+mod section;
+mod stored;
+
+pub use cert::Cert;
+pub use fault::{CertFault, CertKind};
+pub use law::one_reading;
 pub use letters::{Entry, Letter};
+pub use read::read_cert;
+pub use section::Section;

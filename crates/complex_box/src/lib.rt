@@ -18,7 +18,7 @@ mod row;
 mod work;
 
 pub use acc::Acc;
-use fixed_interval::Interval;
+use fixed_interval::{Interval, Reciprocal};
 pub use row::{Row, clear};
 pub use work::Work;
 
@@ -145,15 +145,25 @@ impl CBox {
     }
 
     /// The quotient of each part by `n`, rounded outward: `[floor(lo/n), ceil(hi/n)]`. Condition: `n >= 1`.
-    #[inline]
+    #[inline(always)]
     pub fn quot(self, n: i128) -> CBox
         requires { pos 1 ≤ℤ n }
         ensures ends { box_ends result ≡ quot_box (box_ends self) n }
         ensures contains { (u : ℤ) (z : ComplexRatio) → BoxContains u self z → BoxContains u result (over_complex z n) }
     {
+        self.quot_by(n, Reciprocal::of(n))
+    }
+
+    /// The same quotient, for a caller that divides many boxes by `n` and keeps its reciprocal. Condition: `n >= 1`.
+    #[inline(always)]
+    pub fn quot_by(self, n: i128, reciprocal: Reciprocal) -> CBox
+        requires { pos 1 ≤ℤ n }
+        ensures ends { box_ends result ≡ quot_box (box_ends self) n }
+        ensures contains { (u : ℤ) (z : ComplexRatio) → BoxContains u self z → BoxContains u result (over_complex z n) }
+    {
         CBox {
-            re: self.re.quot(n),
-            im: self.im.quot(n),
+            re: self.re.quot_by(n, reciprocal),
+            im: self.im.quot_by(n, reciprocal),
         }
     }
 
@@ -202,14 +212,26 @@ impl CBox {
 
     /// The exact product with a Gaussian integer, and then its quotient by `n`, rounded once. Conditions: those of
     /// `gscale`, and `n >= 1`.
-    #[inline]
+    #[inline(always)]
     pub fn gquot(self, g: Gauss, n: i128) -> CBox
         requires fits { GscaleFits (box_ends self) (number g) }
         requires divisor { pos 1 ≤ℤ n }
         ensures ends { box_ends result ≡ gquot_box (box_ends self) (number g) n }
         ensures contains { (u : ℤ) (z : ComplexRatio) → BoxContains u self z → BoxContains u result (over_complex (whole_complex (number g) *ᶜ z) n) }
     {
-        self.gscale(g).quot(n)
+        self.gquot_by(g, n, Reciprocal::of(n))
+    }
+
+    /// The same, for a caller that divides many products by `n` and keeps its reciprocal. Conditions: those of `gscale`,
+    /// and `n >= 1`.
+    #[inline(always)]
+    pub fn gquot_by(self, g: Gauss, n: i128, reciprocal: Reciprocal) -> CBox
+        requires fits { GscaleFits (box_ends self) (number g) }
+        requires divisor { pos 1 ≤ℤ n }
+        ensures ends { box_ends result ≡ gquot_box (box_ends self) (number g) n }
+        ensures contains { (u : ℤ) (z : ComplexRatio) → BoxContains u self z → BoxContains u result (over_complex (whole_complex (number g) *ᶜ z) n) }
+    {
+        self.gscale(g).quot_by(n, reciprocal)
     }
 
     /// True exactly where both parts lie inside those of `outer`.

@@ -14,6 +14,7 @@ use Rattle.field_basis.specs.Place.{PlaceModel, all_translations, no_place}
 use Rattle.field_basis.specs.Target.{TargetModel, all_pairs, target_at, values_of}
 use Rattle.limits.specs.Limits.{most_box, most_cells, widest_grid}
 use Rattle.quadtree.specs.TreeModel.{squares}
+use Rattle.row_phases.proofs.DownLevels.{made_up_are}
 use Rattle.row_phases.specs.Levels.{AreAllMadeLocal, AreAllMadeTargets, AreAllMadeUp}
 use Rattle.target_values.proofs.PassBoxes.{IsTargetPlaceOf, boxes_are, all_contain, all_small, all_pairs_are, all_pairs_few}
 use Rattle.upward_rows.proofs.Counts.{shifts_of_all}
@@ -23,9 +24,6 @@ use Rattle.field_solve.specs.Field.{IsSolved}
 use Rattle.field_solve.specs.Parts.{FitTogether}
 
 module _ (P : ℕ) (b : BasisModel) where
-  pub made_up_are : (up : List PlaceModel) → AreAllMadeUp P b up → AreAllMultipolePlaces P b.points b.tree up
-  made_up_are up ups = record { as_many = ups.as_many; each = λ n lt. (ups.each n lt).place_is }
-
   pub made_local_are : (local : List PlaceModel) → AreAllMadeLocal P b local → AreAllLocalPlaces P b local
   made_local_are local locals = record { as_many = locals.as_many; each = λ n lt. (locals.each n lt).place_is }
 

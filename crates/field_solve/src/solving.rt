@@ -1,12 +1,14 @@
 //! The solve.
-ghost use Rattle.std.specs.Prelude.{◌≡◌, ◌≤◌, length, IfErr, IfOk, OnOk};
+ghost use Rattle.std.specs.Prelude.{◌≡◌, ◌≤◌, length, map, IfErr, IfOk, OnOk};
+ghost use Rattle.complex_box.specs.Box.{box_ends};
 ghost use Rattle.exact_math.specs.Orders.{IsCapacity, IsOrder};
 ghost use Rattle.field_basis.specs.Basis.{IsBasis};
 ghost use Rattle.field_basis.specs.FieldPlaces.{TargetsContain};
+ghost use Rattle.field_widths.specs.Bound.{PrintNoWider};
 ghost use Rattle.limits.specs.Limits.{grid_of, most_workers};
 ghost use Rattle.points.specs.Limits.{AreWithin, IsOrderOf, WithinLimits};
 ghost use Rattle.quadtree.specs.Faults.{HasTree, IsFaultOf};
-ghost use Rattle.quadtree.specs.TreeModel.{IsTreeOf, size};
+ghost use Rattle.quadtree.specs.TreeModel.{IsTreeOf, size, squares};
 ghost use Rattle.row_phases.specs.Levels.{AreAllMadeLocal, AreAllMadeTargets, AreAllMadeUp};
 ghost use Rattle.field_solve.specs.Contents.{RowsContain};
 ghost use Rattle.field_solve.specs.Field.{IsSolved};
@@ -64,6 +66,7 @@ impl<'a, const P: usize> Prepared<'a, P> {
         ensures basis { result.basis ≡ self.entry.basis }
         ensures rows { RowsContain self.entry.basis.points P result }
         ensures contains { TargetsContain self.entry.basis.points result.values }
+        ensures narrow { PrintNoWider P self.entry.basis.points (squares result.basis.tree) (map box_ends result.values) }
     {
         let mut places = self.places;
         places.fill_alone(&self.basis);
@@ -80,6 +83,7 @@ impl<'a, const P: usize> Prepared<'a, P> {
         ensures basis { result.basis ≡ self.entry.basis }
         ensures rows { RowsContain self.entry.basis.points P result }
         ensures contains { TargetsContain self.entry.basis.points result.values }
+        ensures narrow { PrintNoWider P self.entry.basis.points (squares result.basis.tree) (map box_ends result.values) }
     {
         let mut places = self.places;
         places.fill(crew, &self.basis);
@@ -121,6 +125,7 @@ fn finished<'a, const P: usize>(basis: Basis<P>, places: Places<'a, P>) -> Field
     ensures basis { result.basis ≡ basis.entry }
     ensures rows { RowsContain basis.entry.points P result }
     ensures contains { TargetsContain basis.entry.points result.values }
+    ensures narrow { PrintNoWider P basis.entry.points (squares result.basis.tree) (map box_ends result.values) }
 {
     let translations = all_translations::<P>(&places.up) + all_translations::<P>(&places.local);
     let pairs = all_pairs(&places.values);
@@ -163,6 +168,7 @@ pub fn solve<'a, const P: usize, R: Threads + Sync, G: Gate>(
     ensures field { IfOk result (λ field. IsSolved points.now.list cap P field) }
     ensures rows { IfOk result (λ field. RowsContain points.now.list P field) }
     ensures contains { IfOk result (λ field. TargetsContain points.now.list field.values) }
+    ensures narrow { IfOk result (λ field. PrintNoWider P points.now.list (squares field.basis.tree) (map box_ends field.values)) }
     ensures grid { IfOk result (λ field. field.basis.tree.grid ≡ grid_of points.now.version) }
     ensures has_tree { OnOk result (HasTree (grid_of points.now.version) points.now.list cap) }
     ensures fault { IfErr result (IsFaultOf (grid_of points.now.version) points.now.list cap) }
@@ -187,6 +193,7 @@ pub fn solve_alone<'a, const P: usize>(
     ensures field { IfOk result (λ field. IsSolved points.now.list cap P field) }
     ensures rows { IfOk result (λ field. RowsContain points.now.list P field) }
     ensures contains { IfOk result (λ field. TargetsContain points.now.list field.values) }
+    ensures narrow { IfOk result (λ field. PrintNoWider P points.now.list (squares field.basis.tree) (map box_ends field.values)) }
     ensures grid { IfOk result (λ field. field.basis.tree.grid ≡ grid_of points.now.version) }
     ensures has_tree { OnOk result (HasTree (grid_of points.now.version) points.now.list cap) }
     ensures fault { IfErr result (IsFaultOf (grid_of points.now.version) points.now.list cap) }

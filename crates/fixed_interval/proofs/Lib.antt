@@ -1,4 +1,5 @@
 pub mod Division
 pub mod Ends
 pub mod Order
+pub mod Rests
 pub mod Sizes

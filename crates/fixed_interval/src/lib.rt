@@ -8,12 +8,15 @@
 ghost use Rattle.std.specs.Prelude.{ℕ, ◌^◌, ℤ, ◌≤ℤ◌};
 ghost use Rattle.exact_math.specs.Within.{Within};
 
+mod guesses;
 mod products;
 mod rounding;
 
+pub use guesses::Reciprocal;
+use guesses::quotients_by;
 use products::{high_product, low_product};
 pub use rounding::{ceil_shift, floor_shift};
-use rounding::{ceil_near, floor_quot};
+use rounding::{NARROW, ceil_near, floor_quot};
 
 /// The whole ends `lo <= hi`, each from -2^126 to 2^126.
 #[derive(Clone, Copy, PartialEq, Eq, Debug)]
@@ -151,9 +154,38 @@ impl Interval {
     }
 
     /// The quotient `[floor(lo/n), ceil(hi/n)]`. Condition: `n >= 1`.
+    #[inline(always)]
+    pub fn quot(self, n: i128) -> Interval
+        requires { pos 1 ≤ℤ n }
+        ensures ends { ends_of result ≡ quot_ends (ends_of self) n }
+        ensures contains { (u : ℤ) (x : Ratio) → IntervalContains u self x → IntervalContains u result (over_ratio x n) }
+    {
+        self.quot_by(n, Reciprocal::of(n))
+    }
+
+    /// The same quotient, for a caller that divides many intervals by `n` and keeps its reciprocal. Condition: `n >= 1`.
+    ///
+    /// The result is the same with any reciprocal; one that isn't that of `n` costs divisions.
+    #[inline(always)]
+    pub fn quot_by(self, n: i128, reciprocal: Reciprocal) -> Interval
+        requires { pos 1 ≤ℤ n }
+        ensures ends { ends_of result ≡ quot_ends (ends_of self) n }
+        ensures contains { (u : ℤ) (x : Ratio) → IntervalContains u self x → IntervalContains u result (over_ratio x n) }
+    {
+        if n <= NARROW {
+            if let Some(q) = quotients_by(self.lo, self.hi, n as i64, reciprocal) {
+                return Interval { lo: q.lo, hi: q.hi };
+            }
+        }
+        self.quot_divided(n)
+    }
+
+    /// The same quotient by divisions.
     ///
     /// One division serves both ends where the interval lies between two neighbouring multiples of `n`.
-    pub fn quot(self, n: i128) -> Interval
+    #[cold]
+    #[inline(never)]
+    fn quot_divided(self, n: i128) -> Interval
         requires { pos 1 ≤ℤ n }
         ensures ends { ends_of result ≡ quot_ends (ends_of self) n }
         ensures contains { (u : ℤ) (x : Ratio) → IntervalContains u self x → IntervalContains u result (over_ratio x n) }

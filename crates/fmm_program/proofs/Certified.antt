@@ -1,19 +1,26 @@
 -- A report is certified: the printed counts contain the exact direct sums, and one entry accounts for each target and source.
-use Rattle.std.proofs.Common.{◌≡◌, ◌∙◌, ap, append-nil, refl, subst, Some, None, IfSome, ℕ, List, [], ◌∷◌, ◌++◌, map, pos, ◌^◌}
+use Rattle.std.proofs.Common.{◌≡◌, ◌∙◌, ap, append-nil, refl, subst, Some, None, IfSome, ℕ, List, [], ◌∷◌, ◌++◌, map, pos, ◌^◌, ℤ, arith, neg_ℤ, ◌-ℤ◌, ◌*ℤ◌, ◌≤ℤ◌}
+use Rattle.std.specs.Prelude.{All}
+use Rattle.std.proofs.lemmas.Int.{ints}
 use Rattle.std.proofs.KnownBytes.{Appends-kept}
-use Rattle.std.proofs.lemmas.List.Elements.{recursion_from_All}
+use Rattle.std.proofs.lemmas.List.Elements.{All-cons, All-tail, recursion_from_All}
 use Rattle.std.specs.Io.KnownBytes.{Consumes, Keeps}
 use Rattle.std.specs.List.{AllZip, AllByRecursion}
 use Rattle.std.specs.declared.option.Option.{Option}
-use Rattle.exact_math.specs.Ends.{BoxEndsContain}
+use Rattle.exact_math.specs.Ends.{Ends, BoxEnds, BoxEndsContain, neg_ends}
 use Rattle.exact_math.specs.Orders.{IsOrder}
 use Rattle.exact_math.proofs.Orders.{order_bounds}
 use Rattle.report_lines.proofs.Bounds.{CountsContain-box}
+use Rattle.report_lines.specs.Counts.{count_ends, target_counts}
 use Rattle.field_report.specs.FieldText.{field_line}
+use Rattle.field_widths.proofs.PrintedWidths.{printed_counts_narrow}
+use Rattle.field_widths.specs.Bound.{NoWider, PrintsNoWider, width_bound}
 use Rattle.limits.proofs.Grids.{grid_positive, version_has_grid}
 use Rattle.limits.specs.Limits.{grid_of}
 use Rattle.near_field.specs.DirectSum.{direct_sum}
 use Rattle.points.specs.Points.{place}
+use Rattle.points.specs.declared.Mode.{Mode}
+use Rattle.points.specs.declared.Mode.TheVariants.{Field, Velocity}
 use Rattle.points.specs.declared.Point.{Point}
 use Rattle.points.specs.declared.Points.{Points}
 use Rattle.quadtree.proofs.Limits.{in_grid}
@@ -23,7 +30,7 @@ use Rattle.tree_field.proofs.Work.{translations_are_few}
 use Rattle.tree_field.specs.Field.{targets, target_box}
 use Rattle.tree_field.specs.Lists.{TreeLists}
 use Rattle.fmm_program.proofs.OneListEntry.{one_list_entry}
-use Rattle.fmm_program.specs.Answers.{IsCertified, IsReported, LineContains, SolveAnswers}
+use Rattle.fmm_program.specs.Answers.{IsCertified, IsReported, LineContains, LineIsNarrow, SolveAnswers}
 use Rattle.fmm_program.specs.Endings.{IsEnding, flow, untold}
 use Rattle.fmm_program.specs.Runs.{CertifiedRun, SolveRun}
 use Rattle.fmm_program.specs.declared.status.Status.{Status}
@@ -37,6 +44,25 @@ lines_contain points cap P lists (t ∷ some) h = (
   (refl, refl, CountsContain-box points.mode (target_box points.list cap P lists (place t)) (direct_sum (place t) points.list) h.0),
   lines_contain points cap P lists some h.1,
 )
+
+-- the counts of `v` are as far apart as those of the imaginary part
+neg_no_wider : (P s : ℕ) (points : List Point) (counts : Ends) → NoWider P s points counts → NoWider P s points (neg_ends counts)
+neg_no_wider P s points counts h = subst (λ d. (pos s *ℤ d) ≤ℤ pos (width_bound P s points)) (apart counts.lo counts.hi) h
+  where
+    apart : (lo hi : ℤ) → hi -ℤ lo ≡ neg_ℤ lo -ℤ neg_ℤ hi
+    apart lo hi = omega (arith, ints)
+
+counts_narrow : (P s : ℕ) (points : List Point) (mode : Mode) (b : BoxEnds) → PrintsNoWider P s points b
+    → NoWider P s points (target_counts mode b).first × NoWider P s points (target_counts mode b).second
+counts_narrow P s points Field b h = (h.re, h.im)
+counts_narrow P s points Velocity b h = (h.re, neg_no_wider P s points (count_ends b.im) h.im)
+
+lines_narrow : (points : Points) (cap P s : ℕ) (lists : TreeLists) (some : List Point) → All (PrintsNoWider P s points.list) (map (λ t. target_box points.list cap P lists (place t)) some)
+    → All (LineIsNarrow P s points.list) (map (field_line points.mode points.list cap P lists) some)
+lines_narrow points cap P s lists [] h = λ k d lt. absurd (omega (arith, lt))
+lines_narrow points cap P s lists (t ∷ some) h =
+    let box = λ (t : Point). target_box points.list cap P lists (place t) in
+    All-cons (LineIsNarrow P s points.list) (field_line points.mode points.list cap P lists t) (map (field_line points.mode points.list cap P lists) some) (counts_narrow P s points.list points.mode (box t) (h 0 (box t) (omega arith))) (lines_narrow points cap P s lists some (All-tail (PrintsNoWider P s points.list) (box t) (map box some) h))
 
 pub certified : (order cap : ℕ) (input out : List ℕ) → IsOrder order → IsReported order cap input out → IsCertified order cap input out
 certified order cap input out is_order s =
@@ -54,6 +80,7 @@ certified order cap input out is_order s =
       lines = map (field_line points.mode points.list cap order s.lists) (targets points.list);
       report = s.report;
       contain = lines_contain points cap order s.lists (targets points.list) (recursion_from_All _ (targets points.list) boxes);
+      narrow = λ side smallest. lines_narrow points cap order side s.lists (targets points.list) (printed_counts_narrow grid points.list cap order s.lists (version_has_grid points.version) is_order inside s.lists_are side smallest);
       one_entry = one_list_entry grid points.list cap s.lists some inside s.lists_are;
       few = translations_are_few points.list s.lists;
     }

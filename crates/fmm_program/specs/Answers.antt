@@ -1,10 +1,11 @@
 -- What `solve` answers, what goes out with each answer, and the certified solve.
-use Rattle.std.specs.Prelude.{ℕ, ◌+◌, ◌*◌, ◌<◌, ◌≤◌, ◌≡◌, ◌⊎◌, List, [], ◌++◌, length, codes, decimal, sum_by, Contains}
+use Rattle.std.specs.Prelude.{ℕ, ◌+◌, ◌*◌, ◌<◌, ◌≤◌, ◌≡◌, ◌⊎◌, List, [], ◌++◌, length, codes, decimal, sum_by, All, Contains}
 use Rattle.std.specs.List.{AllZip}
 use Rattle.cell_lists.specs.Entries.{Accounts, IsTargetAndSource}
 use Rattle.letters.specs.declared.Letter.{Letter}
 use Rattle.cell_name.specs.Square.{Square}
 use Rattle.letters.specs.declared.Letter.TheVariants.{V}
+use Rattle.field_widths.specs.Bound.{IsSmallestSide, NoWider}
 use Rattle.limits.specs.Limits.{grid_of, most_order}
 use Rattle.near_field.specs.DirectSum.{direct_sum}
 use Rattle.particle_text.specs.Faults.{FirstFault}
@@ -100,6 +101,10 @@ DepthAnswers points cap _ output = ⊥
 abbrev pub LineContains : Points → Point → TargetLine → Type 0
 LineContains points t line = (line.x ≡ t.x) × (line.y ≡ t.y) × CountsContain points.mode line.counts (direct_sum (place t) points.list)
 
+-- neither pair of printed counts is farther apart than the bound at this order, with the smallest side s
+abbrev pub LineIsNarrow : ℕ → ℕ → List Point → TargetLine → Type 0
+LineIsNarrow order s points line = NoWider order s points line.counts.first × NoWider order s points line.counts.second
+
 -- exactly one entry of the lists accounts for a target and a source
 pub record HasOneListEntry (lists : TreeLists) (target source : Point) : Type 0 where
   pub letter : Letter
@@ -110,8 +115,8 @@ pub record HasOneListEntry (lists : TreeLists) (target source : Point) : Type 0 
   pub accounts : Accounts b c target source
   pub no_other : (letter' : Letter) (b' c' : Square) → Contains lists.cells b' → Contains (lists.entries letter' b') c' → Accounts b' c' target source → (letter' ≡ letter) × (b' ≡ b) × (c' ≡ c)
 
--- The input is within its limit and spells points of a version that has the order, and the bytes are a report with one line for each target, in order, whose counts contain the exact direct sum.
--- Of the lists of the tree exactly one entry accounts for each target and source, and the counts of work are theirs.
+-- The input is within its limit and spells points of a version that has the order, and the bytes are a report with one line for each target, in order, whose counts contain the exact direct sum and are no farther apart
+-- than the bound. Of the lists of the tree exactly one entry accounts for each target and source, and the counts of work are theirs.
 pub record IsCertified (order cap : ℕ) (input out : List ℕ) : Type 0 where
   pub points : Points
   pub read : IsRead input points
@@ -121,5 +126,6 @@ pub record IsCertified (order cap : ℕ) (input out : List ℕ) : Type 0 where
   pub lines : List TargetLine
   pub report : out ≡ report_text points.mode order cap lines (translations points.list lists) (pairs points.list lists)
   pub contain : AllZip (LineContains points) (targets points.list) lines
+  pub narrow : (s : ℕ) → IsSmallestSide lists.cells s → All (LineIsNarrow order s points.list) lines
   pub one_entry : (target source : Point) → IsTargetAndSource points.list target source → HasOneListEntry lists target source
   pub few : translations points.list lists ≤ sum_by (λ b. length (lists.entries V b)) lists.cells + 2 * length lists.cells

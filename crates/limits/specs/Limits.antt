@@ -64,3 +64,22 @@ most_printed = 2 ^ 96
 -- the greatest number of workers of a solve, in any version
 abbrev pub most_workers : ℕ
 most_workers = 64
+
+-- ---- certificates
+-- the greatest number of bytes of a certificate
+abbrev pub most_certificate : ℕ → ℕ
+most_certificate grid = by_grid grid (2 ^ 30) (2 ^ 31)
+
+-- the greatest number of its entries, which no text of so many bytes passes
+abbrev pub most_entries : ℕ → ℕ
+most_entries grid = by_grid grid (2 ^ 28 - 1) (2 ^ 29 - 1)
+
+-- the greatest sizes of what it gives as ends of multipole rows, as ends of local rows and radii, and as ends of target boxes and counts
+abbrev pub most_given_multipole : ℕ
+most_given_multipole = 2 ^ 80
+
+abbrev pub most_given_local : ℕ
+most_given_local = 2 ^ 90
+
+abbrev pub most_given_target : ℕ → ℕ
+most_given_target grid = by_grid grid (2 ^ 84) (2 ^ 96)

@@ -5,7 +5,7 @@ ghost use Rattle.std.specs.Prelude.{◌≡◌, ◌↔◌, IsTrue, pos, neg_ℤ, 
 ghost use Rattle.std.specs.Int.{w64};
 ghost use Rattle.limits.specs.Grid.{half, IsInGrid};
 ghost use Rattle.limits.specs.Laws.{VersionHasGrid, WidestHasMost, GridsAreNested};
-ghost use Rattle.limits.specs.Limits.{IsGrid, IsVersion, grid_of, by_grid, most_points, most_weight, most_cells, most_order};
+ghost use Rattle.limits.specs.Limits.{IsGrid, IsVersion, grid_of, by_grid, most_points, most_weight, most_cells, most_order, most_certificate, most_entries};
 
 /// The bits of the grid of version 1.
 pub const FIRST_GRID: u8 = 16;
@@ -73,6 +73,20 @@ pub fn most_order(grid: u8) -> u32
     ensures { result ≡ most_order grid }
 {
     if grid == FIRST_GRID { 24 } else { 32 }
+}
+
+/// The greatest number of bytes of a certificate.
+pub fn most_certificate(grid: u8) -> u64
+    ensures { result ≡ most_certificate grid }
+{
+    by_grid(grid, 1 << 30, 1 << 31)
+}
+
+/// The greatest number of entries of a certificate, which no text of so many bytes passes.
+pub fn most_entries(grid: u8) -> u64
+    ensures { result ≡ most_entries grid }
+{
+    by_grid(grid, (1 << 28) - 1, (1 << 29) - 1)
 }
 
 /// How far the origin is from the west and the south border of the grid.

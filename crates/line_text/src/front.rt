@@ -107,6 +107,18 @@ impl<const N: usize> FrontText<N> {
         }
     }
 
+    /// Puts a whole number of up to 128 bits before the text, `-` first where it is below 0.
+    pub fn prepend_wide_int(&mut self, z: i128)
+        requires { 40 + length self.old ≤ N }
+        ensures text { self.new ≡ signed_decimal z ++ self.old }
+        ensures length { length self.new ≤ 40 + length self.old }
+    {
+        self.prepend_wide(z.unsigned_abs());
+        if z < 0 {
+            self.prepend(b'-');
+        }
+    }
+
     /// Puts the last 12 digits of a number before the text.
     pub fn prepend_places(&mut self, n: u64)
         requires { 12 + length self.old ≤ N }

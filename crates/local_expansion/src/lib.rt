@@ -58,7 +58,8 @@ pub fn convert<const P: usize>(
     ensures adds { RowsAdd P (row_of into.old) (converted P (kernel_entry (number e)) (row_of row.entry.cells.now)) (row_of into.new) }
     ensures contains { AddsFieldConverted P (number e) (row_of row.entry.cells.now) (row_of into.old) (row_of into.new) }
     ensures size { (m n : ℕ) → RowWithin P (2 * m) (row_of row.entry.cells.now) → RowWithin P n (row_of into.old) → RowWithin P (n + 3 * m) (row_of into.new) }
-    ensures narrow { (v w A : ℕ) → RowNarrow P w (row_of row.entry.cells.now) → RowHoldsWithin P A (row_of row.entry.cells.now) → RowNarrow P v (row_of into.old) → RowNarrow P (v + (2 * w + 2 * P * A + 3)) (row_of into.new) }
+    ensures narrow { (v w A : ℕ) → RowNarrow P w (row_of row.entry.cells.now) → RowHoldsWithin P A (row_of row.entry.cells.now)
+        → RowNarrow P v (row_of into.old) → RowNarrow P (v + (2 * w + 2 * P * A + 3)) (row_of into.new) }
     ensures work { AddsTranslations 1 work.old work.new }
 {
     let narrow = is_narrow(row);

@@ -29,7 +29,7 @@ fn add_poles(into: &mut [CBox], first: CBox, zeta: Gauss, bits: u32)
     let ratio = far_ratio(zeta, bits);
     let mut power = first;
     for l in 0..into.len() {
-        power = power.gquot(ratio.factor, ratio.divisor);
+        power = power.gquot_by(ratio.factor, ratio.divisor, ratio.reciprocal);
         into[l] = into[l].add(power.neg());
     }
 }
@@ -46,9 +46,9 @@ fn add_dipoles(into: &mut [CBox], first: CBox, zeta: Gauss, bits: u32)
     ensures dipoles { RowsAdd (length into.old) (row_of into.old) (far_dipoles (box_ends first) (2 * 2 ^ bits) (number zeta)) (row_of into.new) }
 {
     let ratio = far_ratio(zeta, bits);
-    let mut power = first.gquot(ratio.factor, ratio.divisor);
+    let mut power = first.gquot_by(ratio.factor, ratio.divisor, ratio.reciprocal);
     for l in 0..into.len() {
-        power = power.gquot(ratio.factor, ratio.divisor);
+        power = power.gquot_by(ratio.factor, ratio.divisor, ratio.reciprocal);
         into[l] = into[l].add(power.scale(l as i128 + 1));
     }
 }

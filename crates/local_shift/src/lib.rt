@@ -35,7 +35,8 @@ pub fn shift_down<const P: usize>(parent: Row<P>, q: Quadrant, into: &mut [CBox]
     ensures adds { RowsAdd P (row_of into.old) (shifted_down P (row_of parent.entry.cells.now) (quadrant_of q)) (row_of into.new) }
     ensures contains { AddsFieldDown P (quadrant_of q) (row_of parent.entry.cells.now) (row_of into.old) (row_of into.new) }
     ensures size { (m n : ℕ) → RowWithin P m (row_of parent.entry.cells.now) → RowWithin P n (row_of into.old) → RowWithin P (m + n) (row_of into.new) }
-    ensures narrow { (v w : ℕ) → RowNarrow P w (row_of parent.entry.cells.now) → RowNarrow P v (row_of into.old) → RowNarrow P (v + (w + 2 * P + 2)) (row_of into.new) }
+    ensures narrow { (v w : ℕ) → RowNarrow P w (row_of parent.entry.cells.now)
+        → RowNarrow P v (row_of into.old) → RowNarrow P (v + (w + 2 * P + 2)) (row_of into.new) }
     ensures work { AddsTranslations 1 work.old work.new }
 {
     let mut moved = [CBox::zero(); P];

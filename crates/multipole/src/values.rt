@@ -22,7 +22,7 @@ pub(crate) fn value_at<const P: usize>(row: Row<P>, zeta: Gauss, bits: u32) -> C
     for n in 0..P {
         value = value
             .add(row.get(P - 1 - n))
-            .gquot(ratio.factor, ratio.divisor);
+            .gquot_by(ratio.factor, ratio.divisor, ratio.reciprocal);
     }
     value.quot_shift(bits)
 }

@@ -30,7 +30,8 @@ pub fn shift_up<const P: usize>(child: Row<P>, q: Quadrant, into: &mut [CBox], w
     ensures adds { RowsAdd P (row_of into.old) (shifted_up (row_of child.entry.cells.now) (quadrant_of q)) (row_of into.new) }
     ensures contains { AddsMomentsUp P (quadrant_of q) (row_of child.entry.cells.now) (row_of into.old) (row_of into.new) }
     ensures size { (m n : ℕ) → RowWithin P m (row_of into.old) → RowWithin P n (row_of child.entry.cells.now) → RowWithin P (m + n) (row_of into.new) }
-    ensures narrow { (k v w : ℕ) → k < P → RowNarrow (suc k) w (row_of child.entry.cells.now) → BoxEndsNarrow v (row_of into.old k) → BoxEndsNarrow (v + (w + 2 * k)) (row_of into.new k) }
+    ensures narrow { (k v w : ℕ) → k < P → RowNarrow (suc k) w (row_of child.entry.cells.now)
+        → BoxEndsNarrow v (row_of into.old k) → BoxEndsNarrow (v + (w + 2 * k)) (row_of into.new k) }
     ensures work { AddsTranslations 1 work.old work.new }
 {
     let mut part = [CBox::zero(); P];

@@ -1,7 +1,7 @@
 -- Digits read from the left.
 use Rattle.std.proofs.Common.{◌≡◌, ℕ, ◌+◌, ◌-◌, ◌*◌, ◌<◌, List, [], ◌∷◌, ◌++◌, length, take, get_or, min, refl, ap, ◌∙◌, arith, ◌≢◌, ℤ, pos, negsuc, neg_ℤ, zero, suc, drop}
 use Rattle.std.proofs.lemmas.List.{take_more}
-use Rattle.std.proofs.lemmas.List.Elements.{All-from_recursion, recursion_from_All, All-more, All-get_or}
+use Rattle.std.proofs.lemmas.List.Elements.{All-from_recursion, recursion_from_All, All-more}
 use Rattle.std.specs.List.{AllByRecursion}
 use Rattle.number_text.specs.Numbers.{IsDigit, IsUint, IsInt, value_after, cut_uint, cut_int, most_read}
 

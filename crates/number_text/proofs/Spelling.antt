@@ -30,7 +30,7 @@ spelled_after n (c ∷ cs) above all =
     ap (map ascii) more ∙ map-append ascii (digits_of 10 n) ((c - 48) ∷ []) ∙ ap (λ b. map ascii (digits_of 10 n) ++ b ∷ []) byte in
     spelled_after next cs (omega arith) all.1 ∙ ap (λ front. front ++ cs) texts ∙ append_assoc (map ascii (digits_of 10 n)) (c ∷ []) cs
 
-one_digit : (d n : ℕ) → 0 < d → d < 10 → n ≡ d → digits_of 10 n ≡ d ∷ []
+pub one_digit : (d n : ℕ) → 0 < d → d < 10 → n ≡ d → digits_of 10 n ≡ d ∷ []
 one_digit d n above small is =
     let quotient : n / 10 ≡ 0 = omega arith in
     let rest : n % 10 ≡ d = omega arith in

@@ -20,7 +20,7 @@ use Rattle.points.specs.declared.Point.{Point}
 use Rattle.points.specs.declared.Points.{Points}
 use Rattle.points.specs.Limits.{HasStrength, InRange, WithinLimits}
 use Rattle.points.proofs.Ranges.{range_in_widest}
-use Rattle.particle_text.specs.Text.{LineSpells, BeginsWith, AreLines, Spells, name_of, strength_of, numbers_of, numbers_text, line_text, text_of, head_line}
+use Rattle.particle_text.specs.Text.{LineSpells, BeginsWith, AreLines, Spells, name_of, strength_of, numbers_of, numbers_line, line_text, text_of, head_line}
 use Rattle.particle_text.proofs.Heads.{free_by_test}
 
 -- small enough for a printed number
@@ -55,10 +55,10 @@ abbrev body : List ℤ → List ℕ
 body [] = []
 body (z ∷ zs) = 32 ∷ (signed_decimal z ++ body zs)
 
-body_and_feed : (zs : List ℤ) (rest : List ℕ) → numbers_text zs ++ rest ≡ body zs ++ 10 ∷ rest
+body_and_feed : (zs : List ℤ) (rest : List ℕ) → numbers_line zs ++ rest ≡ body zs ++ 10 ∷ rest
 body_and_feed [] rest = refl
 body_and_feed (z ∷ zs) rest =
-    ap (λ text. 32 ∷ text) (append_assoc (signed_decimal z) (numbers_text zs) rest ∙ ap (λ text. signed_decimal z ++ text) (body_and_feed zs rest) ∙ sym (append_assoc (signed_decimal z) (body zs) (10 ∷ rest)))
+    ap (λ text. 32 ∷ text) (append_assoc (signed_decimal z) (numbers_line zs) rest ∙ ap (λ text. signed_decimal z ++ text) (body_and_feed zs rest) ∙ sym (append_assoc (signed_decimal z) (body zs) (10 ∷ rest)))
 
 free_of_both : (byte : ℕ) (xs ys : List ℕ) → IsFreeOf byte xs → IsFreeOf byte ys → IsFreeOf byte (xs ++ ys)
 free_of_both byte [] ys a b = b
@@ -102,7 +102,7 @@ line_begins version p rest range =
     record {
       line = name_of p.kind ++ body (numbers_of p);
       cut = record {
-        whole = append_assoc (name_of p.kind) (numbers_text (numbers_of p)) rest ∙ ap (λ text. name_of p.kind ++ text) (body_and_feed (numbers_of p) rest) ∙ sym (append_assoc (name_of p.kind) (body (numbers_of p)) (10 ∷ rest));
+        whole = append_assoc (name_of p.kind) (numbers_line (numbers_of p)) rest ∙ ap (λ text. name_of p.kind ++ text) (body_and_feed (numbers_of p) rest) ∙ sym (append_assoc (name_of p.kind) (body (numbers_of p)) (10 ∷ rest));
         first = free_of_both 10 (name_of p.kind) (body (numbers_of p)) (name_free_of_feed p.kind) (body_free (numbers_of p) small);
       };
       spelled = record {

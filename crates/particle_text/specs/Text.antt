@@ -67,13 +67,13 @@ pub record Spells (bytes : List ℕ) (points : Points) : Type 0 where
 -- Each list within the limits has one text. Here it is, as a function of the list.
 
 -- the numbers, each behind a space, and the line feed
-abbrev pub numbers_text : List ℤ → List ℕ
-numbers_text [] = line_feed ∷ []
-numbers_text (z ∷ zs) = space ∷ (signed_decimal z ++ numbers_text zs)
+abbrev pub numbers_line : List ℤ → List ℕ
+numbers_line [] = line_feed ∷ []
+numbers_line (z ∷ zs) = space ∷ (signed_decimal z ++ numbers_line zs)
 
 -- the line of p, with its line feed
 abbrev pub line_text : Point → List ℕ
-line_text p = name_of p.kind ++ numbers_text (numbers_of p)
+line_text p = name_of p.kind ++ numbers_line (numbers_of p)
 
 abbrev pub text_of : Points → List ℕ
 text_of points = head_line points.version points.mode ++ line_feed ∷ [] ++ flat_map line_text points.list

@@ -21,3 +21,5 @@ mod trees;
 mod versions;
 #[cfg(test)]
 mod wide;
+#[cfg(test)]
+mod widths;

@@ -39,7 +39,7 @@ const VORTICES: [(u32, &str); 5] = [
 ];
 
 /// Dipoles of the greatest weight that a list may have, with a U, a V and a W entry.
-const HEAVY: [(u32, &str); 4] = [
+pub const HEAVY: [(u32, &str); 4] = [
     (512, "dipole 0 0 1048576 1048576\n"),
     (1, "target 1 0\n"),
     (9, "target 2 0\n"),

@@ -1,23 +1,11 @@
 -- The printed counts of a box: whole numbers of 10^-12.
-use Rattle.std.specs.Prelude.{ℤ, pos, ◌*ℤ◌, ◌≤ℤ◌, ◌<ℤ◌, ◌^◌, Bool, true, false}
 use Rattle.exact_math.specs.Contains.{Contains}
 use Rattle.exact_math.specs.Ends.{Ends, BoxEnds, neg_ends}
-use Rattle.exact_math.specs.Ratio.{Ratio, ComplexRatio, re_part, im_part, neg_ratio}
-use Rattle.exact_math.specs.Rounding.{floor_div, ceil_div}
-use Rattle.exact_math.specs.Units.{unit}
+use Rattle.exact_math.specs.Ratio.{ComplexRatio, re_part, im_part, neg_ratio}
 use Rattle.points.specs.declared.Mode.{Mode}
 use Rattle.points.specs.declared.Mode.TheVariants.{Field, Velocity}
-
--- an end in units of 2^-40 as a count of 10^-12, rounded down, and rounded up
-abbrev pub count_below : ℤ → ℤ
-count_below n = floor_div (pos (10 ^ 12) *ℤ n) unit
-
-abbrev pub count_above : ℤ → ℤ
-count_above n = ceil_div (pos (10 ^ 12) *ℤ n) unit
-
--- the counts of both ends of an interval
-abbrev pub count_ends : Ends → Ends
-count_ends i = record { lo = count_below i.lo; hi = count_above i.hi }
+pub use Rattle.soundness.specs.Counts.{count_below, count_above, count_ends}
+use Rattle.soundness.specs.Counts.{count_unit}
 
 -- the counts that one target line prints, of `re` and `im` or of `u` and `v`
 pub record TargetCounts : Type 0 where
@@ -32,6 +20,6 @@ target_counts Velocity b = record { first = count_ends b.re; second = neg_ends (
 -- the printed counts contain the parts of the fraction, in units of 10^-12
 abbrev pub CountsContain : Mode → TargetCounts → ComplexRatio → Type 0
 CountsContain Field c z =
-    record { first : Contains (pos (10 ^ 12)) c.first.lo c.first.hi (re_part z); second : Contains (pos (10 ^ 12)) c.second.lo c.second.hi (im_part z) }
+    record { first : Contains count_unit c.first.lo c.first.hi (re_part z); second : Contains count_unit c.second.lo c.second.hi (im_part z) }
 CountsContain Velocity c z =
-    record { first : Contains (pos (10 ^ 12)) c.first.lo c.first.hi (re_part z); second : Contains (pos (10 ^ 12)) c.second.lo c.second.hi (neg_ratio (im_part z)) }
+    record { first : Contains count_unit c.first.lo c.first.hi (re_part z); second : Contains count_unit c.second.lo c.second.hi (neg_ratio (im_part z)) }

@@ -14,8 +14,8 @@ use Rattle.field_basis.specs.Place.{PlaceModel, no_place, place_at}
 use Rattle.row_phases.specs.DownRuns.{IsRunBelow}
 use Rattle.row_phases.specs.Levels.{AreAllMadeUp, AreMadeBefore}
 
-pub rows_made : (P : ℕ) (b : BasisModel) (up : List PlaceModel) → AreAllMadeUp P b up → AreAllMultipolePlaces P b.points b.tree up
-rows_made P b up h = record { as_many = h.as_many; each = λ n lt. (h.each n lt).place_is }
+pub made_up_are : (P : ℕ) (b : BasisModel) (up : List PlaceModel) → AreAllMadeUp P b up → AreAllMultipolePlaces P b.points b.tree up
+made_up_are P b up h = record { as_many = h.as_many; each = λ n lt. (h.each n lt).place_is }
 
 pub few_cells : (P : ℕ) (b : BasisModel) → IsBasis P b → size b.tree < 2 ^ 32
 few_cells P b is = omega (arith, is.is_tree.few, (within_widest b.tree.grid is.is_tree.known_grid).cells)
@@ -61,7 +61,7 @@ module _ (P : ℕ) (b : BasisModel) (is : IsBasis P b) (level first end : ℕ) (
   pub level_is_run : (up : List PlaceModel) → AreAllMadeUp P b up → (count : ℕ) → first + count ≡ end → IsRunBelow P b up above first count
   level_is_run up rows count e = record {
     basis = is;
-    rows = rows_made P b up rows;
+    rows = made_up_are P b up rows;
     in_range = omega (arith, cells.in_range);
     parents = λ n from to lo. parent_made n from (omega arith) lo;
   }

@@ -10,6 +10,7 @@ ghost use Rattle.row_recursions.specs.Rows.{units_box};
 
 use cell_name::Cell;
 use complex_box::{CBox, Gauss, UNIT};
+use fixed_interval::Reciprocal;
 
 /// The number of bits by which the side is 1 shifted.
 pub fn side_bits(cell: Cell) -> u32
@@ -39,11 +40,13 @@ pub fn units(re: i64, im: i64) -> CBox
     CBox::point(UNIT * i128::from(re), UNIT * i128::from(im))
 }
 
-/// `2 s/zeta` as a Gaussian integer over a whole number: `2 s conj zeta` over the norm of `zeta`.
+/// `2 s/zeta` as a Gaussian integer over a whole number: `2 s conj zeta` over the norm of `zeta`. All steps of a row divide by that norm,
+/// so its reciprocal is kept.
 #[derive(Clone, Copy, PartialEq, Eq, Debug)]
 pub struct FarRatio {
     pub factor: Gauss,
     pub divisor: i128,
+    pub reciprocal: Reciprocal,
 }
 
 /// The factor of a step of a far source or a far target with the doubled offset `zeta` from the centre of a cell of side `2^bits`.
@@ -62,11 +65,13 @@ pub fn far_ratio(zeta: Gauss, bits: u32) -> FarRatio
     let double = 2i64 << bits;
     let re = i128::from(zeta.re);
     let im = i128::from(zeta.im);
+    let divisor = re * re + im * im;
     FarRatio {
         factor: Gauss {
             re: double * zeta.re,
             im: -(double * zeta.im),
         },
-        divisor: re * re + im * im,
+        divisor,
+        reciprocal: Reciprocal::of(divisor),
     }
 }

@@ -4,15 +4,11 @@ use Rattle.std.specs.Prelude.{All, AllPairs, Contains, sum_by}
 use Rattle.std.proofs.lemmas.List.Elements.{All-tail}
 use Rattle.std.proofs.lemmas.List.Sums.{sum_by-cons}
 use Rattle.exact_math.proofs.Lists.{All-from_members, later, first_differs, rest_differ}
-use Rattle.soundness.proofs.Sums.{sum_by-same}
+use Rattle.soundness.proofs.Sums.{sum_by-add, sum_by-same}
 
 sum_by-zero : {A : Type 0} (f : A → ℕ) (xs : List A) → All (λ x. f x ≡ 0) xs → sum_by f xs ≡ 0
 sum_by-zero f [] h = refl
 sum_by-zero f (x ∷ xs) h = sum_by-cons f x xs ∙ ap₂ (λ m n. m + n) (h 0 x (omega arith)) (sum_by-zero f xs (All-tail (λ x. f x ≡ 0) x xs h))
-
-sum_by-add : {A : Type 0} (f g : A → ℕ) (xs : List A) → sum_by (λ x. f x + g x) xs ≡ sum_by f xs + sum_by g xs
-sum_by-add f g [] = refl
-sum_by-add f g (x ∷ xs) = omega (arith, sum_by-cons (λ y. f y + g y) x xs, sum_by-cons f x xs, sum_by-cons g x xs, sum_by-add f g xs)
 
 pub sum_by-exchange : {A B : Type 0} (f : A → B → ℕ) (xs : List A) (ys : List B) → sum_by (λ a. sum_by (f a) ys) xs ≡ sum_by (λ b. sum_by (λ a. f a b) xs) ys
 sum_by-exchange f [] ys = sym (sum_by-zero (λ b. 0) ys (λ k d lt. refl))

@@ -1,6 +1,10 @@
-//! Tests of the ports, of numbers and particles as text, and of samples.
+//! Tests of the ports, of numbers, particles and certificates as text, and of samples.
 #![tactic(auto)]
 
+#[cfg(test)]
+mod cert_lines;
+#[cfg(test)]
+mod certificates;
 #[cfg(test)]
 mod numbers;
 #[cfg(test)]

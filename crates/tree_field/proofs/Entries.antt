@@ -127,7 +127,7 @@ module _ (grid : ℕ) (points : List Point) (cap P : ℕ) (lists : TreeLists) (p
       (λ x h. let l = letter_of U b x h in All-append (λ y. x ≢ y) (entries_from lists V b) (entries_from lists W b ++ entries_from lists X b) (others U V b x refl l)
       (All-append (λ y. x ≢ y) (entries_from lists W b) (entries_from lists X b) (others U W b x refl l) (others U X b x refl l)))
 
-  entries_differ : AllPairs (λ x y. x ≢ y) given.entries
+  pub entries_differ : AllPairs (λ x y. x ≢ y) given.entries
   entries_differ = different-flat_map (of_cell lists) (λ (e : Entry). cell e.b) lists.cells (ascending_differ lists.cells are.cells_are.ascending)
       (λ b h. of_cell_differ b (tree b h))
       (λ b e h m. All-contains (λ (e : Entry). cell e.b ≡ b) (of_cell lists b) e (All-of_cell lists (λ e. cell e.b ≡ b) b (λ l k d lt. is b (tree b h))) m)
@@ -136,7 +136,7 @@ module _ (grid : ℕ) (points : List Point) (cap P : ℕ) (lists : TreeLists) (p
       tree b h = All-contains (IsTreeCell grid points cap) lists.cells b are.cells_are.each h
 
   -- each entry of the definition stands there
-  has_entry : (letter : Letter) (b c : Square) → IsEntry grid points cap letter b c → Contains given.entries (entry lists letter b c)
+  pub has_entry : (letter : Letter) (b c : Square) → IsEntry grid points cap letter b c → Contains given.entries (entry lists letter b c)
   has_entry letter b c e =
       let tb = (in_tree_of grid points cap letter b c e.pair).0 in
       Contains-flat_map (of_cell lists) lists.cells b (entry lists letter b c) (are.cells_are.whole b tb)

@@ -34,14 +34,6 @@ use Rattle.tree_field.proofs.Leaves.{only_leaf, leaf_number_below, cell_of_leaf}
 use Rattle.tree_field.proofs.Numbers.{cell_at, above, first_is_root, level_positive, above_root, above_first, cell_above}
 
 module _ (points : List Point) (lists : TreeLists) (f : Point → ℕ) where
-  root_path : (level : ℕ) (b : Square) → level ≡ 0 → over_path_at points lists f level b ≡ over_entries points lists f V b + over_entries points lists f X b
-  unfolding over_path_at
-  root_path zero b e = refl
-  root_path (suc level) b e = absurd (omega arith)
-
-  pub over_path-root : (b : Square) → b.level ≡ 0 → over_path points lists f b ≡ over_entries points lists f V b + over_entries points lists f X b
-  over_path-root b e = root_path b.level b e
-
   path_below : (level : ℕ) (b : Square) → level ≡ b.level → 0 < level → over_path_at points lists f level b ≡ over_path points lists f (parent b) + (over_entries points lists f V b + over_entries points lists f X b)
   unfolding over_path_at
   path_below zero b e lo = absurd (omega arith)

@@ -7,6 +7,7 @@ use Rattle.field_basis.specs.Place.{PlaceModel, all_translations}
 use Rattle.field_basis.specs.Target.{TargetModel, all_pairs}
 use Rattle.field_solve.proofs.Contents.{rows_contain}
 use Rattle.field_solve.proofs.FieldOf.{parts_fit, parts_solved}
+use Rattle.field_solve.proofs.NoWider.{solved_no_wider}
 use Rattle.field_solve.proofs.MadeField.{made_boxes_contain, made_fits, made_local_few, made_pairs_fit, made_solves, made_up_few}
 use Rattle.field_solve.proofs.solving.finished.Given.{Over}
 use Rattle.field_solve.proofs.solving.finished.Goals as goal
@@ -73,3 +74,6 @@ returns-clause-rows g c = rows_contain c.args.basis.points c.args.basis.cap g.ro
 
 pub returns-clause-contains : goal.returns-clause-contains
 returns-clause-contains g c = made_boxes_contain g.row.P (basis g c) c.requires.basis (values g c) c.requires.values
+
+pub returns-clause-narrow : goal.returns-clause-narrow
+returns-clause-narrow g c = solved_no_wider c.args.basis.points c.args.basis.cap g.row.P _ (inside g.row.P c.args.basis c.requires.basis) (returns-clause-field g c)

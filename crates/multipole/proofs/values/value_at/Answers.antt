@@ -15,8 +15,8 @@ loop-n-init g c = c.zero-value.ensures.ends ∙ sym (multipole_round-zero _ _ _ 
 pub add-requires : goal.add-requires
 add-requires g c = sum_fits g.row.P c.args.bits (row_of c.args.row.cells.now) (number c.args.zeta) c.requires.far c.requires.size c.loop-n.n _ _ (omega arith) c.loop-n.invariant (row_got c.args.row.cells.now (g.row.P - 1 - c.loop-n.n) c.get.ensures)
 
-pub gquot-value-requires-clause-fits : goal.gquot-value-requires-clause-fits
-gquot-value-requires-clause-fits g c = product_fits g.row.P c.args.bits (row_of c.args.row.cells.now) (number c.args.zeta) c.requires.far c.requires.size c.loop-n.n _ _ _ _ (omega arith) c.loop-n.invariant (row_got c.args.row.cells.now (g.row.P - 1 - c.loop-n.n) c.get.ensures) c.add.ensures.ends c.far_ratio-ratio.ensures.small
+pub gquot_by-value-requires-clause-fits : goal.gquot_by-value-requires-clause-fits
+gquot_by-value-requires-clause-fits g c = product_fits g.row.P c.args.bits (row_of c.args.row.cells.now) (number c.args.zeta) c.requires.far c.requires.size c.loop-n.n _ _ _ _ (omega arith) c.loop-n.invariant (row_got c.args.row.cells.now (g.row.P - 1 - c.loop-n.n) c.get.ensures) c.add.ensures.ends c.far_ratio-ratio.ensures.small
 
 pub loop-n-preserved : goal.loop-n-preserved
 loop-n-preserved g c =
@@ -24,7 +24,7 @@ loop-n-preserved g c =
     let high = c.far_ratio-ratio.ensures.most in
     let d : to_z w128 (of_z w128 c.far_ratio-ratio.result.divisor) ≡ c.far_ratio-ratio.result.divisor = omega (arith, ints) in
     value_next g.row.P c.args.bits (row_of c.args.row.cells.now) (number c.args.zeta) c.requires.far c.requires.size c.loop-n.n _ _ _ _ _ _ c.loop-n.invariant (row_got c.args.row.cells.now (g.row.P - 1 - c.loop-n.n) c.get.ensures) c.add.ensures.ends
-    c.far_ratio-ratio.ensures.factor (d ∙ c.far_ratio-ratio.ensures.divisor) c.gquot-value.ensures.ends
+    c.far_ratio-ratio.ensures.factor (d ∙ c.far_ratio-ratio.ensures.divisor) c.gquot_by-value.ensures.ends
 
 pub returns : goal.returns
 returns g c = c.quot_shift.ensures.ends ∙ ap (λ b. quot_box b (pos (2 ^ c.args.bits))) (c.loop-n.invariant ∙ ap (multipole_round g.row.P (row_of c.args.row.cells.now) (2 ^ c.args.bits) (number c.args.zeta)) {x = c.loop-n.n} {y = g.row.P} (omega arith)) ∙ sym (multipole_value-is _ _ _ _)

@@ -12,17 +12,17 @@ overflow_mul-result c = product_fits c.args.bits c.args.zeta.re c.requires.bits 
 pub overflow_mul-result-2 : goal.overflow_mul-result-2
 overflow_mul-result-2 c = product_fits c.args.bits c.args.zeta.im c.requires.bits c.requires.size.im
 
-pub overflow_mul-result-3 : goal.overflow_mul-result-3
-overflow_mul-result-3 c = square_fits c.from-re.result c.args.zeta.re (part_is c.args.zeta.re c.requires.size.re c.from-re.ensures) c.requires.size.re
+pub overflow_mul-divisor : goal.overflow_mul-divisor
+overflow_mul-divisor c = square_fits c.from-re.result c.args.zeta.re (part_is c.args.zeta.re c.requires.size.re c.from-re.ensures) c.requires.size.re
 
-pub overflow_mul-result-4 : goal.overflow_mul-result-4
-overflow_mul-result-4 c = square_fits c.from-im.result c.args.zeta.im (part_is c.args.zeta.im c.requires.size.im c.from-im.ensures) c.requires.size.im
+pub overflow_mul-divisor-2 : goal.overflow_mul-divisor-2
+overflow_mul-divisor-2 c = square_fits c.from-im.result c.args.zeta.im (part_is c.args.zeta.im c.requires.size.im c.from-im.ensures) c.requires.size.im
 
 pub overflow_sub-result : goal.overflow_sub-result
 overflow_sub-result c = negative_fits c.args.bits c.args.zeta.im c.requires.bits c.requires.size.im
 
-pub overflow_add-result : goal.overflow_add-result
-overflow_add-result c = norm_fits c.from-re.result c.from-im.result c.args.zeta.re c.args.zeta.im (part_is c.args.zeta.re c.requires.size.re c.from-re.ensures) (part_is c.args.zeta.im c.requires.size.im c.from-im.ensures) c.requires.size.re c.requires.size.im
+pub overflow_add-divisor : goal.overflow_add-divisor
+overflow_add-divisor c = norm_fits c.from-re.result c.from-im.result c.args.zeta.re c.args.zeta.im (part_is c.args.zeta.re c.requires.size.re c.from-re.ensures) (part_is c.args.zeta.im c.requires.size.im c.from-im.ensures) c.requires.size.re c.requires.size.im
 
 pub returns-clause-factor : goal.returns-clause-factor
 returns-clause-factor c = factor_is c.args.bits (number c.args.zeta) c.requires.bits c.requires.size

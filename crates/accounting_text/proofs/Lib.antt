@@ -1,0 +1,4 @@
+-- What the proof rests on.
+pub mod Leaves
+pub mod RowNumbers
+pub mod Same
