@@ -179,6 +179,31 @@ never_both bytes c number kind spells (inr later) =
       | inr more ↦ more.1 same.rests
     ]
 
+-- ---- nothing stands behind a certificate
+pub nothing_behind : (bytes rest : List ℕ) (c whole : Certificate) → SpellsCert bytes c → SpellsCert (bytes ++ rest) whole → rest ≡ []
+nothing_behind bytes [] c whole a b = refl
+nothing_behind bytes (x ∷ rest) c whole a b =
+    let front = spells_front bytes c a in
+    let lines = flat_map line_bytes (all_lines c) in
+    let count = all_count c a.is_certificate in
+    let text : bytes ++ (x ∷ rest) ≡ line_bytes (cert_head_line c.head) ++ (lines ++ (x ∷ rest)) =
+    ap (λ t. t ++ (x ∷ rest)) front.text
+    ∙ append_assoc (line_bytes (cert_head_line c.head)) (lines ++ []) (x ∷ rest)
+    ∙ ap (λ t. line_bytes (cert_head_line c.head) ++ (t ++ (x ∷ rest))) (append-nil lines) in
+    absurd (never_both (bytes ++ (x ∷ rest)) whole (length (all_lines c) + 2) Syntax b (inr (
+      c.head,
+      all_lines c,
+      refl,
+      record {
+        rest = x ∷ rest;
+        head_is = front.head_is;
+        lines_are = front.lines_are;
+        text = text;
+        more = inr (count, λ e. omega (arith, ap length e));
+        fault = λ l back below form begin. omega (arith, below, count);
+      },
+    )))
+
 -- ---- no bytes have two first faults
 pub record OneFault (number other : ℕ) (kind what : CertKind) : Type 0 where
   pub lines : number ≡ other

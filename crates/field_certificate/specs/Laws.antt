@@ -1,10 +1,12 @@
--- The certificate of a field is one, and so its text spells it.
+-- The certificate of a field is one, and so its text spells it, and it gives back the field's accounting.
 use Rattle.std.specs.Prelude.{ℕ, ◌≤◌, length}
+use Rattle.accounting_text.specs.Given.{AreSame, given_accounting}
 use Rattle.cert_text.specs.Certificate.{IsCertificate, SpellsCert, certificate_text}
 use Rattle.limits.specs.Limits.{grid_of, most_certificate}
 use Rattle.points.specs.Limits.{WithinLimits, IsOrderOf}
 use Rattle.points.specs.declared.Points.{Points}
 use Rattle.quadtree.specs.Faults.{HasTree}
+use Rattle.tree_field.specs.Accounting.{accounting}
 use Rattle.tree_field.specs.Lists.{TreeLists, AreTreeLists}
 use Rattle.field_certificate.specs.FieldCertificate.{field_certificate}
 
@@ -23,3 +25,8 @@ FieldCertificateIsOne = (points : Points) (cap P : ℕ) (lists : TreeLists) → 
 abbrev pub FieldTextSpells : Type 0
 FieldTextSpells = (points : Points) (cap P : ℕ) (lists : TreeLists) → CanBeCertified points cap P lists
     → SpellsCert (certificate_text (field_certificate points cap P lists)) (field_certificate points cap P lists)
+
+-- what it gives over the points is what the field presents of itself
+abbrev pub FieldIsGivenBack : Type 0
+FieldIsGivenBack = (points : Points) (cap P : ℕ) (lists : TreeLists) → WithinLimits points → AreTreeLists (grid_of points.version) points.list cap lists
+    → AreSame P (accounting (grid_of points.version) points.list cap P lists) (given_accounting points.list (field_certificate points cap P lists))
