@@ -1,7 +1,8 @@
 #!/usr/bin/env bash
-# Compares what the program prints with reports and summaries of other programs: compare_reports.sh FMM FOLDER [NAME..]
-# FOLDER has NAME.txt, of either version, with NAME-ORDER-CAP.report, and sample-SEED-N-ORDER-CAP.summary. NAME may have dashes.
-# With names after FOLDER only reports of those texts are compared.
+# Compares what the program writes with reports, certificates and summaries of other programs: compare_reports.sh FMM FOLDER [NAME..]
+# FOLDER has NAME.txt, of either version, with NAME-ORDER-CAP.report and, where there is one, NAME-ORDER-CAP.cert, and
+# sample-SEED-N-ORDER-CAP.summary. NAME may have dashes. With names after FOLDER only what belongs to those texts is compared.
+# Each text is solved as a copy in a temporary folder, where the certificate is left beside it.
 set -u
 if [ $# -lt 2 ]; then
   echo "usage: compare_reports.sh FMM FOLDER [NAME..]" >&2
@@ -13,8 +14,10 @@ shift 2
 names=" $* "
 same=0
 failed=0
+work=$(mktemp -d) || exit 2
+trap 'rm -rf "$work"' EXIT
 compare() {
-  if cmp -s - "$1"; then
+  if cmp -s "$2" "$1"; then
     same=$((same + 1))
     echo "same $(basename "$1")"
   else
@@ -30,12 +33,18 @@ for report in "$folder"/*.report; do
   [[ "$(basename "$report" .report)" =~ ^(.*)-([0-9]+)-([0-9]+)$ ]] || continue
   name=${BASH_REMATCH[1]} order=${BASH_REMATCH[2]} cap=${BASH_REMATCH[3]}
   wanted "$name" || continue
-  compare "$report" < <("$fmm" solve "$order" "$cap" "$folder/$name.txt")
+  rm -f "$work"/*
+  cat "$folder/$name.txt" > "$work/$name.txt"
+  "$fmm" solve "$order" "$cap" "$work/$name.txt" > "$work/report"
+  compare "$report" "$work/report"
+  cert=${report%.report}.cert
+  [ ! -e "$cert" ] || compare "$cert" "$work/$name.txt.cert"
 done
 for summary in "$folder"/sample-*.summary; do
   wanted sample || continue
   IFS=- read -r _ seed count order cap <<<"$(basename "$summary" .summary)"
-  compare "$summary" < <("$fmm" sample "$seed" "$count" "$order" "$cap")
+  "$fmm" sample "$seed" "$count" "$order" "$cap" > "$work/summary"
+  compare "$summary" "$work/summary"
 done
 echo "$same same, $failed different"
 [ $((same + failed)) -gt 0 ] && [ $failed -eq 0 ]

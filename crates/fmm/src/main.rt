@@ -2,10 +2,13 @@
 #![tactic(auto)]
 
 use fmm_program::{Opening, Status, Words, plan, run};
-use io_ports::{BrokenSource, DropSink, ReadSource, Sink, Source, SureSource, WriteSink};
+use io_ports::{
+    BrokenSink, BrokenSource, DropSink, ReadSource, Sink, Source, SureSource, WriteSink,
+};
 use row_phases::OpenGate;
-use std::alloc::Global;
+use std::alloc::{AllocError, Global};
 use std::fs::File;
+use std::io::BufWriter;
 use std::process::ExitCode;
 use std::thread::Threads;
 use std::{env, io};
@@ -26,13 +29,14 @@ fn words(rt: &HostRuntime) -> Option<Words> {
     Some(words)
 }
 
-/// Runs the command over this source of points.
-fn answer<R: Threads + Sync, A: Source, O: Sink>(
+/// Runs the command over this source of points, with the certificate to this sink.
+fn answer<R: Threads + Sync, A: Source, O: Sink, C: Sink>(
     threads: &R,
     alloc: Global,
     words: &Words,
     points: &mut A,
     out: &mut O,
+    cert_out: &mut C,
 ) -> Status {
     run(
         threads,
@@ -41,9 +45,39 @@ fn answer<R: Threads + Sync, A: Source, O: Sink>(
         points,
         &mut SureSource::new(Vec::new(alloc)),
         out,
-        &mut DropSink,
+        cert_out,
         &OpenGate,
     )
+}
+
+/// The name of the certificate's file: that of the points and `.cert`.
+fn certificate_name(alloc: Global, file: &str) -> Result<String, AllocError> {
+    let mut name = String::new(alloc);
+    name.push_str(file)?;
+    name.push_str(".cert")?;
+    Ok(name)
+}
+
+/// Solves the points of a file, with the certificate to the file of its name.
+fn solve_file<R: Threads + Sync, O: Sink>(
+    rt: &HostRuntime,
+    threads: &R,
+    words: &Words,
+    points: File,
+    name: &str,
+    out: &mut O,
+) -> Status {
+    let alloc = rt.alloc();
+    let mut points = ReadSource::new(points);
+    let Ok(file) = File::create(rt, name) else {
+        let mut cert_out = BrokenSink::new();
+        return answer(threads, alloc, words, &mut points, out, &mut cert_out);
+    };
+    let Ok(lines) = BufWriter::new(alloc, file) else {
+        return Status::Memory;
+    };
+    let mut cert_out = WriteSink::new(lines);
+    answer(threads, alloc, words, &mut points, out, &mut cert_out)
 }
 
 /// Says on standard error why a run failed that took its points from `source`, and gives its status. A failed write
@@ -52,7 +86,7 @@ fn told(rt: &HostRuntime, status: Status, source: &str, fault: &str) -> Status {
     let _ = match status {
         Status::Memory => eprintln!(rt; "fmm: out of memory"),
         Status::ReadFault => eprintln!(rt; "fmm: {source} can't be {fault}"),
-        Status::WriteFault => eprintln!(rt; "fmm: standard output can't be written"),
+        Status::WriteFault => eprintln!(rt; "fmm: the report or the certificate can't be written"),
         _ => Ok(()),
     };
     status
@@ -69,26 +103,30 @@ fn carry_out<R: Threads + Sync, O: Sink>(
     match plan(words) {
         Opening::Nothing => {
             let mut nothing = SureSource::new(Vec::new(alloc));
-            let status = answer(threads, alloc, words, &mut nothing, out);
+            let status = answer(threads, alloc, words, &mut nothing, out, &mut DropSink);
             told(rt, status, INPUT, "read")
         }
         Opening::SolveInput => {
             let mut points = ReadSource::new(rt.stdin());
-            let status = answer(threads, alloc, words, &mut points, out);
+            let status = answer(threads, alloc, words, &mut points, out, &mut DropSink);
             told(rt, status, INPUT, "read")
         }
-        Opening::SolveFile { file } => match File::open(rt, file) {
-            Ok(points) => {
-                let mut points = ReadSource::new(points);
-                let status = answer(threads, alloc, words, &mut points, out);
-                told(rt, status, file, "read")
+        Opening::SolveFile { file } => {
+            let Ok(name) = certificate_name(alloc, file) else {
+                return told(rt, Status::Memory, file, "read");
+            };
+            match File::open(rt, file) {
+                Ok(points) => {
+                    let status = solve_file(rt, threads, words, points, name.as_str(), out);
+                    told(rt, status, file, "read")
+                }
+                Err(_) => {
+                    let mut points = BrokenSource::new();
+                    let status = answer(threads, alloc, words, &mut points, out, &mut DropSink);
+                    told(rt, status, file, "opened")
+                }
             }
-            Err(_) => {
-                let mut points = BrokenSource::new();
-                let status = answer(threads, alloc, words, &mut points, out);
-                told(rt, status, file, "opened")
-            }
-        },
+        }
     }
 }
 
@@ -106,6 +144,10 @@ mod tests {
     use io_ports::MemSink;
     use std::fs;
     use std::test::Fail;
+
+    /// A cell with a charge at its centre: its row is 2^40 and zeros.
+    const CERTIFICATE: &[u8] =
+        b"fmmcert 1 8 2 1 1 1\nnode 0 0 0 0\nat 0\nat 0\nm 1099511627776 1099511627776 0 0 0 0 0 0 0 0 0 0 0 0 0 0 0 0 0 0 0 0 0 0 0 0 0 0 0 0 0 0\nu 0 0\nl 0 0 0 0 0 0 0 0 0 0 0 0 0 0 0 0 0 0 0 0 0 0 0 0 0 0 0 0 0 0 0 0 0\nt 1099511627776 1099511627776 0 0 1000000000000 1000000000000 0 0\nend\n";
 
     #[test]
     fn files_are_opened(rt: HostRuntime) -> Result<(), Fail> {
@@ -128,7 +170,9 @@ mod tests {
             assert_eq!(rt; carry_out(&rt, &rt, &words, &mut out), status);
             assert_eq!(rt; out.held(), written);
         }
+        assert_eq!(rt; fs::read(&rt, "points.txt.cert")?.as_slice(), CERTIFICATE);
         fs::remove_file(&rt, "points.txt")?;
+        fs::remove_file(&rt, "points.txt.cert")?;
         Ok(())
     }
 }

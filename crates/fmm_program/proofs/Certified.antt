@@ -12,6 +12,7 @@ use Rattle.exact_math.specs.Orders.{IsOrder}
 use Rattle.exact_math.proofs.Orders.{order_bounds}
 use Rattle.report_lines.proofs.Bounds.{CountsContain-box}
 use Rattle.report_lines.specs.Counts.{count_ends, target_counts}
+use Rattle.field_certificate.specs.FieldCertificate.{field_certificate}
 use Rattle.field_report.specs.FieldText.{field_line}
 use Rattle.field_widths.proofs.PrintedWidths.{printed_counts_narrow}
 use Rattle.field_widths.specs.Bound.{NoWider, PrintsNoWider, width_bound}
@@ -29,9 +30,9 @@ use Rattle.tree_field.proofs.Whole.{field_contains}
 use Rattle.tree_field.proofs.Work.{translations_are_few}
 use Rattle.tree_field.specs.Field.{targets, target_box}
 use Rattle.tree_field.specs.Lists.{TreeLists}
-use Rattle.fmm_program.proofs.OneListEntry.{one_list_entry}
+use Rattle.fmm_program.proofs.EntryLines.{one_entry_line}
 use Rattle.fmm_program.specs.Answers.{IsCertified, IsReported, LineContains, LineIsNarrow, SolveAnswers}
-use Rattle.fmm_program.specs.Endings.{IsEnding, flow, untold}
+use Rattle.fmm_program.specs.Endings.{IsEnding, Flow, Output, flow}
 use Rattle.fmm_program.specs.Runs.{CertifiedRun, SolveRun}
 use Rattle.fmm_program.specs.declared.status.Status.{Status}
 use Rattle.fmm_program.specs.declared.status.Status.TheVariants.{Done}
@@ -64,8 +65,8 @@ lines_narrow points cap P s lists (t ∷ some) h =
     let box = λ (t : Point). target_box points.list cap P lists (place t) in
     All-cons (LineIsNarrow P s points.list) (field_line points.mode points.list cap P lists t) (map (field_line points.mode points.list cap P lists) some) (counts_narrow P s points.list points.mode (box t) (h 0 (box t) (omega arith))) (lines_narrow points cap P s lists some (All-tail (PrintsNoWider P s points.list) (box t) (map box some) h))
 
-pub certified : (order cap : ℕ) (input out : List ℕ) → IsOrder order → IsReported order cap input out → IsCertified order cap input out
-certified order cap input out is_order s =
+pub certified : (order cap : ℕ) (input : List ℕ) (output : Output) → IsOrder order → IsReported order cap input output → IsCertified order cap input output
+certified order cap input output is_order s =
     let points = s.depth.points in
     let grid = grid_of points.version in
     let some = grid_positive grid (version_has_grid points.version) in
@@ -81,7 +82,9 @@ certified order cap input out is_order s =
       report = s.report;
       contain = lines_contain points cap order s.lists (targets points.list) (recursion_from_All _ (targets points.list) boxes);
       narrow = λ side smallest. lines_narrow points cap order side s.lists (targets points.list) (printed_counts_narrow grid points.list cap order s.lists (version_has_grid points.version) is_order inside s.lists_are side smallest);
-      one_entry = one_list_entry grid points.list cap s.lists some inside s.lists_are;
+      certificate = field_certificate points cap order s.lists;
+      cert_text = s.certificate;
+      one_entry = one_entry_line points cap order s.lists some inside s.lists_are;
       few = translations_are_few points.list s.lists;
     }
 
@@ -95,16 +98,17 @@ whole (Some l) (Some r) input p h = (p ∙ ap (λ x. input ++ x) nothing ∙ app
     nothing = cc
 
 -- a run of `solve` that was carried out, where nothing was left, and then a flush
-pub certified_flushed : (order cap : ℕ) (left rest : Option (List ℕ)) (r s : ℕ) (before mid after : Option (List ℕ)) → Keeps mid after → (b m a : ℕ) (status : Status) → IsOrder order → status ≡ Done
-    → IfSome left (λ _. rest ≡ Some []) → SolveRun order cap status (flow left rest r s) (flow before mid b m) untold → CertifiedRun order cap (flow left rest r s) (flow before after b a)
-certified_flushed order cap left rest r s before mid after kept b m a status is_order done nothing run =
+pub certified_flushed : (order cap : ℕ) (left rest : Option (List ℕ)) (r s : ℕ) (before mid after : Option (List ℕ)) (cert : Flow) → Keeps mid after → (b m a : ℕ) (status : Status) → IsOrder order → status ≡ Done
+    → IfSome left (λ _. rest ≡ Some []) → SolveRun order cap status (flow left rest r s) (flow before mid b m) cert → CertifiedRun order cap (flow left rest r s) (flow before after b a) cert
+certified_flushed order cap left rest r s before mid after cert kept b m a status is_order done nothing run =
     let came = run.came in
-    let e = subst (λ s. IsEnding (SolveAnswers order cap came.0) s (flow before mid b m) untold) done came.2 in
+    let e = subst (λ s. IsEnding (SolveAnswers order cap came.0) s (flow before mid b m) cert) done came.2 in
     record {
       input = came.0;
-      bytes = e.0.out;
+      output = e.0;
       consumed = came.1;
       whole = whole left rest came.0 came.1 nothing;
-      certified = certified order cap came.0 e.0.out is_order e.1.0;
+      certified = certified order cap came.0 e.0 is_order e.1;
       written = Appends-kept before mid after e.0.out e.2 kept;
+      cert_written = e.3;
     }

@@ -1,12 +1,12 @@
 -- A text with no crowded place and few cells is not refused, and no run of `solve` has the answers of other commands.
-use Rattle.std.proofs.Common.{◌≡◌, subst, sym, refl, arith, ℕ, ◌<◌, ◌⊎◌, inl, inr, List, []}
+use Rattle.std.proofs.Common.{◌≡◌, subst, sym, refl, arith, ℕ, ◌<◌, ◌⊎◌, inl, inr, List}
 use Rattle.particle_text.proofs.OneFault.{never_both}
 use Rattle.particle_text.proofs.OneText.{one_list}
 use Rattle.limits.specs.Limits.{grid_of, most_order}
 use Rattle.points.specs.declared.Points.{Points}
 use Rattle.quadtree.specs.Faults.{HasTree}
 use Rattle.fmm_program.specs.Answers.{HasField, RefusesDepth, SolveAnswers}
-use Rattle.fmm_program.specs.Endings.{IsEnding, Flow, Output}
+use Rattle.fmm_program.specs.Endings.{IsEnding, Flow}
 use Rattle.fmm_program.specs.declared.status.Status.{Status}
 use Rattle.fmm_program.specs.declared.status.Status.TheVariants.{Done, Refused, Usage, Memory, ReadFault, WriteFault, Rejected}
 
@@ -14,16 +14,6 @@ use Rattle.fmm_program.specs.declared.status.Status.TheVariants.{Done, Refused, 
 pub deep_enough : (points : Points) (cap : ℕ) (out : List ℕ) → HasTree (grid_of points.version) points.list cap → RefusesDepth points cap out → ⊥
 deep_enough points cap out has (inl crowded) = has.none_crowded crowded.0 crowded.2.crowded
 deep_enough points cap out has (inr cells) = has.no_more cells.0.too_many
-
--- the answers of `solve` have no certificate
-pub solve_plain : (order cap : ℕ) (input : List ℕ) (status : Status) (output : Output) → SolveAnswers order cap input status output → output.cert ≡ []
-solve_plain order cap input Done output a = a.1
-solve_plain order cap input Refused output a = a.1
-solve_plain order cap input Usage output a = absurd a
-solve_plain order cap input Memory output a = absurd a
-solve_plain order cap input ReadFault output a = absurd a
-solve_plain order cap input WriteFault output a = absurd a
-solve_plain order cap input Rejected output a = absurd a
 
 module _ (order cap : ℕ) (input : List ℕ) (out cert : Flow) where
   module _ (depth : HasField order cap input) where

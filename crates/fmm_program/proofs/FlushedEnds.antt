@@ -6,7 +6,7 @@ use Rattle.std.specs.Io.KnownBytes.{Appends, Keeps}
 use Rattle.std.specs.declared.option.Option.{Option}
 use Rattle.io_ports.specs.Bytes.{AppendsPrefix}
 use Rattle.io_ports.specs.Faults.{Rose}
-use Rattle.fmm_program.specs.Endings.{IsEnding, Flow, OneLine, Output, TellsFaults, flow, untold}
+use Rattle.fmm_program.specs.Endings.{IsEnding, IsQuiet, Flow, HasFault, OneLine, Output, TellBothFaults, TellsFaults, flow, untold}
 use Rattle.fmm_program.specs.declared.status.Status.{Status}
 use Rattle.fmm_program.specs.declared.status.Status.TheVariants.{Done, Refused, Usage, Memory, ReadFault, WriteFault, Rejected}
 
@@ -18,7 +18,7 @@ IsEnding-map A B to out cert Usage (output, a, p, q) = (output, to Usage output 
 IsEnding-map A B to out cert Rejected (output, a, p, q) = (output, to Rejected output a, p, q)
 IsEnding-map A B to out cert Memory e = e
 IsEnding-map A B to out cert ReadFault e = e
-IsEnding-map A B to out cert WriteFault (status, output, a, p, q) = (status, output, to status output a, p, q)
+IsEnding-map A B to out cert WriteFault (status, output, a, p) = (status, output, to status output a, p)
 
 -- nothing but this goes out
 abbrev pub plain : List ℕ → Output
@@ -62,43 +62,83 @@ module _ (status result : Status) (stays : (result ≡ status) ⊎ (result ≡ W
       still e (inl h) = h ∙ e
       still e (inr h) = h
 
--- after a flush, where the answers have no certificate, and its port stays as it is
-module _ (answers : Status → Output → Type 0) (no_cert : (status : Status) (output : Output) → answers status output → output.cert ≡ []) (before mid after cert : Option (List ℕ)) (kept : Keeps mid after) (b m a c d : ℕ) where
+-- the counts of faults of two ports, where that of a certificate stays as it is
+pub tell_both : (status : Status) (out : Flow) (cert : Option (List ℕ)) (f : ℕ) → TellsFaults status out → TellBothFaults status out (flow cert cert f f)
+tell_both status out cert f tells = record {
+  out_later = tells.later;
+  cert_later = omega arith;
+  failed = λ e. inl (tells.failed e);
+  passed = λ other. (tells.passed other, refl);
+}
+
+-- an ending without a certificate, where its port stays as it is
+module _ (answers : Status → Output → Type 0) (no_cert : (status : Status) (output : Output) → answers status output → output.cert ≡ []) (out : Flow) (cert : Option (List ℕ)) (f : ℕ) where
+  none : (status : Status) (output : Output) → answers status output → Appends cert cert output.cert
+  none status output x = subst (Appends cert cert) (sym (no_cert status output x)) (Appends-nil cert)
+
+  pub with_cert : (status : Status) → IsEnding answers status out untold → IsEnding answers status out (flow cert cert f f)
+  with_cert Done (output, x, p, q) = (output, x, p, none Done output x)
+  with_cert Refused (output, x, p, q) = (output, x, p, none Refused output x)
+  with_cert Usage (output, x, p, q) = (output, x, p, none Usage output x)
+  with_cert Rejected (output, x, p, q) = (output, x, p, none Rejected output x)
+  with_cert Memory (e, q) = (e, refl)
+  with_cert ReadFault (e, q) = (e, refl)
+  with_cert WriteFault (status, output, x, inl begun) = (status, output, x, inl ((0, Appends-nil cert), begun.1))
+  with_cert WriteFault (status, output, x, inr begun) = (status, output, x, inr (none status output x, begun.1))
+
+-- after a flush of the report's port
+module _ (answers : Status → Output → Type 0) (before mid after : Option (List ℕ)) (kept : Keeps mid after) (b m a : ℕ) (cert : Flow) where
   all : (bytes : List ℕ) → Appends before mid bytes → Appends before after bytes
   all bytes p = Appends-kept before mid after bytes p kept
 
   some : (bytes : List ℕ) → AppendsPrefix before mid bytes → AppendsPrefix before after bytes
   some bytes (n, p) = (n, all (take n bytes) p)
 
-  none : (status : Status) (output : Output) → answers status output → Appends cert cert output.cert
-  none status output x = subst (Appends cert cert) (sym (no_cert status output x)) (Appends-nil cert)
+  stays_so : (status : Status) → (IsQuiet status → after ≡ mid) → IsEnding answers status (flow before mid b m) cert → IsEnding answers status (flow before after b a) cert
+  stays_so Done still (output, x, p, q) = (output, x, all output.out p, q)
+  stays_so Refused still (output, x, p, q) = (output, x, all output.out p, q)
+  stays_so Usage still (output, x, p, q) = (output, x, all output.out p, q)
+  stays_so Rejected still (output, x, p, q) = (output, x, all output.out p, q)
+  stays_so Memory still (e, q) = (still (inl refl) ∙ e, q)
+  stays_so ReadFault still (e, q) = (still (inr (inl refl)) ∙ e, q)
+  stays_so WriteFault still (status, output, x, inl begun) = (status, output, x, inl (begun.0, still (inr (inr refl)) ∙ begun.1))
+  stays_so WriteFault still (status, output, x, inr begun) = (status, output, x, inr (begun.0, some output.out begun.1))
 
-  none_cut : (bytes : List ℕ) → AppendsPrefix cert cert bytes
-  none_cut bytes = (0, Appends-nil cert)
+  begun : (bytes : List ℕ) → Appends before mid bytes → AppendsPrefix before after bytes
+  begun bytes p = AppendsPrefix-whole before after bytes (all bytes p)
 
-  stays : (status : Status) → ((status ≡ Memory) ⊎ (status ≡ ReadFault) → after ≡ mid) → IsEnding answers status (flow before mid b m) untold → IsEnding answers status (flow before after b a) (flow cert cert c d)
-  stays Done still (output, x, p, q) = (output, x, all output.out p, none Done output x)
-  stays Refused still (output, x, p, q) = (output, x, all output.out p, none Refused output x)
-  stays Usage still (output, x, p, q) = (output, x, all output.out p, none Usage output x)
-  stays Rejected still (output, x, p, q) = (output, x, all output.out p, none Rejected output x)
-  stays Memory still (e, q) = (still (inl refl) ∙ e, refl)
-  stays ReadFault still (e, q) = (still (inr refl) ∙ e, refl)
-  stays WriteFault still (status, output, x, p, q) = (status, output, x, some output.out p, none_cut output.cert)
+  fails : (status : Status) → (IsQuiet status → (WriteFault ≡ status) × (after ≡ mid)) → IsEnding answers status (flow before mid b m) cert → IsEnding answers WriteFault (flow before after b a) cert
+  fails Done silent (output, x, p, q) = (Done, output, x, inr (q, begun output.out p))
+  fails Refused silent (output, x, p, q) = (Refused, output, x, inr (q, begun output.out p))
+  fails Usage silent (output, x, p, q) = (Usage, output, x, inr (q, begun output.out p))
+  fails Rejected silent (output, x, p, q) = (Rejected, output, x, inr (q, begun output.out p))
+  fails Memory silent e = absurd (let h = (silent (inl refl)).0 in cc)
+  fails ReadFault silent e = absurd (let h = (silent (inr (inl refl))).0 in cc)
+  fails WriteFault silent e = stays_so WriteFault (λ h. (silent h).1) e
 
-  fails : (status : Status) → ((status ≡ Memory) ⊎ (status ≡ ReadFault) → ⊥) → IsEnding answers status (flow before mid b m) untold → IsEnding answers WriteFault (flow before after b a) (flow cert cert c d)
-  fails Done other (output, x, p, q) = (Done, output, x, AppendsPrefix-whole before after output.out (all output.out p), none_cut output.cert)
-  fails Refused other (output, x, p, q) = (Refused, output, x, AppendsPrefix-whole before after output.out (all output.out p), none_cut output.cert)
-  fails Usage other (output, x, p, q) = (Usage, output, x, AppendsPrefix-whole before after output.out (all output.out p), none_cut output.cert)
-  fails Rejected other (output, x, p, q) = (Rejected, output, x, AppendsPrefix-whole before after output.out (all output.out p), none_cut output.cert)
-  fails Memory other e = absurd (other (inl refl))
-  fails ReadFault other e = absurd (other (inr refl))
-  fails WriteFault other (status, output, x, p, q) = (status, output, x, some output.out p, none_cut output.cert)
+  pub flushed_ends : (status result : Status) → (result ≡ status) ⊎ (result ≡ WriteFault) → (IsQuiet status → (result ≡ status) × (after ≡ mid))
+      → IsEnding answers status (flow before mid b m) cert → IsEnding answers result (flow before after b a) cert
+  flushed_ends status result (inl e) silent ends = subst (λ s. IsEnding answers s (flow before after b a) cert) (sym e) (stays_so status (λ h. (silent h).1) ends)
+  flushed_ends status result (inr e) silent ends = subst (λ s. IsEnding answers s (flow before after b a) cert) (sym e) (fails status (λ h. (sym e ∙ (silent h).0, (silent h).1)) ends)
 
-  pub flushed_ends : (status result : Status) → (result ≡ status) ⊎ (result ≡ WriteFault) → ((status ≡ Memory) ⊎ (status ≡ ReadFault) → (result ≡ status) × (after ≡ mid))
-      → IsEnding answers status (flow before mid b m) untold → IsEnding answers result (flow before after b a) (flow cert cert c d)
-  flushed_ends status result (inl e) silent ends = subst (λ s. IsEnding answers s (flow before after b a) (flow cert cert c d)) (sym e) (stays status (λ h. (silent h).1) ends)
-  flushed_ends status result (inr e) silent ends = subst (λ s. IsEnding answers s (flow before after b a) (flow cert cert c d)) (sym e) (fails status (λ h. differ h (silent h).0) ends)
-    where
-      differ : (status ≡ Memory) ⊎ (status ≡ ReadFault) → result ≡ status → ⊥
-      differ (inl h) same = cc
-      differ (inr h) same = cc
+-- the counts of faults of both ports after a flush of the report's
+pub flushed_both : (status result : Status) → (result ≡ status) ⊎ (result ≡ WriteFault) → (before mid after : Option (List ℕ)) (b m a : ℕ) (cert : Flow) → m ≤ a → (result ≡ WriteFault → (status ≡ WriteFault) ⊎ Rose m a)
+    → ((result ≡ WriteFault → ⊥) → a ≡ m) → TellBothFaults status (flow before mid b m) cert → TellBothFaults result (flow before after b a) cert
+flushed_both status result stays before mid after b m a cert later failed passed tells = record {
+  out_later = let l = tells.out_later in omega arith;
+  cert_later = tells.cert_later;
+  failed = λ e. rose (failed e);
+  passed = λ other. let p = tells.passed (λ e. other (still e stays)) in (passed other ∙ p.0, p.1);
+}
+  where
+    risen : Rose b m ⊎ HasFault cert → Rose b a ⊎ HasFault cert
+    risen (inl h) = inl (omega arith)
+    risen (inr h) = inr h
+
+    rose : (status ≡ WriteFault) ⊎ Rose m a → Rose b a ⊎ HasFault cert
+    rose (inl h) = risen (tells.failed h)
+    rose (inr h) = inl (let l = tells.out_later in omega arith)
+
+    still : status ≡ WriteFault → (result ≡ status) ⊎ (result ≡ WriteFault) → result ≡ WriteFault
+    still e (inl h) = h ∙ e
+    still e (inr h) = h

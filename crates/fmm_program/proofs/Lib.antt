@@ -2,7 +2,7 @@ pub mod Certified
 pub mod Complete
 mod FlushedEnds
 mod FrontWords
-pub mod OneListEntry
+pub mod EntryLines
 mod SampleRuns
 pub mod SolveRuns
 mod UsageRuns

@@ -14,9 +14,9 @@ use Rattle.sample_summary.specs.Summary.{summary_text}
 use Rattle.tree_field.proofs.EachList.{each_list_has_tree}
 use Rattle.tree_field.specs.Lists.{TreeLists, AreTreeLists}
 use Rattle.fmm_program.proofs.Complete.{deep_enough}
-use Rattle.fmm_program.proofs.FlushedEnds.{IsEnding-map, flushed_ends, plain}
+use Rattle.fmm_program.proofs.FlushedEnds.{IsEnding-map, flushed_ends, plain, with_cert}
 use Rattle.fmm_program.specs.Answers.{DepthAnswers}
-use Rattle.fmm_program.specs.Endings.{IsEnding, Flow, HasFault, Output, TellsFaults, flow, untold}
+use Rattle.fmm_program.specs.Endings.{IsEnding, IsQuiet, Flow, HasFault, Output, TellsFaults, flow, untold}
 use Rattle.fmm_program.specs.Runs.{SampleRun}
 use Rattle.fmm_program.specs.SampleAnswers.{SampleAnswers}
 use Rattle.fmm_program.specs.declared.status.Status.{Status}
@@ -59,12 +59,13 @@ module _ (seed n order cap : ℕ) where
   run_at P out status e ends read write = sample_run out untold status (subst (λ m. IsEnding (SampleAnswers seed n m cap) status out untold) (sym e) ends) read write.failed
 
   -- after a flush, where the port of a certificate stays as it is
-  pub flushed_sample : (before mid after cert : Option (List ℕ)) → Keeps mid after → (b m a c d : ℕ) (status result : Status) → (result ≡ status) ⊎ (result ≡ WriteFault)
-      → ((status ≡ Memory) ⊎ (status ≡ ReadFault) → (result ≡ status) × (after ≡ mid)) → SampleRun seed n order cap status (flow before mid b m) untold → (result ≡ WriteFault → Rose b a)
-      → SampleRun seed n order cap result (flow before after b a) (flow cert cert c d)
-  flushed_sample before mid after cert kept b m a c d status result stays silent run write =
-      sample_run (flow before after b a) (flow cert cert c d) result
-      (flushed_ends (SampleAnswers seed n order cap) (sample_plain seed n order cap) before mid after cert kept b m a c d status result stays silent run.ends) (read stays) write
+  pub flushed_sample : (before mid after cert : Option (List ℕ)) → Keeps mid after → (b m a c : ℕ) (status result : Status) → (result ≡ status) ⊎ (result ≡ WriteFault)
+      → (IsQuiet status → (result ≡ status) × (after ≡ mid)) → SampleRun seed n order cap status (flow before mid b m) untold → (result ≡ WriteFault → Rose b a)
+      → SampleRun seed n order cap result (flow before after b a) (flow cert cert c c)
+  flushed_sample before mid after cert kept b m a c status result stays silent run write =
+      sample_run (flow before after b a) (flow cert cert c c) result
+      (flushed_ends (SampleAnswers seed n order cap) before mid after kept b m a (flow cert cert c c) status result stays silent
+      (with_cert (SampleAnswers seed n order cap) (sample_plain seed n order cap) (flow before mid b m) cert c status run.ends)) (read stays) write
     where
       read : (result ≡ status) ⊎ (result ≡ WriteFault) → result ≡ ReadFault → ⊥
       read (inl e) h = run.no_read_fault (sym e ∙ h)
@@ -107,4 +108,4 @@ module _ (seed n order cap : ℕ) where
     part_ends points e =
         subst (λ (ps : Points). WithinLimits ps → HasTree (grid_of ps.version) ps.list cap → ((lists : TreeLists) → AreTreeLists first_grid ps.list cap lists → AppendsPrefix before after (summary_text seed ps.list order cap lists)) → IsEnding (SampleAnswers seed n order cap) WriteFault (flow before after 0 0) untold)
         (sym e)
-        (λ limits has h. (Done, plain (summary limits has), summarized limits has, h (some limits has).0 (some limits has).1, (0, tt)))
+        (λ limits has h. (Done, plain (summary limits has), summarized limits has, inr (tt, h (some limits has).0 (some limits has).1)))

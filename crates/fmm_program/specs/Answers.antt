@@ -1,8 +1,10 @@
 -- What `solve` answers, what goes out with each answer, and the certified solve.
-use Rattle.std.specs.Prelude.{ℕ, ◌+◌, ◌*◌, ◌<◌, ◌≤◌, ◌≡◌, ◌⊎◌, List, [], ◌++◌, length, codes, decimal, sum_by, All, Contains}
+use Rattle.std.specs.Prelude.{ℕ, ◌+◌, ◌*◌, ◌<◌, ◌≤◌, ◌≡◌, ◌⊎◌, List, [], ◌++◌, length, codes, decimal, sum_by, All}
 use Rattle.std.specs.List.{AllZip}
+use Rattle.accounting_text.specs.Given.{given_cell, number_at}
 use Rattle.cell_lists.specs.Entries.{Accounts, IsTargetAndSource}
-use Rattle.letters.specs.declared.Letter.{Letter}
+use Rattle.cert_text.specs.Certificate.{Certificate, certificate_text, nth_line}
+use Rattle.field_certificate.specs.FieldCertificate.{field_certificate}
 use Rattle.cell_name.specs.Square.{Square}
 use Rattle.letters.specs.declared.Letter.TheVariants.{V}
 use Rattle.field_widths.specs.Bound.{IsSmallestSide, NoWider}
@@ -77,16 +79,17 @@ pub record HasField (order cap : ℕ) (input : List ℕ) : Type 0 where
   pub has_order : order ≤ most_order (grid_of points.version)
   pub has_tree : HasTree (grid_of points.version) points.list cap
 
--- it is such a text, and the bytes are the report of the field over the lists of its tree
-pub record IsReported (order cap : ℕ) (input out : List ℕ) : Type 0 where
+-- it is such a text, and what goes out are the certificate and the report of the field over the lists of its tree
+pub record IsReported (order cap : ℕ) (input : List ℕ) (output : Output) : Type 0 where
   pub depth : HasField order cap input
   pub lists : TreeLists
   pub lists_are : AreTreeLists (grid_of depth.points.version) depth.points.list cap lists
-  pub report : out ≡ field_text depth.points order cap lists
+  pub certificate : output.cert ≡ certificate_text (field_certificate depth.points cap order lists)
+  pub report : output.out ≡ field_text depth.points order cap lists
 
 -- the answer to this input, and what goes out with it
 abbrev pub SolveAnswers : ℕ → ℕ → List ℕ → Status → Output → Type 0
-SolveAnswers order cap input Done output = IsReported order cap input output.out × (output.cert ≡ [])
+SolveAnswers order cap input Done output = IsReported order cap input output
 SolveAnswers order cap input Refused output = Refuses order cap input output.out × (output.cert ≡ [])
 SolveAnswers order cap input _ output = ⊥
 
@@ -105,27 +108,34 @@ LineContains points t line = (line.x ≡ t.x) × (line.y ≡ t.y) × CountsConta
 abbrev pub LineIsNarrow : ℕ → ℕ → List Point → TargetLine → Type 0
 LineIsNarrow order s points line = NoWider order s points line.counts.first × NoWider order s points line.counts.second
 
--- exactly one entry of the lists accounts for a target and a source
-pub record HasOneListEntry (lists : TreeLists) (target source : Point) : Type 0 where
-  pub letter : Letter
-  pub b : Square
-  pub c : Square
-  pub in_tree : Contains lists.cells b
-  pub listed : Contains (lists.entries letter b) c
-  pub accounts : Accounts b c target source
-  pub no_other : (letter' : Letter) (b' c' : Square) → Contains lists.cells b' → Contains (lists.entries letter' b') c' → Accounts b' c' target source → (letter' ≡ letter) × (b' ≡ b) × (c' ≡ c)
+-- The k-th entry line of a certificate accounts for a target and a source: the cells of the lines of its two nodes do.
+abbrev pub LineAccounts : Certificate → ℕ → Point → Point → Type 0
+LineAccounts c k target source = Accounts (cell_of 0) (cell_of 1) target source
+  where
+    cell_of : ℕ → Square
+    cell_of end = given_cell c.head.version (nth_line c.nodes (number_at (nth_line c.entries k) end))
 
--- The input is within its limit and spells points of a version that has the order, and the bytes are a report with one line for each target, in order, whose counts contain the exact direct sum and are no farther apart
--- than the bound. Of the lists of the tree exactly one entry accounts for each target and source, and the counts of work are theirs.
-pub record IsCertified (order cap : ℕ) (input out : List ℕ) : Type 0 where
+-- exactly one entry line does
+pub record HasOneEntryLine (c : Certificate) (target source : Point) : Type 0 where
+  pub number : ℕ
+  pub written : number < length c.entries
+  pub accounts : LineAccounts c number target source
+  pub no_other : (k : ℕ) → k < length c.entries → LineAccounts c k target source → k ≡ number
+
+-- The input is within its limit and spells points of a version that has the order. What went out are a certificate, of whose entry lines exactly one accounts for each target and source,
+-- and a report with one line for each target, in order, whose counts contain the exact direct sum and are no farther apart than the bound; its counts of work are those of
+-- the lists of the tree.
+pub record IsCertified (order cap : ℕ) (input : List ℕ) (output : Output) : Type 0 where
   pub points : Points
   pub read : IsRead input points
   pub has_order : order ≤ most_order (grid_of points.version)
   pub lists : TreeLists
   pub lists_are : AreTreeLists (grid_of points.version) points.list cap lists
+  pub certificate : Certificate
+  pub cert_text : output.cert ≡ certificate_text certificate
+  pub one_entry : (target source : Point) → IsTargetAndSource points.list target source → HasOneEntryLine certificate target source
   pub lines : List TargetLine
-  pub report : out ≡ report_text points.mode order cap lines (translations points.list lists) (pairs points.list lists)
+  pub report : output.out ≡ report_text points.mode order cap lines (translations points.list lists) (pairs points.list lists)
   pub contain : AllZip (LineContains points) (targets points.list) lines
   pub narrow : (s : ℕ) → IsSmallestSide lists.cells s → All (LineIsNarrow order s points.list) lines
-  pub one_entry : (target source : Point) → IsTargetAndSource points.list target source → HasOneListEntry lists target source
   pub few : translations points.list lists ≤ sum_by (λ b. length (lists.entries V b)) lists.cells + 2 * length lists.cells

@@ -1,5 +1,5 @@
 -- How a run ends: its status, and what its two outputs took.
-use Rattle.std.specs.Prelude.{ℕ, ◌≡◌, ◌≤◌, List, [], None}
+use Rattle.std.specs.Prelude.{ℕ, ◌≡◌, ◌≤◌, ◌⊎◌, List, [], None}
 use Rattle.std.specs.Io.KnownBytes.{Appends}
 use Rattle.std.specs.declared.option.Option.{Option}
 use Rattle.io_ports.specs.Bytes.{AppendsPrefix}
@@ -41,6 +41,13 @@ pub record TellsFaults (status : Status) (out : Flow) : Type 0 where
   pub failed : status ≡ WriteFault → HasFault out
   pub passed : (status ≡ WriteFault → ⊥) → out.faults_after ≡ out.faults_before
 
+-- and the same of two ports: a write or a flush of one of them failed
+pub record TellBothFaults (status : Status) (out cert : Flow) : Type 0 where
+  pub out_later : out.faults_before ≤ out.faults_after
+  pub cert_later : cert.faults_before ≤ cert.faults_after
+  pub failed : status ≡ WriteFault → HasFault out ⊎ HasFault cert
+  pub passed : (status ≡ WriteFault → ⊥) → (out.faults_after ≡ out.faults_before) × (cert.faults_after ≡ cert.faults_before)
+
 -- the bytes that go to the two outputs: the report or a line in its place, and the certificate
 pub record Output : Type 0 where
   pub out : List ℕ
@@ -50,12 +57,20 @@ pub record Output : Type 0 where
 abbrev pub OneLine : Status → List ℕ → Status → Output → Type 0
 OneLine ending line status output = (status ≡ ending) × (output.out ≡ line) × (output.cert ≡ [])
 
+-- The certificate goes out first: a part of it, and nothing of the report, or all of it, and a part of the report.
+abbrev pub AreBegun : Flow → Flow → Output → Type 0
+AreBegun out cert output =
+    (AppendsPrefix cert.before cert.after output.cert × (out.after ≡ out.before))
+    ⊎ (Appends cert.before cert.after output.cert × AppendsPrefix out.before out.after output.out)
+
 -- How a run ended that has `answers` for each status: both sinks took all of an output, a part of it after a write fault,
 -- and nothing after a read fault or want of memory.
 abbrev pub IsEnding : (Status → Output → Type 0) → Status → Flow → Flow → Type 0
-IsEnding answers WriteFault out cert =
-    (status : Status) × (output : Output) × answers status output
-    × AppendsPrefix out.before out.after output.out × AppendsPrefix cert.before cert.after output.cert
+IsEnding answers WriteFault out cert = (status : Status) × (output : Output) × answers status output × AreBegun out cert output
 IsEnding answers Memory out cert = (out.after ≡ out.before) × (cert.after ≡ cert.before)
 IsEnding answers ReadFault out cert = (out.after ≡ out.before) × (cert.after ≡ cert.before)
 IsEnding answers status out cert = (output : Output) × answers status output × Appends out.before out.after output.out × Appends cert.before cert.after output.cert
+
+-- an ending after which the report's port isn't flushed. No public contract cites it.
+abbrev pub IsQuiet : Status → Type 0
+IsQuiet status = (status ≡ Memory) ⊎ ((status ≡ ReadFault) ⊎ (status ≡ WriteFault))

@@ -1,14 +1,14 @@
 //! The orders that the program offers.
 
-/// Calls a function of an order, threads, a gate and a sink at the order that a number names.
+/// Calls a function of an order and of these types at the order that a number names.
 macro_rules! at_order {
-    ($order:expr, $call:ident, $threads:ident, $gate:ident, $sink:ident, $($argument:expr),+) => {
+    ($order:expr, $call:ident, ($($of:ident),+), $($argument:expr),+) => {
         match $order {
-            4 => $call::<4, $threads, $gate, $sink>($($argument),+),
-            8 => $call::<8, $threads, $gate, $sink>($($argument),+),
-            16 => $call::<16, $threads, $gate, $sink>($($argument),+),
-            24 => $call::<24, $threads, $gate, $sink>($($argument),+),
-            _ => $call::<32, $threads, $gate, $sink>($($argument),+),
+            4 => $call::<4, $($of),+>($($argument),+),
+            8 => $call::<8, $($of),+>($($argument),+),
+            16 => $call::<16, $($of),+>($($argument),+),
+            24 => $call::<24, $($of),+>($($argument),+),
+            _ => $call::<32, $($of),+>($($argument),+),
         }
     };
 }

@@ -150,9 +150,7 @@ pub(crate) fn sample<R: Threads + Sync, G: Gate, O: Sink>(
     at_order!(
         command.order,
         summarize,
-        R,
-        G,
-        O,
+        (R, G, O),
         shop,
         seed,
         &points,

@@ -108,7 +108,7 @@ fn two_workers_meet(rt: HostRuntime) -> Result<(), Fail> {
     assert_eq!(rt; gate.second.counts(), (1, 1));
     assert_eq!(rt; gate.given_up.load(Ordering::SeqCst), 0);
     let by_one = output_of(&rt, alloc, &SOLVE, TWO_CELLS, SURE, Status::Done)?;
-    assert_eq!(rt; by_two.held(), by_one.held());
+    by_two.hold(&rt, by_one.out.held(), by_one.cert.held());
     Ok(())
 }
 
@@ -135,7 +135,8 @@ fn samples_are_cut(rt: HostRuntime) -> Result<(), Fail> {
             begun: AtomicU64::new(0),
         };
         let words = ["sample", "1", "500", "4", "8", workers];
-        let _ = gated_output(&rt, rt.alloc(), &words, b"", SURE, Status::Done, &gate)?;
+        let outputs = gated_output(&rt, rt.alloc(), &words, b"", SURE, Status::Done, &gate)?;
+        assert_eq!(rt; outputs.cert.held(), b"".as_slice());
         assert_eq!(rt; gate.begun.load(Ordering::SeqCst) > 0, is_cut);
     }
     Ok(())

@@ -1,12 +1,16 @@
-//! Tests of the report's lines, and of the program through its top call.
+//! Tests of the report's lines and the certificate, and of the program through its top call.
 #![tactic(auto)]
 
+#[cfg(test)]
+mod certificates;
 #[cfg(test)]
 mod gates;
 #[cfg(test)]
 mod lines;
 #[cfg(test)]
 mod ports;
+#[cfg(test)]
+mod readback;
 #[cfg(test)]
 mod reports;
 #[cfg(test)]

@@ -1,9 +1,9 @@
 //! Worked examples of one leaf through the top call.
 ghost use Rattle.std.specs.Prelude.{◌<◌};
 
-use crate::ports::{Ports, SOLVE, SURE, expect, flush_fails, words_of};
+use crate::ports::{Ports, SOLVE, SURE, expect, flush_fails, output_of, words_of};
 use fmm_program::{Opening, Status, plan, run};
-use io_ports::{BrokenSink, BrokenSource, DropSink, MemSink, SureSource};
+use io_ports::{BrokenSink, BrokenSource, DropSink, MemSink, Sink, SureSource};
 use row_phases::OpenGate;
 use std::alloc::Global;
 use std::process::Abort;
@@ -160,19 +160,6 @@ fn long(rt: HostRuntime) -> Result<(), Fail> {
     solves(&rt, rt.alloc(), &text, Status::Refused, b"refused long\n")
 }
 
-/// What a solve over ports that fail ends with and writes.
-fn fails(
-    rt: &(impl Abort + Threads + Sync),
-    alloc: Global,
-    ports: Ports<'_>,
-    status: Status,
-    written: &[u8],
-) -> Result<(), Fail>
-    requires { 0 < ports.step }
-{
-    expect(rt, alloc, &SOLVE, ONE_PAIR, ports, status, written)
-}
-
 #[test]
 fn read_faults(rt: HostRuntime) -> Result<(), Fail> {
     for failing in [[1], [2]] {
@@ -181,8 +168,24 @@ fn read_faults(rt: HostRuntime) -> Result<(), Fail> {
             failing_reads: &failing,
             ..SURE
         };
-        fails(&rt, rt.alloc(), ports, Status::ReadFault, b"")?;
+        let status = Status::ReadFault;
+        expect(&rt, rt.alloc(), &SOLVE, ONE_PAIR, ports, status, b"")?;
     }
+    Ok(())
+}
+
+/// A solve whose write of the report fails leaves so much of it, and the whole certificate.
+fn report_fails(
+    rt: &(impl Abort + Threads + Sync),
+    alloc: Global,
+    ports: Ports<'_>,
+    begun: &[u8],
+) -> Result<(), Fail>
+    requires { 0 < ports.step }
+{
+    let whole = output_of(rt, alloc, &SOLVE, ONE_PAIR, SURE, Status::Done)?;
+    let outputs = output_of(rt, alloc, &SOLVE, ONE_PAIR, ports, Status::WriteFault)?;
+    outputs.hold(rt, begun, whole.cert.held());
     Ok(())
 }
 
@@ -192,7 +195,7 @@ fn write_faults(rt: HostRuntime) -> Result<(), Fail> {
         failing_writes: &[1],
         ..SURE
     };
-    fails(&rt, rt.alloc(), ports, Status::WriteFault, b"")?;
+    report_fails(&rt, rt.alloc(), ports, b"")?;
     // The first line takes seven writes of five bytes.
     let ports = Ports {
         step: 5,
@@ -200,13 +203,14 @@ fn write_faults(rt: HostRuntime) -> Result<(), Fail> {
         ..SURE
     };
     let head = b"fmm report 1 field order 8 cap 8\n";
-    fails(&rt, rt.alloc(), ports, Status::WriteFault, head)
+    report_fails(&rt, rt.alloc(), ports, head)
 }
 
 #[test]
 fn a_broken_source(rt: HostRuntime) -> Result<(), Fail> {
     let words = words_of(rt.alloc(), &SOLVE)?;
     let mut out = MemSink::with_room(rt.alloc(), 64, 64, Vec::new(rt.alloc()))?;
+    let mut cert_out = MemSink::with_room(rt.alloc(), 64, 64, Vec::new(rt.alloc()))?;
     let answer = run(
         &rt,
         rt.alloc(),
@@ -214,28 +218,54 @@ fn a_broken_source(rt: HostRuntime) -> Result<(), Fail> {
         &mut BrokenSource::new(),
         &mut SureSource::new(Vec::new(rt.alloc())),
         &mut out,
-        &mut DropSink,
+        &mut cert_out,
         &OpenGate,
     );
     assert_eq!(rt; (answer, out.held()), (Status::ReadFault, b"".as_slice()));
+    assert_eq!(rt; cert_out.held(), b"".as_slice());
     Ok(())
 }
 
-#[test]
-fn a_broken_sink(rt: HostRuntime) -> Result<(), Fail> {
-    let words = words_of(rt.alloc(), &SOLVE)?;
-    let mut points = SureSource::new(Vec::from_slice(rt.alloc(), ONE_PAIR)?);
-    let answer = run(
-        &rt,
-        rt.alloc(),
+/// How a solve of one pair into these sinks ends.
+fn solve_into<O: Sink, C: Sink>(
+    rt: &(impl Abort + Threads + Sync),
+    alloc: Global,
+    out: &mut O,
+    cert_out: &mut C,
+) -> Result<Status, Fail> {
+    let words = words_of(alloc, &SOLVE)?;
+    let mut points = SureSource::new(Vec::from_slice(alloc, ONE_PAIR)?);
+    let mut cert_in = SureSource::new(Vec::new(alloc));
+    Ok(run(
+        rt,
+        alloc,
         &words,
         &mut points,
-        &mut SureSource::new(Vec::new(rt.alloc())),
-        &mut BrokenSink::new(),
-        &mut DropSink,
+        &mut cert_in,
+        out,
+        cert_out,
         &OpenGate,
-    );
+    ))
+}
+
+#[test]
+fn broken_sinks(rt: HostRuntime) -> Result<(), Fail> {
+    let alloc = rt.alloc();
+    let answer = solve_into(&rt, alloc, &mut BrokenSink::new(), &mut DropSink)?;
     assert_eq!(rt; answer, Status::WriteFault);
+    let mut out = MemSink::with_room(alloc, 4096, 64, Vec::new(alloc))?;
+    let answer = solve_into(&rt, alloc, &mut out, &mut BrokenSink::new())?;
+    assert_eq!(rt; (answer, out.held()), (Status::WriteFault, b"".as_slice()));
+    Ok(())
+}
+
+/// A sink that keeps nothing can stand for the certificate, as where the points come from standard input.
+#[test]
+fn a_dropped_certificate(rt: HostRuntime) -> Result<(), Fail> {
+    let alloc = rt.alloc();
+    let mut out = MemSink::with_room(alloc, 4096, 64, Vec::new(alloc))?;
+    let answer = solve_into(&rt, alloc, &mut out, &mut DropSink)?;
+    assert_eq!(rt; (answer, out.held()), (Status::Done, ONE_PAIR_REPORT));
     Ok(())
 }
 
@@ -272,17 +302,17 @@ fn usage(rt: HostRuntime) -> Result<(), Fail> {
     Ok(())
 }
 
-/// Words and a text, and the report, the line of refusal or the usage line that they get.
-const FLUSHED: [(&[&str], &[u8], &[u8]); 3] = [
-    (&SOLVE, ONE_PAIR, ONE_PAIR_REPORT),
-    (&SOLVE, b"", b"refused line 1 syntax\n"),
-    (&[], ONE_PAIR, USAGE),
+/// Words and a text, how they end with sure ports, and the report, the line of refusal or the usage line that they get.
+const FLUSHED: [(&[&str], &[u8], Status, &[u8]); 3] = [
+    (&SOLVE, ONE_PAIR, Status::Done, ONE_PAIR_REPORT),
+    (&SOLVE, b"", Status::Refused, b"refused line 1 syntax\n"),
+    (&[], ONE_PAIR, Status::Usage, USAGE),
 ];
 
 #[test]
 fn flush_faults(rt: HostRuntime) -> Result<(), Fail> {
-    for &(words, text, written) in &FLUSHED {
-        flush_fails(&rt, rt.alloc(), words, text, written)?;
+    for &(words, text, status, written) in &FLUSHED {
+        flush_fails(&rt, rt.alloc(), words, text, status, written)?;
     }
     Ok(())
 }

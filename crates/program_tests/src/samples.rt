@@ -42,7 +42,7 @@ fn a_sample_opens_nothing(rt: HostRuntime) -> Result<(), Fail> {
 #[test]
 fn flush_faults(rt: HostRuntime) -> Result<(), Fail> {
     let summary = TWO_POINTS_SUMMARY.as_bytes();
-    flush_fails(&rt, rt.alloc(), &TWO_POINTS, b"", summary)
+    flush_fails(&rt, rt.alloc(), &TWO_POINTS, b"", Status::Done, summary)
 }
 
 /// The seed, the number of points, the order and the capacity of a sample, and its summary. The numbers are those of

@@ -1,6 +1,6 @@
 //! Reports of version 2 at all orders, and at sizes that version 1 doesn't have. The numbers are those of another program.
 use crate::ports::{SURE, expect, flush_fails, output_of};
-use crate::reports::{Report, is_report};
+use crate::reports::{Known, is_known};
 use fmm_program::Status;
 use std::alloc::{AllocError, Global};
 use std::process::Abort;
@@ -309,9 +309,7 @@ fn lattice_text(alloc: Global) -> Result<Vec<u8>, AllocError> {
     Ok(text)
 }
 
-const LATTICE_REPORT: Report<'static> = Report {
-    order: "8",
-    cap: "32",
+const LATTICE_REPORT: Known<'static> = Known {
     lines: &[
         (0, "fmm report 1 field order 8 cap 32"),
         (
@@ -335,9 +333,9 @@ const LATTICE_REPORT: Report<'static> = Report {
 #[test]
 fn seventy_thousand_points(rt: HostRuntime) -> Result<(), Fail> {
     let text = lattice_text(rt.alloc())?;
-    let words = ["solve", LATTICE_REPORT.order, LATTICE_REPORT.cap, "-"];
-    let out = output_of(&rt, rt.alloc(), &words, &text, SURE, Status::Done)?;
-    is_report(&rt, out.held(), &LATTICE_REPORT)
+    let words = ["solve", "8", "32", "-"];
+    let outputs = output_of(&rt, rt.alloc(), &words, &text, SURE, Status::Done)?;
+    is_known(&rt, outputs.out.held(), &LATTICE_REPORT)
 }
 
 /// Version 1 has no order 32 in either mode, and a text that is too long is refused as such.
@@ -348,7 +346,7 @@ fn no_order(rt: HostRuntime) -> Result<(), Fail> {
     let head = b"fmm 1 velocity\n";
     let line = b"refused order\n";
     expect(&rt, alloc, &words, head, SURE, Status::Refused, line)?;
-    flush_fails(&rt, alloc, &words, head, line)?;
+    flush_fails(&rt, alloc, &words, head, Status::Refused, line)?;
     let long = vec![in alloc; b'a'; 16_777_217]?;
     let line = b"refused long\n";
     expect(&rt, alloc, &words, &long, SURE, Status::Refused, line)

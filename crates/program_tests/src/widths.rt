@@ -1,6 +1,7 @@
 //! Printed intervals and the bound on their widths: with `n` sources of the weight `S`, the tail `T` of two cells and the smallest side
 //! `s`, at order `P`, `s` times what lies between two printed counts is at most `2 S T + 6 P^2 S + 30 P^4 n + 64 P^2 + s (6 n + 6)`.
 use crate::ports::{SURE, output_of};
+use crate::readback::count_of;
 use crate::wide::HEAVY;
 use fmm_program::Status;
 use std::alloc::Global;
@@ -131,21 +132,6 @@ const BOUNDED: [Bounded<'static>; 6] = [
     },
 ];
 
-/// The count of 10^-12 that a printed decimal is.
-fn count_of(decimal: &str) -> i128 {
-    let mut count: i128 = 0;
-    for byte in decimal.bytes() {
-        if byte.is_ascii_digit() {
-            let digit = i128::from(byte.saturating_sub(b'0'));
-            count = count.saturating_mul(10).saturating_add(digit);
-        }
-    }
-    if decimal.starts_with('-') {
-        return 0_i128.saturating_sub(count);
-    }
-    count
-}
-
 /// What lies between the counts of the word of this number and of the next, in the line of a target.
 fn apart(line: &str, word: usize) -> Option<i128> {
     let mut words = line.split(' ').skip(word);
@@ -169,8 +155,8 @@ fn is_bounded(
 ) -> Result<(), Fail> {
     let text = text_of(alloc, case.head, case.points)?;
     let words = ["solve", case.order, "8", "-"];
-    let out = output_of(rt, alloc, &words, &text, SURE, Status::Done)?;
-    let report = str::from_utf8(out.held())?;
+    let outputs = output_of(rt, alloc, &words, &text, SURE, Status::Done)?;
+    let report = str::from_utf8(outputs.out.held())?;
     let mut targets: usize = 0;
     let mut widest: i128 = 0;
     for line in report.lines() {

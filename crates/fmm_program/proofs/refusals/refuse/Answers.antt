@@ -1,10 +1,10 @@
-use Rattle.std.proofs.Common.{refl}
+use Rattle.std.proofs.Common.{inr, refl}
 use Rattle.fmm_program.proofs.FlushedEnds.{plain}
 use Rattle.fmm_program.specs.declared.status.Status.TheVariants.{Refused}
 use Rattle.fmm_program.proofs.refusals.refuse.Goals as goal
 
 pub returns-in-Err-clause-ends : goal.returns-in-Err-clause-ends
-returns-in-Err-clause-ends g c = (Refused, plain c.args.line.now, (refl, refl, refl), c.in-Err.ensures.bytes, (0, tt))
+returns-in-Err-clause-ends g c = (Refused, plain c.args.line.now, (refl, refl, refl), inr (tt, c.in-Err.ensures.bytes))
 
 pub returns-in-Ok-clause-ends : goal.returns-in-Ok-clause-ends
 returns-in-Ok-clause-ends g c = (plain c.args.line.now, (refl, refl, refl), c.in-Ok.ensures.bytes, tt)
