@@ -59,8 +59,12 @@ fn read_section<'a>(
     ensures next { IfOk result (λ rest. IsStarting (head_of header) (next section) (line + lines_due (head_of header) section) stored.new) }
     ensures read { (bytes : List ℕ) → AreRead bytes stored.old text.now → MatchResult result (λ rest. AreRead bytes stored.new rest.now) (IsFault bytes) }
 {
+    let lines = header.lines(section);
+    if stored.make_room(section, lines, text.len()).is_err() {
+        return Err(CertFault::Memory);
+    }
     let mut rest = text;
-    for n in 0..header.lines(section) {
+    for n in 0..lines {
         rest = read_line(header, section, line + n, rest, stored, numbers)?;
     }
     Ok(rest)

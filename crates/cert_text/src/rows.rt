@@ -41,6 +41,14 @@ impl Rows {
         }
     }
 
+    /// Takes the memory for so many rows with so many numbers together.
+    pub(crate) fn make_room(&mut self, rows: usize, numbers: usize) -> Result<(), AllocError>
+        ensures { self.new ≡ self.old }
+    {
+        self.ranges.reserve(rows)?;
+        self.numbers.reserve(numbers)
+    }
+
     /// Appends a row.
     pub(crate) fn push(&mut self, row: &[i128]) -> Result<(), AllocError>
         ensures pushed { OnOk result (self.new ≡ self.old ++ row.now ∷ []) }

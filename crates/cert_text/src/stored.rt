@@ -35,7 +35,7 @@ pub(crate) struct NodeLine {
 }
 
 /// The lines so far. A row keeps the numbers of its line, none for a zero row that is given by `-`; a local row has its radius first, and a target
-/// its counts behind its box. Memory is taken as lines come, and not for a count of line 1.
+/// its counts behind its box. Memory is taken section by section, for no more lines than the text can hold.
 #[derive(Drop)]
 pub(crate) struct Stored {
     pub(crate) header: Header,
@@ -158,6 +158,30 @@ fn is_local(numbers: &[i128]) -> bool
 }
 
 impl Stored {
+    /// Takes the memory for the lines of a section, as many of them as a text of so many bytes can hold: a line has at least four bytes, and
+    /// each number two.
+    pub(crate) fn make_room(
+        &mut self,
+        section: Section,
+        lines: u64,
+        bytes: usize,
+    ) -> Result<(), AllocError>
+        ensures { self.new ≡ self.old }
+    {
+        let lines = lines.min(bytes as u64 / 4) as usize;
+        let row = 4 * self.header.order as usize + 1;
+        let numbers = lines.saturating_mul(row).min(bytes / 2);
+        match section {
+            Section::Node => self.nodes.reserve(lines),
+            Section::At => self.ats.reserve(lines),
+            Section::Multipole => self.multipoles.make_room(lines, numbers),
+            Section::Entry => self.entries.reserve(lines),
+            Section::Local => self.locals.make_room(lines, numbers),
+            Section::Target => self.targets.make_room(lines, lines.saturating_mul(8)),
+            Section::End => Ok(()),
+        }
+    }
+
     /// Line 1 alone. It takes no memory.
     pub(crate) fn new(alloc: Global, header: Header) -> Stored
         requires { IsHead (head_of header) }
