@@ -1,10 +1,11 @@
-//! Measures the arithmetic, reading and writing, the tree with its lists, the kernel's table, and the calls on rows.
+//! Measures the arithmetic, reading and writing, the tree with its lists, the kernel's table, the calls on rows, and certificates.
 //!
-//! `benches NAME time` measures one of them. `benches NAME` runs it in its short form, and `benches` all five, where
+//! `benches NAME time` measures one of them. `benches NAME` runs it in its short form, and `benches` all six, where
 //! the numbers are the same in every run.
 #![tactic(auto)]
 
 mod arithmetic;
+mod certificates;
 mod kernel;
 mod rows;
 mod text;
@@ -20,15 +21,17 @@ enum Bench {
     Tree,
     Kernel,
     Rows,
+    Certificates,
 }
 
 impl Bench {
-    const ALL: [Bench; 5] = [
+    const ALL: [Bench; 6] = [
         Bench::Arithmetic,
         Bench::Text,
         Bench::Tree,
         Bench::Kernel,
         Bench::Rows,
+        Bench::Certificates,
     ];
 
     fn name(self) -> &'static str {
@@ -38,6 +41,7 @@ impl Bench {
             Bench::Tree => "tree",
             Bench::Kernel => "kernel",
             Bench::Rows => "rows",
+            Bench::Certificates => "certificates",
         }
     }
 
@@ -48,6 +52,7 @@ impl Bench {
             Bench::Tree => tree::run(rt, timed),
             Bench::Kernel => kernel::run(rt, timed),
             Bench::Rows => rows::run(rt, timed),
+            Bench::Certificates => certificates::run(rt, timed),
         }
     }
 }

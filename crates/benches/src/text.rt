@@ -29,7 +29,13 @@ fn tell_rate(rt: &HostRuntime, name: &str, bytes: usize, start: Instant) -> io::
 }
 
 /// Says how many bytes went through since the start, or how fast.
-fn tell(rt: &HostRuntime, timed: bool, name: &str, bytes: usize, start: Instant) -> io::Result<()> {
+pub(crate) fn tell(
+    rt: &HostRuntime,
+    timed: bool,
+    name: &str,
+    bytes: usize,
+    start: Instant,
+) -> io::Result<()> {
     if timed {
         tell_rate(rt, name, bytes, start)
     } else {
