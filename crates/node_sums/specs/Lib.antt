@@ -1,0 +1,3 @@
+-- What the contracts cite: sums over the nodes under a node.
+pub mod ByLeaves
+pub mod Sums
