@@ -1,28 +1,28 @@
 -- What stands at a place of a certificate that is kept.
-use Rattle.std.proofs.Common.{ℕ, zero, suc, ◌≡◌, ◌+◌, ◌*◌, ◌^◌, ◌≤◌, ◌<◌, ℤ, pos, neg_ℤ, ◌≤ℤ◌, List, [], ◌∷◌, length, map, get_or, drop, drop-cons, refl, sym, ap, ap₂, ◌∙◌, subst, arith}
+use Rattle.std.proofs.Common.{ℕ, zero, suc, ◌≡◌, ◌*◌, ◌≤◌, ◌<◌, ℤ, pos, ◌≤ℤ◌, List, [], ◌∷◌, length, map, get_or, drop, refl, sym, ap, ◌∙◌, subst, arith}
 use Rattle.std.proofs.lemmas.Int.{ints}
 use Rattle.std.proofs.lemmas.List.{length-map}
 use Rattle.letters.specs.declared.Entry.{Entry}
 use Rattle.exact_math.specs.Within.{Within}
-use Rattle.limits.specs.Limits.{grid_of, most_given_local, most_given_multipole, most_given_target}
+use Rattle.limits.specs.Limits.{most_given_local}
 use Rattle.cert_text.specs.declared.stored.NodeLine.{NodeLine}
-use Rattle.cert_text.specs.declared.section.Section.TheVariants.{Node, At, Multipole, Entry as EntryLine, Local, Target}
+use Rattle.cert_text.specs.declared.section.Section.TheVariants.{Node, At, Entry as EntryLine, Local}
 use Rattle.cert_text.specs.Certificate.{Certificate, IsCertificate, nth_line, nth_number}
-use Rattle.cert_text.specs.Ends.{AreEndsAt}
 use Rattle.cert_text.specs.Inside.{kept_node, node_numbers, kept_at, kept_multipole, kept_entry, kept_local, kept_target}
 use Rattle.cert_text.specs.Lines.{Line, Head}
-use Rattle.cert_text.specs.Sections.{IsNumberBelow, IsParentOf, AreOrderedEnds, AreInRange}
+use Rattle.cert_text.specs.Sections.{IsNumberBelow, AreOrderedEnds, AreInRange}
 use Rattle.cert_text.specs.Storage.{IsStored}
 use Rattle.cert_text.proofs.RowLines.{multipole_numbers, local_numbers}
 
 -- ---- ends
-wider : (n m : ℕ) (z : ℤ) → n ≤ m → Within n z → Within m z
-wider n m z le h = record { above = omega (arith, ints, h.above); below = omega (arith, ints, h.below) }
+-- a number and the next are a lower and an upper end, in order and at most n in size
+pub record AreEndsAt (n : ℕ) (zs : List ℤ) (k : ℕ) : Type 0 where
+  pub low_end : Within n (nth_number zs k)
+  pub high_end : Within n (nth_number zs (suc k))
+  pub ordered : nth_number zs k ≤ℤ nth_number zs (suc k)
 
-pub ends_wider : (n m : ℕ) (zs : List ℤ) → n ≤ m → AreOrderedEnds n zs → AreOrderedEnds m zs
-ends_wider n m [] le h = h
-ends_wider n m (z ∷ []) le h = h
-ends_wider n m (lo ∷ hi ∷ zs) le h = (wider n m lo le h.0, wider n m hi le h.1, h.2, ends_wider n m zs le h.3)
+pub wider : (n m : ℕ) (z : ℤ) → n ≤ m → Within n z → Within m z
+wider n m z le h = record { above = omega (arith, ints, h.above); below = omega (arith, ints, h.below) }
 
 ends_two : (m : ℕ) (zs : List ℤ) (k : ℕ) → AreOrderedEnds m zs → AreEndsAt m zs (2 * k)
 ends_two m [] k h =
@@ -90,27 +90,15 @@ module _ (c : Certificate) (is : IsStored c) (whole : IsCertificate c) (k : ℕ)
       let inside : k < length c.multipoles = omega (arith, lt, whole.multipoles_are) in
       ap (λ (l : Line). l.numbers) (nth_kept kept_multipole c.multipoles rows k row [] kept inside e) ∙ multipole_numbers row
 
-  pub multipole_range : (rows : List (List ℤ)) (row : List ℤ) → c.multipoles ≡ map kept_multipole rows → k < c.head.cells → row ≡ get_or rows k [] → AreOrderedEnds most_given_multipole row
-  multipole_range rows row kept lt e =
-      subst (AreOrderedEnds most_given_multipole) (multipole_row rows row kept lt e) (is.multipoles_are k (omega (arith, lt, whole.multipoles_are))).1
-
   pub local_row : (rows : List (List ℤ)) (row : List ℤ) → c.locals ≡ map kept_local rows → k < c.head.cells → row ≡ get_or rows k [] → (nth_line c.locals k).numbers ≡ row
   local_row rows row kept lt e =
       let inside : k < length c.locals = omega (arith, lt, whole.locals_are) in
       ap (λ (l : Line). l.numbers) (nth_kept kept_local c.locals rows k row [] kept inside e) ∙ local_numbers row
 
-  pub local_range : (rows : List (List ℤ)) (row : List ℤ) → c.locals ≡ map kept_local rows → k < c.head.cells → row ≡ get_or rows k [] → AreInRange c.head Local k row
-  local_range rows row kept lt e =
-      subst (AreInRange c.head Local k) (local_row rows row kept lt e) (is.locals_are k (omega (arith, lt, whole.locals_are))).1
-
   pub target_row : (rows : List (List ℤ)) (row : List ℤ) → c.targets ≡ map kept_target rows → k < c.head.targets → row ≡ get_or rows k [] → (nth_line c.targets k).numbers ≡ row
   target_row rows row kept lt e =
       let inside : k < length c.targets = omega (arith, lt, whole.targets_are) in
       ap (λ (l : Line). l.numbers) (nth_kept kept_target c.targets rows k row [] kept inside e)
-
-  pub target_range : (rows : List (List ℤ)) (row : List ℤ) → c.targets ≡ map kept_target rows → k < c.head.targets → row ≡ get_or rows k [] → AreOrderedEnds (most_given_target (grid_of c.head.version)) row
-  target_range rows row kept lt e =
-      subst (AreOrderedEnds (most_given_target (grid_of c.head.version))) (target_row rows row kept lt e) (is.targets_are k (omega (arith, lt, whole.targets_are))).1
 
   pub target_length : (rows : List (List ℤ)) (row : List ℤ) → c.targets ≡ map kept_target rows → k < c.head.targets → row ≡ get_or rows k [] → length row ≡ 8
   target_length rows row kept lt e =

@@ -1,4 +1,5 @@
 -- What the proofs of this crate rest on.
+pub mod BoxRows
 pub mod Cuts
 pub mod Due
 pub mod Ends

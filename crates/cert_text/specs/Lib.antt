@@ -1,6 +1,5 @@
 -- What the contracts cite: lines of certificates, their forms and ranges, the text, and its faults; and how a certificate is kept.
 pub mod Certificate
-pub mod Ends
 pub mod Faults
 pub mod Inside
 pub mod Kept

@@ -1,17 +1,18 @@
 //! Certificates as data.
-ghost use Rattle.std.specs.Prelude.{◌≡◌, ℕ, suc, ◌*◌, ◌^◌, ◌<◌, ◌≤◌, ℤ, pos, [], ◌∷◌, length, drop};
+ghost use Rattle.std.specs.Prelude.{◌≡◌, ℕ, suc, ◌<◌, ◌≤◌, pos, [], ◌∷◌, length, drop};
 ghost use Rattle.complex_box.specs.Box.{BoxWithin, box_ends};
 ghost use Rattle.limits.specs.Limits.{grid_of, most_given_local, most_given_multipole, most_given_target};
 ghost use Rattle.points.specs.Limits.{IsOrderOf};
+ghost use Rattle.row_recursions.specs.Rows.{row_of};
+ghost use Rattle.row_recursions.specs.Sizes.{RowWithin};
 ghost use Rattle.cert_text.specs.Certificate.{IsCertificate, nth_box, nth_line, nth_number};
-ghost use Rattle.cert_text.specs.Ends.{AreEndsAt};
 ghost use Rattle.cert_text.specs.Lines.{letter_word};
 ghost use Rattle.cert_text.specs.Sections.{AreOrderedEnds, IsNumberBelow, IsParentOf};
 
 use crate::stored::Stored;
+use crate::zero_row::ZeroRow;
 use cell_name::Cell;
 use complex_box::CBox;
-use fixed_interval::Interval;
 use letters::Entry;
 use limits::grid_of;
 use std::marker::Model;
@@ -22,6 +23,7 @@ use std::marker::Model;
 #[derive(Drop)]
 pub struct Cert {
     stored: Stored,
+    zeros: ZeroRow,
 }
 
 impl Model for Cert {
@@ -34,53 +36,16 @@ impl Model for Cert {
     ghost invariant = { λ c. IsCertificate c.stored };
 }
 
-/// The number at a place of a row, and 0 behind its last.
-fn number_at(row: &[i128], k: usize) -> i128
-    ensures { result ≡ nth_number row.now k }
-{
-    row.get(k).copied().unwrap_or(0)
-}
-
-/// The interval of the two ends at a place of a row.
-fn interval_at(row: &[i128], k: usize) -> Interval
-    requires few { k < 128 }
-    requires ends { AreEndsAt (2 ^ 96) row.now k }
-    ensures lo { result.lo ≡ nth_number row.now k }
-    ensures hi { result.hi ≡ nth_number row.now (suc k) }
-{
-    Interval::new(number_at(row, k), number_at(row, k + 1))
-}
-
-/// The k-th box of a row.
-fn box_at(row: &[i128], k: usize) -> CBox
-    requires few { k < 32 }
-    requires ends { AreOrderedEnds (2 ^ 96) row.now }
-    ensures ends { box_ends result ≡ nth_box row.now k }
-    ensures size { (most : ℕ) → AreOrderedEnds most row.now → BoxWithin most result }
-{
-    CBox {
-        re: interval_at(row, 4 * k),
-        im: interval_at(row, 4 * k + 2),
-    }
-}
-
-/// The ends of a local row, which stand behind its radius.
-fn ends_of(row: &[i128]) -> &[i128]
-    ensures { result.now ≡ drop 1 row.now }
-{
-    match row {
-        [] => row,
-        [_, ends @ ..] => ends,
-    }
-}
-
 impl Cert {
     /// The certificate of these lines.
     pub(crate) fn of(stored: Stored) -> Cert
         requires { IsCertificate stored }
         ensures { result ≡ stored }
     {
-        Cert { stored }
+        Cert {
+            stored,
+            zeros: ZeroRow::new(),
+        }
     }
 
     /// The version of the points.
@@ -163,6 +128,29 @@ impl Cert {
         stored.ats[k] as usize
     }
 
+    /// The multipole row of a node, one box for each coefficient. Condition: the node is one of the cells.
+    pub fn multipole_row(&self, n: usize) -> &[CBox]
+        requires { n < self.now.head.cells }
+        ensures len { length result.now ≡ self.now.head.order }
+        ensures row { (k : ℕ) → k < self.now.head.order → row_of result.now k ≡ nth_box (nth_line self.now.multipoles n).numbers k }
+        ensures size { RowWithin self.now.head.order most_given_multipole (row_of result.now) }
+    {
+        let stored = &self.stored;
+        self.zeros
+            .unless(stored.multipoles.row(n), stored.header.order)
+    }
+
+    /// The local row of a node, one box for each coefficient. Condition: the node is one of the cells.
+    pub fn local_row(&self, n: usize) -> &[CBox]
+        requires { n < self.now.head.cells }
+        ensures len { length result.now ≡ self.now.head.order }
+        ensures row { (k : ℕ) → k < self.now.head.order → row_of result.now k ≡ nth_box (drop 1 (nth_line self.now.locals n).numbers) k }
+        ensures size { RowWithin self.now.head.order most_given_local (row_of result.now) }
+    {
+        let stored = &self.stored;
+        self.zeros.unless(stored.locals.row(n), stored.header.order)
+    }
+
     /// Coefficient `k` of the multipole row of a node. Conditions: the node is one of the cells, and `k` is below the order.
     pub fn up(&self, n: usize, k: usize) -> CBox
         requires node { n < self.now.head.cells }
@@ -170,8 +158,7 @@ impl Cert {
         ensures ends { box_ends result ≡ nth_box (nth_line self.now.multipoles n).numbers k }
         ensures size { BoxWithin most_given_multipole result }
     {
-        let stored = &self.stored;
-        box_at(stored.multipoles.row(n), k)
+        self.multipole_row(n)[k]
     }
 
     /// Coefficient `k` of the local row of a node. Conditions: the node is one of the cells, and `k` is below the order.
@@ -181,8 +168,7 @@ impl Cert {
         ensures ends { box_ends result ≡ nth_box (drop 1 (nth_line self.now.locals n).numbers) k }
         ensures size { BoxWithin most_given_local result }
     {
-        let stored = &self.stored;
-        box_at(ends_of(stored.locals.row(n)), k)
+        self.local_row(n)[k]
     }
 
     /// The radius of a node. Condition: the node is one of the cells.
@@ -192,7 +178,7 @@ impl Cert {
         ensures size { IsNumberBelow (suc most_given_local) result }
     {
         let stored = &self.stored;
-        number_at(stored.locals.row(n), 0)
+        stored.locals.radius(n)
     }
 
     /// An entry of the lists. Condition: it is one of the entries.
@@ -214,7 +200,7 @@ impl Cert {
         ensures size { BoxWithin (most_given_target (grid_of self.now.head.version)) result }
     {
         let stored = &self.stored;
-        box_at(stored.targets.row(k), 0)
+        stored.targets.row(k)[0]
     }
 
     /// The counts of a target: the lower and the upper end of both parts. Condition: it is one of the targets.
@@ -224,12 +210,7 @@ impl Cert {
         ensures size { AreOrderedEnds (most_given_target (grid_of self.now.head.version)) result }
     {
         let stored = &self.stored;
-        let row = stored.targets.row(k);
-        [
-            number_at(row, 4),
-            number_at(row, 5),
-            number_at(row, 6),
-            number_at(row, 7),
-        ]
+        let counts = stored.targets.row(k)[1];
+        [counts.re.lo, counts.re.hi, counts.im.lo, counts.im.hi]
     }
 }

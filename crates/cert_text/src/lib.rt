@@ -6,11 +6,13 @@ mod fault;
 mod form;
 mod head;
 mod law;
+mod local_rows;
 mod range;
 mod read;
 mod rows;
 mod section;
 mod stored;
+mod zero_row;
 
 pub use cert::Cert;
 pub use fault::{CertFault, CertKind};

@@ -1,7 +1,10 @@
-//! Rows of numbers that stand end to end in one vector.
-ghost use Rattle.std.specs.Prelude.{◌≡◌, ◌<◌, [], ◌∷◌, ◌++◌, length, OnOk, OnErr};
-ghost use Rattle.cert_text.specs.Rows.{row_at};
+//! Rows of boxes that stand end to end in one vector.
+ghost use Rattle.std.specs.Prelude.{◌≡◌, ◌<◌, [], ◌∷◌, ◌++◌, List, length, OnOk, OnErr};
+ghost use Rattle.complex_box.specs.declared.CBox.{CBox};
+ghost use Rattle.cert_text.specs.Rows.{AreBoxEnds, numbers_of, row_at};
 
+use complex_box::CBox;
+use fixed_interval::Interval;
 use std::alloc::{AllocError, Global};
 use std::marker::Model;
 
@@ -12,10 +15,10 @@ pub(crate) struct Range {
     pub(crate) to: usize,
 }
 
-/// Rows of numbers that stand end to end in one vector.
+/// Rows of boxes that stand end to end in one vector, each seen as the numbers that it was made of.
 #[derive(Drop)]
 pub(crate) struct Rows {
-    numbers: Vec<i128>,
+    boxes: Vec<CBox>,
     ranges: Vec<Range>,
 }
 
@@ -25,9 +28,25 @@ impl Model for Rows {
 
     ghost Value = { List (List ℤ) };
 
-    ghost view = { λ r. rows_in r.numbers.items r.ranges.items };
+    ghost view = { λ r. rows_in r.boxes.items r.ranges.items };
 
-    ghost invariant = { λ r. AreRowRanges r.numbers.items r.ranges.items };
+    ghost invariant = { λ r. AreRowRanges r.boxes.items r.ranges.items };
+}
+
+/// Appends the boxes that these numbers make, four by four.
+fn push_boxes(boxes: &mut Vec<CBox>, numbers: &[i128]) -> Result<(), AllocError>
+    requires { AreBoxEnds numbers.now }
+    ensures { (more : List CBox) × (boxes.new.items ≡ boxes.old.items ++ more) × OnOk result (numbers_of more ≡ numbers.now) }
+{
+    let mut rest = numbers;
+    while let [left, right, low, high, more @ ..] = rest {
+        boxes.push(CBox {
+            re: Interval::new(*left, *right),
+            im: Interval::new(*low, *high),
+        })?;
+        rest = more;
+    }
+    Ok(())
 }
 
 impl Rows {
@@ -36,38 +55,39 @@ impl Rows {
         ensures { result ≡ [] }
     {
         Rows {
-            numbers: Vec::new(alloc),
+            boxes: Vec::new(alloc),
             ranges: Vec::new(alloc),
         }
     }
 
-    /// Takes the memory for so many rows with so many numbers together.
-    pub(crate) fn make_room(&mut self, rows: usize, numbers: usize) -> Result<(), AllocError>
+    /// Takes the memory for so many rows with so many boxes together.
+    pub(crate) fn make_room(&mut self, rows: usize, boxes: usize) -> Result<(), AllocError>
         ensures { self.new ≡ self.old }
     {
         self.ranges.reserve(rows)?;
-        self.numbers.reserve(numbers)
+        self.boxes.reserve(boxes)
     }
 
-    /// Appends a row.
-    pub(crate) fn push(&mut self, row: &[i128]) -> Result<(), AllocError>
-        ensures pushed { OnOk result (self.new ≡ self.old ++ row.now ∷ []) }
+    /// Appends the row of boxes that these numbers make, four by four.
+    pub(crate) fn push(&mut self, numbers: &[i128]) -> Result<(), AllocError>
+        requires { AreBoxEnds numbers.now }
+        ensures pushed { OnOk result (self.new ≡ self.old ++ numbers.now ∷ []) }
         ensures kept { OnErr result (self.new ≡ self.old) }
     {
         self.ranges.reserve(1)?;
-        let from = self.numbers.len();
-        self.numbers.extend_from_slice(row)?;
-        let to = self.numbers.len();
-        self.ranges.push(Range { from, to })?;
+        let from = self.boxes.len();
+        push_boxes(&mut self.boxes, numbers)?;
+        let to = self.boxes.len();
+        self.ranges.push_reserved(Range { from, to });
         Ok(())
     }
 
     /// The row of a number.
-    pub(crate) fn row(&self, n: usize) -> &[i128]
+    pub(crate) fn row(&self, n: usize) -> &[CBox]
         requires { n < length self.now }
-        ensures { result.now ≡ row_at self.now n }
+        ensures { numbers_of result.now ≡ row_at self.now n }
     {
         let range = self.ranges[n];
-        &self.numbers[range.from..range.to]
+        &self.boxes[range.from..range.to]
     }
 }

@@ -7,6 +7,7 @@ ghost use Rattle.cert_text.specs.Storage.{IsLineRead, Pushes, no_lines};
 ghost use Rattle.cert_text.specs.declared.section.Section.TheVariants.{Node, At, Multipole, Entry as EntryLine, Local, Target};
 
 use crate::Section;
+use crate::local_rows::LocalRows;
 use crate::range::{MOST_LOCAL, MOST_MULTIPOLE, are_ends, below, most_target, parent_of};
 use crate::rows::Rows;
 use letters::{Entry, Letter};
@@ -34,8 +35,8 @@ pub(crate) struct NodeLine {
     pub(crate) j: u32,
 }
 
-/// The lines so far. A row keeps the numbers of its line, none for a zero row that is given by `-`; a local row has its radius first, and a target
-/// its counts behind its box. Memory is taken section by section, for no more lines than the text can hold.
+/// The lines so far. A row keeps its boxes, none for a zero row that is given by `-`; a target has its counts as a second box.
+/// Memory is taken section by section, for no more lines than the text can hold.
 #[derive(Drop)]
 pub(crate) struct Stored {
     pub(crate) header: Header,
@@ -43,7 +44,7 @@ pub(crate) struct Stored {
     pub(crate) ats: Vec<u32>,
     pub(crate) multipoles: Rows,
     pub(crate) entries: Vec<Entry>,
-    pub(crate) locals: Rows,
+    pub(crate) locals: LocalRows,
     pub(crate) targets: Rows,
 }
 
@@ -169,15 +170,15 @@ impl Stored {
         ensures { self.new ≡ self.old }
     {
         let lines = lines.min(bytes as u64 / 4) as usize;
-        let row = 4 * self.header.order as usize + 1;
-        let numbers = lines.saturating_mul(row).min(bytes / 2);
+        let order = self.header.order as usize;
+        let boxes = lines.saturating_mul(order).min(bytes / 8);
         match section {
             Section::Node => self.nodes.reserve(lines),
             Section::At => self.ats.reserve(lines),
-            Section::Multipole => self.multipoles.make_room(lines, numbers),
+            Section::Multipole => self.multipoles.make_room(lines, boxes),
             Section::Entry => self.entries.reserve(lines),
-            Section::Local => self.locals.make_room(lines, numbers),
-            Section::Target => self.targets.make_room(lines, lines.saturating_mul(8)),
+            Section::Local => self.locals.make_room(lines, boxes),
+            Section::Target => self.targets.make_room(lines, lines.saturating_mul(2)),
             Section::End => Ok(()),
         }
     }
@@ -193,7 +194,7 @@ impl Stored {
             ats: Vec::new(alloc),
             multipoles: Rows::new(alloc),
             entries: Vec::new(alloc),
-            locals: Rows::new(alloc),
+            locals: LocalRows::new(alloc),
             targets: Rows::new(alloc),
         }
     }

@@ -4,8 +4,9 @@ use Rattle.cert_text.specs.declared.section.Section.TheVariants.{Local}
 use Rattle.cert_text.specs.Certificate.{Certificate}
 use Rattle.cert_text.specs.Inside.{kept_local}
 use Rattle.cert_text.specs.Kept.{seen}
-use Rattle.cert_text.specs.Sections.{AreInRange}
+use Rattle.cert_text.specs.Sections.{IsHead, AreInRange}
 use Rattle.cert_text.specs.Storage.{IsLineRead}
+use Rattle.cert_text.proofs.BoxRows.{local_boxes}
 use Rattle.cert_text.proofs.Cuts.{local_read, read_local}
 use Rattle.cert_text.proofs.Grown.{grown, taken_as, more_locals}
 use Rattle.cert_text.proofs.RowLines.{form_same, read_length, local_numbers, local_word}
@@ -13,6 +14,12 @@ use Rattle.cert_text.proofs.stored.Stored.push_local.Goals as goal
 
 pub returns-then-not-is_local : goal.returns-then-not-is_local
 returns-then-not-is_local c = λ word l read. (λ r. let r' = local_read c.args.self.now.head (length c.args.self.now.locals) l.numbers c.args.numbers.now read.numbers_are r in search (rules, r', c.if-not-is_local.ensures c.args.self.now.head (length c.args.self.now.locals)), refl)
+
+pub push-requires : goal.push-requires
+push-requires c =
+    let is = subst (λ (s : Certificate). IsHead s.head) c.self.view_is c.self.invariant.head_is in
+    let range : AreInRange c.args.self.now.head Local 0 c.args.numbers.now = search (rules, c.if-not-is_local.ensures c.args.self.now.head 0) in
+    local_boxes c.args.self.now.head c.requires.0 c.args.numbers.now c.requires.1 0 is c.requires.2 range
 
 pub invariant_of-self-2 : goal.invariant_of-self-2
 invariant_of-self-2 c =

@@ -7,6 +7,7 @@ use Rattle.cert_text.specs.Kept.{seen}
 use Rattle.cert_text.specs.Sections.{AreOrderedEnds}
 use Rattle.cert_text.specs.Storage.{IsLineRead}
 use Rattle.limits.specs.Limits.{most_given_multipole}
+use Rattle.cert_text.proofs.BoxRows.{multipole_boxes}
 use Rattle.cert_text.proofs.Cuts.{ends_read, read_ends}
 use Rattle.cert_text.proofs.Grown.{grown, taken_as, more_multipoles}
 use Rattle.cert_text.proofs.RowLines.{form_same, read_length, head_order, multipole_numbers, multipole_word}
@@ -14,6 +15,11 @@ use Rattle.cert_text.proofs.stored.Stored.push_multipole.Goals as goal
 
 pub returns-then-not-are_ends : goal.returns-then-not-are_ends
 returns-then-not-are_ends c = λ word l read. (λ r. let r' = ends_read most_given_multipole l.numbers c.args.numbers.now (omega arith) read.numbers_are r in search (rules, r', c.if-not-are_ends.ensures), refl)
+
+pub push-requires : goal.push-requires
+push-requires c =
+    let range : AreOrderedEnds most_given_multipole c.args.numbers.now = search (rules, c.if-not-are_ends.ensures) in
+    multipole_boxes c.args.self.now.head c.requires.0 c.args.numbers.now c.requires.1 c.requires.2 range
 
 pub invariant_of-self-2 : goal.invariant_of-self-2
 invariant_of-self-2 c =

@@ -7,6 +7,7 @@ use Rattle.cert_text.specs.Kept.{seen}
 use Rattle.cert_text.specs.Sections.{AreOrderedEnds}
 use Rattle.cert_text.specs.Storage.{IsLineRead}
 use Rattle.limits.specs.Limits.{grid_of, most_given_target}
+use Rattle.cert_text.proofs.BoxRows.{target_boxes}
 use Rattle.cert_text.proofs.Cuts.{ends_read, read_ends, target_limit}
 use Rattle.cert_text.proofs.Grown.{grown, taken_as, more_targets}
 use Rattle.cert_text.proofs.RowLines.{form_same, read_length}
@@ -18,6 +19,12 @@ returns-then-not-are_ends c =
     let version = c.args.self.now.head.version in
     let limit = c.most_target.ensures ∙ ap most_given_target c.grid_of.ensures ∙ ap (λ (s : Certificate). most_given_target (grid_of s.head.version)) c.self.view_is in
     λ word l read. (λ r. let r' = subst (λ n. AreOrderedEnds n numbers) (sym limit) (ends_read (most_given_target (grid_of version)) l.numbers numbers (target_limit version) read.numbers_are r) in search (rules, r', c.if-not-are_ends.ensures), refl)
+
+pub push-requires : goal.push-requires
+push-requires c =
+    let limit = c.most_target.ensures ∙ ap most_given_target c.grid_of.ensures ∙ ap (λ (s : Certificate). most_given_target (grid_of s.head.version)) c.self.view_is in
+    let here : AreOrderedEnds c.most_target.result c.args.numbers.now = search (rules, c.if-not-are_ends.ensures) in
+    target_boxes c.args.self.now.head c.requires.0 c.args.numbers.now c.requires.1 c.requires.2 (subst (λ n. AreOrderedEnds n c.args.numbers.now) limit here)
 
 pub invariant_of-self-2 : goal.invariant_of-self-2
 invariant_of-self-2 c =

@@ -1,0 +1,35 @@
+-- The row has the boxes of the line, or is the zero row.
+use Rattle.std.proofs.Common.{ℤ, List, ap, sym, ◌∙◌, subst, arith}
+use Rattle.exact_math.specs.Ends.{BoxEndsWithin}
+use Rattle.limits.specs.Limits.{most_given_multipole}
+use Rattle.cert_text.specs.Certificate.{Certificate, IsCertificate, nth_box, nth_line}
+use Rattle.cert_text.specs.Rows.{HasRowLength, numbers_of}
+use Rattle.cert_text.specs.Storage.{IsStored}
+use Rattle.cert_text.proofs.BoxRows.{box_within, multipole_long, row_is}
+use Rattle.cert_text.proofs.KeptLines.{multipole_row}
+use Rattle.cert_text.proofs.cert.Cert.multipole_row.Goals as goal
+
+pub unless-requires-clause-len : goal.unless-requires-clause-len
+unless-requires-clause-len c =
+    let seen = c.stored.view_is ∙ c.self.view_is in
+    let is = subst IsStored seen c.stored.invariant in
+    let whole = subst IsCertificate c.self.view_is c.self.invariant in
+    let same = multipole_row c.args.self.now is whole c.args.n c.stored.inside.multipoles (numbers_of c.row.result.now) (sym (ap (λ (s : Certificate). s.multipoles) seen)) c.requires c.row.ensures in
+    let form = (is.multipoles_are c.args.n (omega (arith, c.requires, whole.multipoles_are))).0 in
+    subst (λ order. HasRowLength order c.row.result.now) (sym (ap (λ (s : Certificate). s.head.order) seen)) (multipole_long c.args.self.now.head (nth_line c.args.self.now.multipoles c.args.n) c.row.result.now same form)
+
+pub returns-clause-row : goal.returns-clause-row
+returns-clause-row c = λ k lt.
+    let seen = c.stored.view_is ∙ c.self.view_is in
+    let is = subst IsStored seen c.stored.invariant in
+    let whole = subst IsCertificate c.self.view_is c.self.invariant in
+    let same = multipole_row c.args.self.now is whole c.args.n c.stored.inside.multipoles (numbers_of c.row.result.now) (sym (ap (λ (s : Certificate). s.multipoles) seen)) c.requires c.row.ensures in
+    c.unless.ensures.row k ∙ row_is c.row.result.now k ∙ sym (ap (λ (zs : List ℤ). nth_box zs k) same)
+
+pub returns-clause-size : goal.returns-clause-size
+returns-clause-size c = λ k lt.
+    let seen = c.stored.view_is ∙ c.self.view_is in
+    let is = subst IsStored seen c.stored.invariant in
+    let whole = subst IsCertificate c.self.view_is c.self.invariant in
+    let range = (is.multipoles_are c.args.n (omega (arith, c.requires, whole.multipoles_are))).1 in
+    subst (BoxEndsWithin most_given_multipole) (sym (returns-clause-row c k lt)) (box_within most_given_multipole (nth_line c.args.self.now.multipoles c.args.n).numbers k range)
