@@ -1,0 +1,8 @@
+use Rattle.std.proofs.Common.{◌≡◌, map}
+use Rattle.std.specs.List.{range_with_len}
+use Rattle.certificate_nodes.specs.PointRows.{row_at}
+use Rattle.certificate_nodes.specs.UnderNodes.{points_weight}
+use Rattle.certificate_nodes.proofs.under_nodes.own_weights.Given as goal
+
+abbrev pub invariant-loop-n : goal.invariant-loop-n
+invariant-loop-n l = l.weights.items ≡ map (λ n. points_weight l.order (row_at l.rows n)) (range_with_len 0 l.n)

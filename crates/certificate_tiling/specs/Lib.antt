@@ -1,0 +1,3 @@
+-- Only private contracts cite these: which nodes cover while one node after the other is visited.
+pub mod Order
+pub mod Walk
