@@ -1,0 +1,2 @@
+-- What the contract cites: that the certificate of a field meets the rules.
+pub mod Laws
