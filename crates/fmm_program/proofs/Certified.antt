@@ -1,5 +1,5 @@
 -- A report is certified: the printed counts contain the exact direct sums, and one entry accounts for each target and source.
-use Rattle.std.proofs.Common.{◌≡◌, ◌∙◌, ap, append-nil, refl, subst, Some, None, IfSome, ℕ, List, [], ◌∷◌, ◌++◌, map, pos, ◌^◌, ℤ, arith, neg_ℤ, ◌-ℤ◌, ◌*ℤ◌, ◌≤ℤ◌}
+use Rattle.std.proofs.Common.{◌≡◌, ◌∙◌, ◌≤◌, ap, append-nil, length, refl, subst, sym, Some, None, IfSome, ℕ, List, [], ◌∷◌, ◌++◌, map, pos, ◌^◌, ℤ, arith, neg_ℤ, ◌-ℤ◌, ◌*ℤ◌, ◌≤ℤ◌}
 use Rattle.std.specs.Prelude.{All}
 use Rattle.std.proofs.lemmas.Int.{ints}
 use Rattle.std.proofs.KnownBytes.{Appends-kept}
@@ -12,12 +12,14 @@ use Rattle.exact_math.specs.Orders.{IsOrder}
 use Rattle.exact_math.proofs.Orders.{order_bounds}
 use Rattle.report_lines.proofs.Bounds.{CountsContain-box}
 use Rattle.report_lines.specs.Counts.{count_ends, target_counts}
+use Rattle.cert_text.specs.Certificate.{SpellsCert}
+use Rattle.field_certificate.proofs.FieldRanges.{field_text_spells}
 use Rattle.field_certificate.specs.FieldCertificate.{field_certificate}
 use Rattle.field_report.specs.FieldText.{field_line}
 use Rattle.field_widths.proofs.PrintedWidths.{printed_counts_narrow}
 use Rattle.field_widths.specs.Bound.{NoWider, PrintsNoWider, width_bound}
 use Rattle.limits.proofs.Grids.{grid_positive, version_has_grid}
-use Rattle.limits.specs.Limits.{grid_of}
+use Rattle.limits.specs.Limits.{grid_of, most_certificate}
 use Rattle.near_field.specs.DirectSum.{direct_sum}
 use Rattle.points.specs.Points.{place}
 use Rattle.points.specs.declared.Mode.{Mode}
@@ -84,12 +86,20 @@ certified order cap input output is_order s =
       narrow = λ side smallest. lines_narrow points cap order side s.lists (targets points.list) (printed_counts_narrow grid points.list cap order s.lists (version_has_grid points.version) is_order inside s.lists_are side smallest);
       certificate = field_certificate points cap order s.lists;
       cert_text = s.certificate;
+      spelled = λ short. subst (λ t. SpellsCert t (field_certificate points cap order s.lists)) (sym s.certificate)
+          (field_text_spells points cap order s.lists (record {
+            limits = s.depth.read.1.limits;
+            order = record { is_order = is_order; most = s.depth.has_order };
+            tree = s.depth.has_tree;
+            lists_are = s.lists_are;
+            short = subst (λ t. length t ≤ most_certificate grid) s.certificate short;
+          }));
       one_entry = one_entry_line points cap order s.lists some inside s.lists_are;
       few = translations_are_few points.list s.lists;
     }
 
 -- all that the source told came
-whole : (left rest : Option (List ℕ)) (input : List ℕ) → Consumes left rest input → IfSome left (λ _. rest ≡ Some []) → IfSome left (λ l. (l ≡ input) × (rest ≡ Some []))
+pub whole : (left rest : Option (List ℕ)) (input : List ℕ) → Consumes left rest input → IfSome left (λ _. rest ≡ Some []) → IfSome left (λ l. (l ≡ input) × (rest ≡ Some []))
 whole None rest input p h = tt
 whole (Some l) None input p h = absurd p
 whole (Some l) (Some r) input p h = (p ∙ ap (λ x. input ++ x) nothing ∙ append-nil input, h)

@@ -18,12 +18,12 @@ deep_enough points cap out has (inr cells) = has.no_more cells.0.too_many
 module _ (order cap : ℕ) (input : List ℕ) (out cert : Flow) where
   module _ (depth : HasField order cap input) where
     refused : IsEnding (SolveAnswers order cap input) Refused out cert → ⊥
-    refused (output, (inl long, e), p, q) = absurd (let l = long.0 in let w = depth.read.0 in omega arith)
-    refused (output, (inr (inl faulty), e), p, q) = never_both input depth.points faulty.1.0 faulty.1.1 depth.read.1 faulty.1.2
-    refused (output, (inr (inr (inl other)), e), p, q) =
+    refused (output, (inl (inl long), e), p, q) = absurd (let l = long.0 in let w = depth.read.0 in omega arith)
+    refused (output, (inl (inr faulty), e), p, q) = never_both input depth.points faulty.1.0 faulty.1.1 depth.read.1 faulty.1.2
+    refused (output, (inr (inl other), e), p, q) =
         let same = one_list input other.0 depth.points other.1.1 depth.read.1 in
         absurd (let above = subst (λ (ps : Points). most_order (grid_of ps.version) < order) same other.2 in let most = depth.has_order in omega (arith, above, most))
-    refused (output, (inr (inr (inr deep)), e), p, q) =
+    refused (output, (inr (inr deep), e), p, q) =
         let same = one_list input deep.0 depth.points deep.1.1 depth.read.1 in
         deep_enough deep.0 cap output.out (subst (λ (ps : Points). HasTree (grid_of ps.version) ps.list cap) (sym same) depth.has_tree) deep.3
 

@@ -1,5 +1,7 @@
 pub mod Certified
 pub mod Complete
+mod CheckComplete
+mod CheckRuns
 mod FlushedEnds
 mod FrontWords
 pub mod EntryLines

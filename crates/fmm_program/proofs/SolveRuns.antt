@@ -51,15 +51,15 @@ module _ (order cap : ℕ) (input : List ℕ) (out : Flow) (cert : Option (List 
   -- the line of the first fault of a text
   pub fault_ends : (number : ℕ) (kind : TextKind) (line : List ℕ) → length input ≤ most_input → FirstFault input number kind → line ≡ fault_line number kind
       → IsEnding (OneLine Refused line) status out untold → Ends
-  fault_ends number kind line within fault e = line_ends line (inr (inl (within, (number, kind, fault, e))), refl)
+  fault_ends number kind line within fault e = line_ends line (inl (inr (within, (number, kind, fault, e))), refl)
 
   -- more came than an input may have
   pub long_ends : most_input < length input → IsEnding (OneLine Refused (codes "refused long\n")) status out untold → Ends
-  long_ends longer = line_ends (codes "refused long\n") (inl (longer, refl), refl)
+  long_ends longer = line_ends (codes "refused long\n") (inl (inl (longer, refl)), refl)
 
   -- the version of the points has no such order
   pub order_ends : (points : Points) → IsRead input points → most_order (grid_of points.version) < order → IsEnding (OneLine Refused (codes "refused order\n")) status out untold → Ends
-  order_ends points read above = line_ends (codes "refused order\n") (inr (inr (inl (points, read, above, refl))), refl)
+  order_ends points read above = line_ends (codes "refused order\n") (inr (inl (points, read, above, refl)), refl)
 
   -- points that have no tree
   pub depth_ends : (points : Points) → IsRead input points → order ≤ most_order (grid_of points.version) → IsEnding (DepthAnswers points cap) status out untold → Ends
@@ -67,7 +67,7 @@ module _ (order cap : ℕ) (input : List ℕ) (out : Flow) (cert : Option (List 
       IsEnding-map (DepthAnswers points cap) (SolveAnswers order cap input) deep out (flow cert cert f f) status (with_cert (DepthAnswers points cap) (depth_plain points cap) out cert f status ends)
     where
       deep : (status : Status) (output : Output) → DepthAnswers points cap status output → SolveAnswers order cap input status output
-      deep Refused output a = (inr (inr (inr (points, read, most, a.0))), a.1)
+      deep Refused output a = (inr (inr (points, read, most, a.0)), a.1)
       deep Done output a = absurd a
       deep Usage output a = absurd a
       deep Memory output a = absurd a
@@ -122,7 +122,7 @@ all_came None rest bytes g = tt
 all_came (Some xs) rest bytes g = subst (λ r. Consumes (Some xs) r bytes) (sym g.1) (sym g.0 ∙ sym (append-nil bytes))
 
 -- what holds of the bytes that came, all of them, holds of those that the source told
-told_all : (left rest : Option (List ℕ)) (bytes : List ℕ) (P : List ℕ → Type 0) → GivesAll left rest bytes → P bytes → IfSome left P
+pub told_all : (left rest : Option (List ℕ)) (bytes : List ℕ) (P : List ℕ → Type 0) → GivesAll left rest bytes → P bytes → IfSome left P
 told_all None rest bytes P g h = tt
 told_all (Some xs) rest bytes P g h = subst P g.0 h
 
@@ -133,7 +133,7 @@ told_long (Some xs) None bytes P p l h = absurd p
 told_long (Some xs) (Some ys) bytes P p l h = h xs (let e = ap length p ∙ length-append bytes ys in omega arith)
 
 -- what holds of any input
-told_any : (left : Option (List ℕ)) (P Q : List ℕ → Type 0) → ((input : List ℕ) → P input → Q input) → IfSome left P → IfSome left Q
+pub told_any : (left : Option (List ℕ)) (P Q : List ℕ → Type 0) → ((input : List ℕ) → P input → Q input) → IfSome left P → IfSome left Q
 told_any None P Q h p = tt
 told_any (Some xs) P Q h p = h xs p
 

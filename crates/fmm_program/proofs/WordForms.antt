@@ -1,17 +1,24 @@
 -- A list of words from its words, and numbers by their decimals.
-use Rattle.std.proofs.Common.{◌≡◌, ℕ, ◌<◌, ◌≤◌, ◌^◌, List, [], ◌∷◌, codes, length, slice_get, take, Some, arith, sym, ap, subst, ◌∙◌}
+use Rattle.std.proofs.Common.{◌≡◌, ℕ, ◌<◌, ◌≤◌, ◌^◌, List, [], ◌∷◌, codes, length, slice_get, slice_index_or, take, Some, arith, sym, ap, subst, ◌∙◌}
 use Rattle.std.specs.Prelude.{decimal}
 use Rattle.exact_math.proofs.Orders.{order_bounds}
 use Rattle.exact_math.specs.Orders.{IsCapacity, IsOrder}
 use Rattle.number_text.proofs.Spelling.{one_uint, uint_of_decimal}
 use Rattle.number_text.specs.Numbers.{IsUint, value_after}
 use Rattle.fmm_program.proofs.FrontWords.{front_word}
-use Rattle.fmm_program.specs.Forms.{IsNoSolve, IsSolve}
+use Rattle.fmm_program.specs.Forms.{IsCheck, IsNoSolve, IsSolve}
 use Rattle.fmm_program.specs.Samples.{IsSample}
 
 -- the same word in both
 pub same_word : (a b : List ℕ) → Some a ≡ Some b → a ≡ b
 same_word a b e = cc
+
+-- the two words of a list
+pub two_words : (xs : List (List ℕ)) (a b : List ℕ) → length xs ≡ 2 → slice_get xs 0 ≡ Some a → slice_get xs 1 ≡ Some b → xs ≡ a ∷ b ∷ []
+two_words [] a b n p q = absurd (omega arith)
+two_words (w ∷ []) a b n p q = absurd (omega arith)
+two_words (w ∷ x ∷ []) a b n p q = cc
+two_words (w ∷ x ∷ y ∷ rest) a b n p q = absurd (omega arith)
 
 -- the first four words of a list
 pub four_words : (xs : List (List ℕ)) (a b c d : List ℕ) → 4 ≤ length xs → slice_get xs 0 ≡ Some a → slice_get xs 1 ≡ Some b → slice_get xs 2 ≡ Some c → slice_get xs 3 ≡ Some d → take 4 xs ≡ a ∷ b ∷ c ∷ d ∷ []
@@ -80,4 +87,15 @@ module _ (words : List (List ℕ)) (seed n order cap seed' n' order' cap' : ℕ)
 pub sample_is_no_solve : (words : List (List ℕ)) (seed n order cap : ℕ) → IsSample words seed n order cap → IsNoSolve words
 sample_is_no_solve words seed n order cap p order' cap' file q =
     let same : codes "sample" ≡ codes "solve" = same_word _ _ (sym (front_word words _ 0 p.words_are (omega arith)) ∙ front_word words _ 0 q.words_are (omega arith)) in
+    absurd (let l = ap length same in omega arith)
+
+-- words that ask for a check ask for no solve and for no sample
+pub check_is_no_solve : (words : List (List ℕ)) (file : List ℕ) → IsCheck words file → IsNoSolve words
+check_is_no_solve words file p order cap other q =
+    let same : codes "check" ≡ codes "solve" = same_word _ _ (sym (ap (λ w. slice_get w 0) p.words_are) ∙ front_word words _ 0 q.words_are (omega arith)) in
+    absurd (let first = ap (λ w. slice_index_or w 0 0) same in omega (arith, first))
+
+pub check_is_no_sample : (words : List (List ℕ)) (file : List ℕ) → IsCheck words file → (seed n order cap : ℕ) → IsSample words seed n order cap → ⊥
+check_is_no_sample words file p seed n order cap q =
+    let same : codes "check" ≡ codes "sample" = same_word _ _ (sym (ap (λ w. slice_get w 0) p.words_are) ∙ front_word words _ 0 q.words_are (omega arith)) in
     absurd (let l = ap length same in omega arith)

@@ -3,12 +3,12 @@ use Rattle.std.specs.Prelude.{ℕ, ◌+◌, ◌*◌, ◌<◌, ◌≤◌, ◌≡�
 use Rattle.std.specs.List.{AllZip}
 use Rattle.accounting_text.specs.Given.{given_cell, number_at}
 use Rattle.cell_lists.specs.Entries.{Accounts, IsTargetAndSource}
-use Rattle.cert_text.specs.Certificate.{Certificate, certificate_text, nth_line}
+use Rattle.cert_text.specs.Certificate.{Certificate, SpellsCert, certificate_text, nth_line}
 use Rattle.field_certificate.specs.FieldCertificate.{field_certificate}
 use Rattle.cell_name.specs.Square.{Square}
 use Rattle.letters.specs.declared.Letter.TheVariants.{V}
 use Rattle.field_widths.specs.Bound.{IsSmallestSide, NoWider}
-use Rattle.limits.specs.Limits.{grid_of, most_order}
+use Rattle.limits.specs.Limits.{grid_of, most_certificate, most_order}
 use Rattle.near_field.specs.DirectSum.{direct_sum}
 use Rattle.particle_text.specs.Faults.{FirstFault}
 use Rattle.points.specs.Points.{place}
@@ -63,14 +63,19 @@ RefusesDepth points cap line =
     ((cell : Square) × (n : ℕ) × IsFirstCrowded (grid_of points.version) points.list cell n × (line ≡ crowded_line cell n))
     ⊎ (HasTooManyCells (grid_of points.version) points.list cap × (line ≡ codes "refused depth cells\n"))
 
--- Why an input is refused, and the line that says so: it is too long; or it is no text, and the line names its first fault;
--- or it spells points whose version has no such order; or points whose version has it, but which have no tree.
+-- why the points of an input can't be read, and the line that says so: it is too long; or it is no text, and the line names its first fault
+abbrev pub RefusesText : List ℕ → List ℕ → Type 0
+RefusesText input line =
+    ((most_input < length input) × (line ≡ codes "refused long\n"))
+    ⊎ ((length input ≤ most_input) × ((number : ℕ) × (kind : TextKind) × FirstFault input number kind × (line ≡ fault_line number kind)))
+
+-- Why an input is refused, and the line that says so: its points can't be read; or they are of a version that has no such order; or they are of one that has it,
+-- but have no tree.
 abbrev pub Refuses : ℕ → ℕ → List ℕ → List ℕ → Type 0
 Refuses order cap input line =
-    ((most_input < length input) × (line ≡ codes "refused long\n"))
-    ⊎ (((length input ≤ most_input) × ((number : ℕ) × (kind : TextKind) × FirstFault input number kind × (line ≡ fault_line number kind)))
+    RefusesText input line
     ⊎ (((points : Points) × IsRead input points × (most_order (grid_of points.version) < order) × (line ≡ codes "refused order\n"))
-    ⊎ ((points : Points) × IsRead input points × (order ≤ most_order (grid_of points.version)) × RefusesDepth points cap line)))
+    ⊎ ((points : Points) × IsRead input points × (order ≤ most_order (grid_of points.version)) × RefusesDepth points cap line))
 
 -- the input is a text of a version that has the order, with no crowded place, whose tree has no more cells than a tree may have
 pub record HasField (order cap : ℕ) (input : List ℕ) : Type 0 where
@@ -122,7 +127,8 @@ pub record HasOneEntryLine (c : Certificate) (target source : Point) : Type 0 wh
   pub accounts : LineAccounts c number target source
   pub no_other : (k : ℕ) → k < length c.entries → LineAccounts c k target source → k ≡ number
 
--- The input is within its limit and spells points of a version that has the order. What went out are a certificate, of whose entry lines exactly one accounts for each target and source,
+-- The input is within its limit and spells points of a version that has the order. What went out are a certificate, which its text spells where it is short enough to be read and of whose
+-- entry lines exactly one accounts for each target and source,
 -- and a report with one line for each target, in order, whose counts contain the exact direct sum and are no farther apart than the bound; its counts of work are those of
 -- the lists of the tree.
 pub record IsCertified (order cap : ℕ) (input : List ℕ) (output : Output) : Type 0 where
@@ -133,6 +139,7 @@ pub record IsCertified (order cap : ℕ) (input : List ℕ) (output : Output) : 
   pub lists_are : AreTreeLists (grid_of points.version) points.list cap lists
   pub certificate : Certificate
   pub cert_text : output.cert ≡ certificate_text certificate
+  pub spelled : length output.cert ≤ most_certificate (grid_of points.version) → SpellsCert output.cert certificate
   pub one_entry : (target source : Point) → IsTargetAndSource points.list target source → HasOneEntryLine certificate target source
   pub lines : List TargetLine
   pub report : output.out ≡ report_text points.mode order cap lines (translations points.list lists) (pairs points.list lists)

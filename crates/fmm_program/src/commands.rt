@@ -3,12 +3,13 @@ ghost use Rattle.std.specs.Prelude.{IfSome, IfNone};
 ghost use Rattle.fmm_program.specs.Forms.{Asks, IsNoForm, Opens};
 
 use crate::samples::{SampleCommand, asked_sample};
-use crate::words::{SolveCommand, Words, asked_solve};
+use crate::words::{CheckCommand, SolveCommand, Words, asked_check, asked_solve};
 
 /// A command of the program.
 #[derive(Clone, Copy, Debug, PartialEq, Eq)]
 pub(crate) enum Command<'a> {
     Solve(SolveCommand<'a>),
+    Check(CheckCommand<'a>),
     Sample(SampleCommand),
 }
 
@@ -21,6 +22,8 @@ pub enum Opening<'a> {
     SolveInput,
     /// The points come from this file.
     SolveFile { file: &'a str },
+    /// The points come from this file, and the certificate from the file of its name and `.cert`.
+    CheckFile { file: &'a str },
 }
 
 /// The command that the words ask for; `None` where they are of no form.
@@ -30,6 +33,9 @@ pub(crate) fn asked(words: &Words) -> Option<Command<'_>>
 {
     if let Some(command) = asked_solve(words) {
         return Some(Command::Solve(command));
+    }
+    if let Some(command) = asked_check(words) {
+        return Some(Command::Check(command));
     }
     let command = asked_sample(words)?;
     Some(Command::Sample(command))
@@ -41,12 +47,15 @@ pub(crate) fn asked(words: &Words) -> Option<Command<'_>>
 pub fn plan(words: &Words) -> Opening<'_>
     ensures { Opens words.now result }
 {
-    let Some(Command::Solve(command)) = asked(words) else {
-        return Opening::Nothing;
-    };
-    if command.file == "-" {
-        Opening::SolveInput
-    } else {
-        Opening::SolveFile { file: command.file }
+    match asked(words) {
+        Some(Command::Solve(command)) => {
+            if command.file == "-" {
+                Opening::SolveInput
+            } else {
+                Opening::SolveFile { file: command.file }
+            }
+        }
+        Some(Command::Check(command)) => Opening::CheckFile { file: command.file },
+        _ => Opening::Nothing,
     }
 }

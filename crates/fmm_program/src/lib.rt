@@ -1,7 +1,9 @@
 //! The program: its words, and the top call that does all that it does.
 #![tactic(auto)]
 
+mod checks;
 mod commands;
+mod inputs;
 mod orders;
 mod refusals;
 mod samples;

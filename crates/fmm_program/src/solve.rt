@@ -15,6 +15,7 @@ ghost use Rattle.fmm_program.specs.Answers.{IsRead, SolveAnswers, most_input};
 ghost use Rattle.fmm_program.specs.Endings.{IsEnding, TellBothFaults, flow};
 ghost use Rattle.fmm_program.specs.Runs.{SolveRun};
 
+use crate::inputs::MOST_INPUT;
 use crate::orders::at_order;
 use crate::refusals::{refuse, refuse_depth, refuse_text};
 use crate::status::Status;
@@ -29,9 +30,6 @@ use particle_text::{ParseFault, parse};
 use points::Points;
 use row_phases::Gate;
 use std::thread::Threads;
-
-/// The greatest number of bytes of an input.
-const MOST_INPUT: u64 = 16_777_216;
 
 /// Writes the certificate of the points and their field, and flushes it.
 fn write_whole<const P: usize, C: Sink>(

@@ -1,7 +1,7 @@
-//! The words of the command line, and the solve that they ask for.
+//! The words of the command line, and the solve or the check that they ask for.
 ghost use Rattle.std.specs.Prelude.{◌≡◌, ◌≢◌, ℕ, ◌+◌, ◌<◌, ◌≤◌, List, [], ◌∷◌, ◌++◌, codes, decimal, length, slice_get, take, IfSome, IfNone, OnOk, OnErr, Some, None};
 ghost use Rattle.exact_math.specs.Orders.{IsOrder, IsCapacity};
-ghost use Rattle.fmm_program.specs.Forms.{IsSolve, IsNoSolve};
+ghost use Rattle.fmm_program.specs.Forms.{IsCheck, IsNoCheck, IsSolve, IsNoSolve};
 ghost use Rattle.fmm_program.specs.Workers.{AreWithWorkers, HasWorkers};
 
 use io_ports::Memory;
@@ -141,5 +141,24 @@ pub(crate) fn asked_solve(words: &Words) -> Option<SolveCommand<'_>>
         cap,
         file,
         workers,
+    })
+}
+
+/// The command `check FILE`.
+#[derive(Clone, Copy, Debug, PartialEq, Eq)]
+pub(crate) struct CheckCommand<'a> {
+    pub(crate) file: &'a str,
+}
+
+/// The check that the words ask for; `None` where they ask for none.
+pub(crate) fn asked_check(words: &Words) -> Option<CheckCommand<'_>>
+    ensures some { IfSome result (λ c. IsCheck words.now c.file.now) }
+    ensures none { IfNone result (IsNoCheck words.now) }
+{
+    if words.count() != 2 || words.word(0) != "check" || words.word(1) == "-" {
+        return None;
+    }
+    Some(CheckCommand {
+        file: words.word(1),
     })
 }

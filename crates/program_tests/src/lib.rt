@@ -4,6 +4,8 @@
 #[cfg(test)]
 mod certificates;
 #[cfg(test)]
+mod checks;
+#[cfg(test)]
 mod gates;
 #[cfg(test)]
 mod lines;

@@ -20,7 +20,7 @@ pub fn words_of(alloc: Global, words: &[&str]) -> Result<Words, Fail> {
 }
 
 /// The ports of a run: the most that one read gives and one write takes, and the numbers of those that fail, of reads, of
-/// writes of the output, and of writes of the certificate.
+/// writes of the output, and of writes of the certificate, in a check of its reads.
 #[derive(Clone, Copy)]
 pub struct Ports<'a> {
     pub step: usize,
@@ -129,6 +129,52 @@ fn is_certified(
     Ok(())
 }
 
+/// What `check` writes of points and a certificate. It ends with this status, and writes no certificate.
+pub fn checked(
+    rt: &(impl Abort + Threads + Sync),
+    alloc: Global,
+    points: &[u8],
+    cert: &[u8],
+    ports: Ports<'_>,
+    status: Status,
+) -> Result<MemSink, Fail>
+    requires { 0 < ports.step }
+{
+    let words = words_of(alloc, &["check", "points"])?;
+    let mut points = source_of(alloc, points, ports.step, ports.failing_reads)?;
+    let mut cert_in = source_of(alloc, cert, ports.step, ports.failing_certs)?;
+    let mut out = sink_of(alloc, 4096, ports.step, ports.failing_writes)?;
+    let mut cert_out = sink_of(alloc, 4096, ports.step, &[])?;
+    let answer = run(
+        rt,
+        alloc,
+        &words,
+        &mut points,
+        &mut cert_in,
+        &mut out,
+        &mut cert_out,
+        &OpenGate,
+    );
+    assert_eq!(rt; answer, status);
+    assert_eq!(rt; cert_out.held(), b"".as_slice());
+    Ok(out)
+}
+
+/// The certificate that a solve wrote of a text that isn't long is accepted.
+fn is_accepted(
+    rt: &(impl Abort + Threads + Sync),
+    alloc: Global,
+    words: &[&str],
+    text: &[u8],
+    written: &Outputs,
+) -> Result<(), Fail> {
+    if words.len() != 4 || words[0] != "solve" || MOST_TRIED < text.len() {
+        return Ok(());
+    }
+    checked(rt, alloc, text, written.cert.held(), SURE, Status::Done)?;
+    Ok(())
+}
+
 /// The numbers of workers that each solve is tried with.
 const WORKERS: [&str; 5] = ["1", "2", "3", "8", "64"];
 
@@ -158,8 +204,8 @@ fn same_by_workers(
 }
 
 /// What a run of the words on a text writes. It ends with this status. A solve that succeeds has a certificate that
-/// agrees with its report, and is tried by several numbers of workers too, where its text isn't long; a run that ends
-/// otherwise has none, but for a solve with a write fault.
+/// agrees with its report, and, where its text isn't long, is tried by several numbers of workers too and its certificate
+/// accepted; a run that ends otherwise has none, but for a solve with a write fault.
 pub fn output_of(
     rt: &(impl Abort + Threads + Sync),
     alloc: Global,
@@ -174,6 +220,7 @@ pub fn output_of(
     is_certified(rt, alloc, words, status, &outputs)?;
     if status == Status::Done {
         same_by_workers(rt, alloc, words, text, ports, &outputs)?;
+        is_accepted(rt, alloc, words, text, &outputs)?;
     }
     Ok(outputs)
 }

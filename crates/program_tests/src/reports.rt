@@ -1,6 +1,6 @@
 //! Reports and certificates that another program gave of the texts, at each order and in both modes.
 use crate::ports::{SURE, output_of};
-use crate::texts::{DIPOLES, MIXED, VORTICES};
+use crate::texts::{DIPOLES, MIXED, POLES, VORTICES};
 use fmm_program::Status;
 use std::alloc::Global;
 use std::process::Abort;
@@ -258,4 +258,57 @@ const VORTICES_SOLVE: Solve<'static> = Solve {
 #[test]
 fn vortices(rt: HostRuntime) -> Result<(), Fail> {
     solves(&rt, rt.alloc(), VORTICES, &VORTICES_SOLVE)
+}
+
+const POLES_SOLVE: Solve<'static> = Solve {
+    order: "4",
+    cap: "8",
+    report: Known {
+        lines: &[
+            (0, "fmm report 1 field order 4 cap 8"),
+            (
+                1,
+                "target -524288 -485563 re -16.297391905128 5.681952957717 im -7.828066657380 14.151278205466",
+            ),
+            (
+                5,
+                "target 444235 -42334 re 0.077640309927 41.742816918358 im 318869.417204967851 318911.082381576283",
+            ),
+            (
+                9,
+                "target 492512 114750 re 643999.905254520910 1223180.451909347169 im 1015657.611855139323 1594838.158509965584",
+            ),
+            (11, "work translations 138 pairs 23"),
+            (12, "end"),
+        ],
+        size: (13, 1041),
+    },
+    cert: Known {
+        lines: &[
+            (0, "fmmcert 2 4 60 10 93 30"),
+            (93, "node 86 20 1016798 639041"),
+            (153, "at 14"),
+            (159, "m -"),
+            (247, "v 5 7"),
+            (264, "w 14 20"),
+            (268, "x 20 14"),
+            (276, "w 69 92"),
+            (279, "l -"),
+            (
+                374,
+                "t 85366423549 45896712577859 350600631959018663 350646443305172973 77640309927 41742816918358 318869417204967851 318911082381576283",
+            ),
+            (
+                378,
+                "t 708085384113988062 1344901129742629592 1116727354073929033 1753543099702570565 643999905254520910 1223180451909347169 1015657611855139323 1594838158509965584",
+            ),
+            (380, "end"),
+        ],
+        size: (381, 34149),
+    },
+};
+
+#[test]
+fn poles(rt: HostRuntime) -> Result<(), Fail> {
+    solves(&rt, rt.alloc(), POLES, &POLES_SOLVE)
 }
