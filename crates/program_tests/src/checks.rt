@@ -165,16 +165,17 @@ fn changed<'a>(
     Ok(text)
 }
 
-/// `check` says of each change what it should.
+/// `check` says of these points and each change what it should.
 fn says(
     rt: &(impl Abort + Threads + Sync),
     alloc: Global,
+    points: &[u8],
     lines: &[&str],
     table: &[Change],
 ) -> Result<(), Fail> {
     for &(changes, status, written) in table {
         let text = changed(alloc, lines, changes)?;
-        let out = checked(rt, alloc, POINTS, text.as_slice(), SURE, status)?;
+        let out = checked(rt, alloc, points, text.as_slice(), SURE, status)?;
         assert_eq!(rt; out.held(), written);
     }
     Ok(())
@@ -182,12 +183,172 @@ fn says(
 
 #[test]
 fn changed_certificates(rt: HostRuntime) -> Result<(), Fail> {
-    says(&rt, rt.alloc(), &WORKED, &CHANGES)
+    says(&rt, rt.alloc(), POINTS, &WORKED, &CHANGES)
 }
 
 #[test]
 fn forged_certificates(rt: HostRuntime) -> Result<(), Fail> {
-    says(&rt, rt.alloc(), &FORGED, &FORGED_CHANGES)
+    says(&rt, rt.alloc(), POINTS, &FORGED, &FORGED_CHANGES)
+}
+
+/// Two sources of no strength and a target, each in a quarter of the grid of its own.
+const THREE_LEAVES: &[u8] = b"fmm 1 field\ncharge -1 -1 0\ncharge 0 -1 0\ntarget 0 0\n";
+
+/// A certificate of them: all rows and the box are zero, and each source is accounted for by an entry of its own.
+const TILED: [&str; 20] = [
+    "fmmcert 1 4 3 1 4 2\n",
+    "node 0 0 0 0\n",
+    "node 0 1 0 0\n",
+    "node 0 1 1 0\n",
+    "node 0 1 1 1\n",
+    "at 1\n",
+    "at 2\n",
+    "at 3\n",
+    "m -\n",
+    "m -\n",
+    "m -\n",
+    "m -\n",
+    "u 3 1\n",
+    "u 3 2\n",
+    "l -\n",
+    "l -\n",
+    "l -\n",
+    "l -\n",
+    "t 0 0 0 0 0 0 0 0\n",
+    "end\n",
+];
+
+/// One source twice and the other never, as many entries as before; the other way round; and the entries in another order.
+const TILED_CHANGES: [Change; 4] = [
+    (&[], Status::Done, b"accepted targets 1\n"),
+    (
+        &[(14, "u 3 1\n")],
+        Status::Rejected,
+        b"rejected c6 line 18\n",
+    ),
+    (
+        &[(13, "u 3 2\n")],
+        Status::Rejected,
+        b"rejected c6 line 18\n",
+    ),
+    (
+        &[(13, "u 3 2\n"), (14, "u 3 1\n")],
+        Status::Done,
+        b"accepted targets 1\n",
+    ),
+];
+
+#[test]
+fn tilings(rt: HostRuntime) -> Result<(), Fail> {
+    says(&rt, rt.alloc(), THREE_LEAVES, &TILED, &TILED_CHANGES)
+}
+
+/// A source of no strength at the centre of a cell of side 16384, and a target three halves of that side from it.
+const FAR: &[u8] = b"fmm 1 field\ncharge -8192 -24576 0\ntarget 16384 -24576\n";
+
+/// The same, with the target one place nearer.
+const TOO_NEAR: &[u8] = b"fmm 1 field\ncharge -8192 -24576 0\ntarget 16383 -24576\n";
+
+/// A certificate of both, but for the distance.
+const DISTANT: [&str; 18] = [
+    "fmmcert 1 4 2 1 4 1\n",
+    "node 0 0 0 0\n",
+    "node 0 1 0 0\n",
+    "node 0 1 1 0\n",
+    "node 1 2 1 0\n",
+    "at 3\n",
+    "at 2\n",
+    "m -\n",
+    "m -\n",
+    "m -\n",
+    "m -\n",
+    "w 2 3\n",
+    "l -\n",
+    "l -\n",
+    "l -\n",
+    "l -\n",
+    "t 0 0 0 0 0 0 0 0\n",
+    "end\n",
+];
+
+const FAR_CHANGES: [Change; 1] = [(&[], Status::Done, b"accepted targets 1\n")];
+
+const TOO_NEAR_CHANGES: [Change; 2] = [
+    (&[], Status::Rejected, b"rejected c5 line 12\n"),
+    (&[(12, "u 2 3\n")], Status::Done, b"accepted targets 1\n"),
+];
+
+#[test]
+fn distances(rt: HostRuntime) -> Result<(), Fail> {
+    says(&rt, rt.alloc(), FAR, &DISTANT, &FAR_CHANGES)?;
+    says(&rt, rt.alloc(), TOO_NEAR, &DISTANT, &TOO_NEAR_CHANGES)
+}
+
+/// Two charges that cancel at one place, two sides from the centre of a cell of side 16384, and a target at that centre.
+const CANCELLING: &[u8] =
+    b"fmm 1 field\ncharge 24576 -24576 1\ncharge 24576 -24576 -1\ntarget -8192 -24576\n";
+
+/// A certificate of them: all rows are zero, and what the entry can lose of a weight of 2 at order 4 is 6674144 units.
+const LOSING: [&str; 19] = [
+    "fmmcert 1 4 3 1 4 1\n",
+    "node 0 0 0 0\n",
+    "node 0 1 0 0\n",
+    "node 0 1 1 0\n",
+    "node 1 2 1 0\n",
+    "at 2\n",
+    "at 2\n",
+    "at 3\n",
+    "m -\n",
+    "m -\n",
+    "m -\n",
+    "m -\n",
+    "x 3 2\n",
+    "l -\n",
+    "l -\n",
+    "l -\n",
+    "l 6674144 0 0 0 0 0 0 0 0 0 0 0 0 0 0 0 0\n",
+    "t -6674144 6674144 -6674144 6674144 -6070099 6070099 -6070099 6070099\n",
+    "end\n",
+];
+
+/// The radius one too small, or none; and the box or its counts one too narrow for it.
+const LOSING_CHANGES: [Change; 5] = [
+    (&[], Status::Done, b"accepted targets 1\n"),
+    (
+        &[(17, "l 6674143 0 0 0 0 0 0 0 0 0 0 0 0 0 0 0 0\n")],
+        Status::Rejected,
+        b"rejected c4 line 17\n",
+    ),
+    (&[(17, "l -\n")], Status::Rejected, b"rejected c4 line 17\n"),
+    (
+        &[(
+            18,
+            "t -6674144 6674143 -6674144 6674144 -6070099 6070099 -6070099 6070099\n",
+        )],
+        Status::Rejected,
+        b"rejected c7 line 18\n",
+    ),
+    (
+        &[(
+            18,
+            "t -6674144 6674144 -6674144 6674144 -6070099 6070098 -6070099 6070099\n",
+        )],
+        Status::Rejected,
+        b"rejected c7 line 18\n",
+    ),
+];
+
+#[test]
+fn radii(rt: HostRuntime) -> Result<(), Fail> {
+    says(&rt, rt.alloc(), CANCELLING, &LOSING, &LOSING_CHANGES)
+}
+
+/// The certificate of no points, without a node.
+#[test]
+fn no_points(rt: HostRuntime) -> Result<(), Fail> {
+    let lines = ["fmmcert 1 4 0 0 0 0\n", "end\n"];
+    let table: [Change; 1] = [(&[], Status::Done, b"accepted targets 0\n")];
+    says(&rt, rt.alloc(), b"fmm 1 field\n", &lines, &table)
 }
 
 /// Points that are refused, before the certificate is looked at, or are of another version than the certificate.
@@ -221,6 +382,20 @@ fn other_points(rt: HostRuntime) -> Result<(), Fail> {
         let out = checked(&rt, rt.alloc(), points, cert.as_slice(), SURE, status)?;
         assert_eq!(&rt; out.held(), written);
     }
+    Ok(())
+}
+
+/// Points that are refused are so also where the certificate can't be read, for it isn't read then.
+#[test]
+fn refused_points(rt: HostRuntime) -> Result<(), Fail> {
+    let cert = changed(rt.alloc(), &WORKED, &[])?;
+    let (points, status, written) = OTHERS[0];
+    let ports = Ports {
+        failing_certs: &[1],
+        ..SURE
+    };
+    let out = checked(&rt, rt.alloc(), points, cert.as_slice(), ports, status)?;
+    assert_eq!(&rt; out.held(), written);
     Ok(())
 }
 

@@ -273,14 +273,16 @@ const USAGE: &[u8] =
     b"usage: fmm solve ORDER CAP FILE [WORKERS] | check FILE | session ORDER CAP | sample SEED N ORDER CAP [WORKERS]\n";
 
 /// Words that are no command.
-const WRONG: [&[&str]; 16] = [
+const WRONG: [&[&str]; 18] = [
     &["solve", "5", "8", "-"],
     &["solve", "8", "7", "-"],
     &["solve", "8", "8", "-", "65"],
     &["solve", "8", "8", "-", "0"],
     &["solve", "8", "8", "-", "01"],
     &["solve", "8", "8", "-", "2", "2"],
+    &["check"],
     &["check", "-"],
+    &["check", "a", "b"],
     &["solve", "08", "8", "-"],
     &["solve", "8", "8"],
     &["sample", "0", "0", "8", "32"],
