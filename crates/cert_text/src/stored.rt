@@ -1,5 +1,5 @@
 //! A certificate as it is kept while its lines come, one by one.
-ghost use Rattle.std.specs.Prelude.{◌≡◌, ℕ, List, ℤ, [], ◌∷◌, length, pos, IfSome, IfNone, IsTrue, ◌↔◌};
+ghost use Rattle.std.specs.Prelude.{◌≡◌, ◌<◌, ℕ, List, ℤ, [], ◌∷◌, length, pos, IfSome, IfNone, IsTrue, ◌↔◌};
 ghost use Rattle.cert_text.specs.Inside.{head_of, node_numbers};
 ghost use Rattle.cert_text.specs.Lines.{Head, Line, letter_word};
 ghost use Rattle.cert_text.specs.Sections.{IsHead, IsFormOf, AreInRange};
@@ -158,9 +158,22 @@ fn is_local(numbers: &[i128]) -> bool
     }
 }
 
+/// The least length of a line of the section, with its line feed: `node 0 0 0 0`, `at 0`, `m -`, `u 0 0`, `l -`, `t 0 0 0 0 0 0 0 0` and `end`.
+fn least_length(section: Section) -> usize
+    ensures { 0 < result }
+{
+    match section {
+        Section::Node => 13,
+        Section::At => 5,
+        Section::Multipole | Section::Local | Section::End => 4,
+        Section::Entry => 6,
+        Section::Target => 18,
+    }
+}
+
 impl Stored {
-    /// Takes the memory for the lines of a section, as many of them as a text of so many bytes can hold: a line has at least four bytes, and
-    /// each number two.
+    /// Takes the memory for the lines of a section, as many of them as a text of so many bytes can hold: by the least length of such a line,
+    /// and by the least of a box, whose four numbers have two bytes each.
     pub(crate) fn make_room(
         &mut self,
         section: Section,
@@ -169,7 +182,7 @@ impl Stored {
     ) -> Result<(), AllocError>
         ensures { self.new ≡ self.old }
     {
-        let lines = lines.min(bytes as u64 / 4) as usize;
+        let lines = lines.min((bytes / least_length(section)) as u64) as usize;
         let order = self.header.order as usize;
         let boxes = lines.saturating_mul(order).min(bytes / 8);
         match section {
@@ -178,7 +191,9 @@ impl Stored {
             Section::Multipole => self.multipoles.make_room(lines, boxes),
             Section::Entry => self.entries.reserve(lines),
             Section::Local => self.locals.make_room(lines, boxes),
-            Section::Target => self.targets.make_room(lines, lines.saturating_mul(2)),
+            Section::Target => self
+                .targets
+                .make_room(lines, lines.saturating_mul(2).min(bytes / 8)),
             Section::End => Ok(()),
         }
     }
